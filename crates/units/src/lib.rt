@@ -1,0 +1,13 @@
+//! The values that every other crate is made of: texts, lists, and the small grammars of numbers and
+//! quoted texts.
+//!
+//! Contract for the layer above: a `Text` is seen by every clause as the list of its bytes, a
+//! `Sequence` as the list of its items, and each reading is Some exactly where its grammar in `specs/`
+//! has one.
+#![tactic(auto)]
+
+mod sequence;
+mod text;
+
+pub use sequence::Sequence;
+pub use text::Text;
