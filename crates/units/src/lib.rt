@@ -6,8 +6,10 @@
 //! has one.
 #![tactic(auto)]
 
+mod copied;
 mod sequence;
 mod text;
 
+pub use copied::Copied;
 pub use sequence::Sequence;
 pub use text::Text;
