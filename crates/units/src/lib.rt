@@ -12,4 +12,4 @@ mod text;
 
 pub use copied::Copied;
 pub use sequence::Sequence;
-pub use text::Text;
+pub use text::{Text, same_text};
