@@ -9,6 +9,7 @@
 mod bytes;
 mod call;
 mod core;
+mod laws;
 
 mod state;
 mod object;
@@ -18,6 +19,7 @@ pub use bytes::{entry_bytes, object_size};
 pub use call::{Call, Entry, Reply, RequestView};
 pub use core::{CacheCore, StepError, Told};
 
+pub use laws::closing_fits;
 pub use object::{Field, Fields, Object, ObjectView, Timing, is_fresh_at, is_in_time, same_key};
 pub use setting::{Boot, Params};
 pub use state::{OpenFetch, OpenRound};
