@@ -6,8 +6,12 @@
 //! has one.
 #![tactic(auto)]
 
+mod folding;
+mod numbers;
 mod sequence;
 mod text;
 
+pub use folding::fold_eq;
+pub use numbers::{one_number, push_number, read_number, value_of_digits, write_number};
 pub use sequence::Sequence;
 pub use text::Text;
