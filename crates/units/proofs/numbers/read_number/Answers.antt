@@ -1,6 +1,6 @@
-use Rattle.std.proofs.Common.{arith, ◌<◌, ◌≡◌, length, get_or}
+use Rattle.std.proofs.Common.{arith, ◌<◌, length}
 use Rattle.std.proofs.lemmas.Bool.Decides.{nat_tests}
-use Rattle.units.proofs.Numerals.{spelled, canonical, read_cases}
+use Rattle.units.proofs.Numerals.{spelled, read_cases}
 use Rattle.units.proofs.numbers.read_number.Goals as goal
 use Rattle.units.proofs.numbers.read_number.Goals.{else-bytes-gt1-via-then-bytes-gt1+else-bytes-eq48, else-bytes-gt1-via-else-bytes-gt1}
 
