@@ -41,8 +41,8 @@ pub length-filter_not : {X : Type 0} (p q : X → Bool) → ((x : X) → p x ≡
 length-filter_not p q other [] any = absurd (false≢true any)
 length-filter_not p q other (x ∷ xs) any =
     elim (cases_Bool (p x)) [
-      inl passes ↦ omega (arith, dropped (q x) x (filter q xs) (other x passes), length-filter-le q xs)
-    | inr fails ↦ omega (arith, kept_or_not (q x) x (filter q xs), length-filter_not p q other xs (rest_passes (p x) (list_any p xs) fails any))
+      | inl passes ↦ omega (arith, dropped (q x) x (filter q xs) (other x passes), length-filter-le q xs)
+      | inr fails ↦ omega (arith, kept_or_not (q x) x (filter q xs), length-filter_not p q other xs (rest_passes (p x) (list_any p xs) fails any))
     ]
 
 not_of : (b : Bool) → b ≡ true → not b ≡ false

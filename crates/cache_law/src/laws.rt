@@ -13,5 +13,4 @@ pub fn closing_fits()
     ensures { (params : Limits) (boot : Opening) (entries : List HistoryEntry) (caller moment : ℕ) →
         Legal params boot entries → has_round (reached entries).rounds caller ≡ true →
         FitsBehind params boot entries caller moment End }
-{
-}
+{}

@@ -1,0 +1,4 @@
+pub mod Policy
+pub mod Messages
+pub mod FixedPolicy
+pub mod Visit

@@ -1,0 +1,21 @@
+// What a session tells the schedule.
+use crate::Request;
+use units::Text;
+
+/// One line of a session, as the schedule plays it.
+#[derive(Drop)]
+pub enum Event {
+    /// The moment from here on, in milliseconds since 1970.
+    Moment(u64),
+    /// A client sends a request.
+    Request(Request),
+    /// The exchange of this fetch gets a reply with this body.
+    Reply { fetch: u64, body: Text },
+}
+
+/// An event, and the number of its line.
+#[derive(Drop)]
+pub struct NumberedEvent {
+    pub number: u32,
+    pub event: Event,
+}
