@@ -2,3 +2,5 @@ pub mod Policy
 pub mod Messages
 pub mod FixedPolicy
 pub mod Visit
+pub mod Scene
+pub mod Transcript
