@@ -7,6 +7,7 @@
 #![tactic(auto)]
 
 mod copied;
+mod durations;
 mod folding;
 mod numbers;
 mod quotes;
@@ -14,6 +15,7 @@ mod sequence;
 mod text;
 
 pub use copied::Copied;
+pub use durations::{one_duration, read_millis};
 pub use folding::fold_eq;
 pub use numbers::{one_number, push_number, read_number, value_of_digits, write_number};
 pub use quotes::{one_quoted, quote, quote_reads_back, quoted};
