@@ -1,0 +1,4 @@
+pub mod Runs
+pub mod Asking
+pub mod Sending
+pub mod Rounds

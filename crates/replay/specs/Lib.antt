@@ -4,3 +4,4 @@ pub mod FixedPolicy
 pub mod Visit
 pub mod Scene
 pub mod Transcript
+pub mod Went

@@ -1,10 +1,10 @@
 -- Words on what a round wants.
-use Rattle.std.specs.Prelude.{ℕ}
+use Rattle.std.specs.Prelude.{ℕ, Bool, true, false}
 use Rattle.replay.specs.declared.policy.Want.{Want}
 use Rattle.replay.specs.declared.policy.Want.TheVariants.{Ask, Exchange, Respond, Done}
 
-abbrev pub IsResponse : Want → Type 0
-IsResponse (Respond text) = Unit {0}
-IsResponse (Ask call) = ⊥
-IsResponse (Exchange number backend request) = ⊥
-IsResponse Done = ⊥
+abbrev pub is_response : Want → Bool
+is_response (Respond text) = true
+is_response (Ask call) = false
+is_response (Exchange number backend request) = false
+is_response Done = false

@@ -1,7 +1,7 @@
 // The policy of plain GET requests.
 ghost use Rattle.std.specs.Prelude.{◌≡◌, ◌++◌, ◌∷◌, [], List, IfOk, OnOk, codes, pos, min, ℤ};
 ghost use Rattle.std.specs.Fmt.{decimal};
-ghost use Rattle.replay.specs.Policy.{IsResponse};
+ghost use Rattle.replay.specs.Policy.{is_response};
 ghost use Rattle.replay.specs.Messages.{delivered, age_of, field_of};
 ghost use Rattle.replay.specs.FixedPolicy.{Wants, address_of, backend_request, fetched, key_of, last_moment, request_fields, view_of, number_in, vcl_in, token_in, arrival_in, wanted, fetch_response};
 ghost use Rattle.replay.specs.declared.policy.Request.{Request as Asked};
@@ -94,11 +94,7 @@ fn backend_fields(alloc: Global, request: &Request, number: u64) -> Result<Field
 }
 
 #[tactic(auto, unfolding(crate::specs::FixedPolicy::backend_request))]
-fn write_backend_request(
-    alloc: Global,
-    request: &Request,
-    number: u64,
-) -> Result<Text, AllocError>
+fn write_backend_request(alloc: Global, request: &Request, number: u64) -> Result<Text, AllocError>
     ensures { IfOk result (λ text. text ≡ backend_request request.now number) }
 {
     let line = write_request_line(alloc, request.url.bytes())?;
@@ -158,12 +154,7 @@ fn deliver_hit(
 {
     let numbers = write_numbers(alloc, number, view.number)?;
     let age = age_at(&view.object, moment);
-    Ok(Want::Respond(deliver(
-        alloc,
-        &view.object,
-        numbers.bytes(),
-        age,
-    )?))
+    Ok(Want::Respond(deliver(alloc, &view.object, numbers.bytes(), age)?))
 }
 
 fn deliver_fetched(
@@ -212,14 +203,15 @@ impl Visit {
                 backend: name,
                 request: write_backend_request(alloc, &self.request, self.token)?,
             }),
-            Reply::Stored(_) | Reply::NotOpen | Reply::NotInTime | Reply::NoRoom | Reply::Refused => {
-                match &self.arrival {
-                    Some(arrival) => {
-                        deliver_fetched(alloc, &self.request, self.number, arrival, moment)
+            Reply::Stored(_) | Reply::NotOpen | Reply::NotInTime | Reply::NoRoom | Reply::Refused =>
+                {
+                    match &self.arrival {
+                        Some(arrival) => {
+                            deliver_fetched(alloc, &self.request, self.number, arrival, moment)
+                        }
+                        None => Ok(Want::Done),
                     }
-                    None => Ok(Want::Done),
                 }
-            }
             Reply::Ended | Reply::NoRound | Reply::Picked(None) => Ok(Want::Done),
         }
     }

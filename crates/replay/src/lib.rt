@@ -7,13 +7,11 @@
 
 mod event;
 mod fixed;
-
-
+mod lines;
 mod messages;
 mod policy;
-
+mod schedule;
 
 pub use event::{Event, NumberedEvent};
-
 pub use fixed::Visit;
 pub use policy::{Arrival, Given, Policy, Request, Want};

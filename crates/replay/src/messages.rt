@@ -108,11 +108,6 @@ pub(crate) fn deliver(
 {
     let start = write_status_line(alloc, object.status, object.reason.bytes())?;
     let fields = delivery_fields(alloc, object, numbers, age)?;
-    let text = write_message(
-        alloc,
-        start.bytes(),
-        fields.as_slice(),
-        object.body.bytes(),
-    )?;
+    let text = write_message(alloc, start.bytes(), fields.as_slice(), object.body.bytes())?;
     Ok(text)
 }

@@ -1,9 +1,9 @@
 // What a round wants next, after what it was given.
-ghost use Rattle.std.specs.Prelude.{◌≡◌, List, [], ◌∷◌, IfOk, OnOk};
+ghost use Rattle.std.specs.Prelude.{◌≡◌, List, [], ◌∷◌, IfOk, OnOk, false};
 ghost use Rattle.replay.specs.declared.policy.Request.{Request as Asked};
 ghost use Rattle.replay.specs.declared.policy.Given.{Given as Gift};
 ghost use Rattle.replay.specs.declared.policy.Want.{Want as Wish};
-ghost use Rattle.replay.specs.Policy.{IsResponse};
+ghost use Rattle.replay.specs.Policy.{is_response};
 
 use cache_law::{Call, Reply};
 use std::alloc::{AllocError, Global};
@@ -69,5 +69,5 @@ pub trait Policy: Drop {
     fn resume(&mut self, alloc: Global, given: Given) -> Result<Want, AllocError>
         ensures stands { OnOk result ((request : Asked) (givens : List Gift) → stands self.old request givens → stands self.new request (given ∷ givens)) }
         ensures wanted { IfOk result (λ want. (request : Asked) (givens : List Gift) → stands self.old request givens → wants request (given ∷ givens) want) }
-        ensures calm { given ≡ Given.Sent → IfOk result (λ want. IsResponse want → ⊥) };
+        ensures calm { given ≡ Given.Sent → IfOk result (λ want. is_response want ≡ false) };
 }

@@ -14,9 +14,9 @@ pub returns : goal.returns
 returns c =
     let len : c.in_ok-len.len ≡ decimal (length c.args.object.now.body) = c.in_ok-len.ensures.1 ∙ ap (λ (xs : List ℕ). decimal (length xs)) c.bytes.ensures in
     three_more c.args.object.now.fields c.push.new.self c.push-2.new.self c.push-3.new.self _ _ _ _ _ _
-      (c.in_ok-push.ensures.ok ∙ ap (λ (xs : List Field). xs ++ c.in_ok-make_field.field-0 ∷ []) c.in_ok-fields.ensures)
-      c.in_ok-push-2.ensures.ok
-      c.in_ok-push-3.ensures.ok
-      c.in_ok-make_field.ensures
-      (c.in_ok-make_field-2.ensures ∙ ap (λ (value : List ℕ). field_of (codes "Age") value) (c.bytes-2.ensures ∙ c.in_ok-age.ensures.1))
-      (c.in_ok-make_field-3.ensures ∙ ap (λ (value : List ℕ). field_of (codes "Content-Length") value) (c.bytes-3.ensures ∙ len))
+    (c.in_ok-push.ensures.ok ∙ ap (λ (xs : List Field). xs ++ c.in_ok-make_field.field-0 ∷ []) c.in_ok-fields.ensures)
+    c.in_ok-push-2.ensures.ok
+    c.in_ok-push-3.ensures.ok
+    c.in_ok-make_field.ensures
+    (c.in_ok-make_field-2.ensures ∙ ap (λ (value : List ℕ). field_of (codes "Age") value) (c.bytes-2.ensures ∙ c.in_ok-age.ensures.1))
+    (c.in_ok-make_field-3.ensures ∙ ap (λ (value : List ℕ). field_of (codes "Content-Length") value) (c.bytes-3.ensures ∙ len))
