@@ -56,9 +56,8 @@ module _ (wants : Request → List Given → Want → Type 0) where
       record { scene = new; entries = entries_of move; text = text_of move; run = run-one old new move next; history = joined; fact = h }
 
   -- one part, and another from where it led
-  pub went-then : (old : Scene) (e1 e2 : List Event) (before mid now : List Entry) (H H' : Scene → List ℕ → Type 0) → Went wants old e1 before mid H → ((scene : Scene) (text : List ℕ) → H scene text → Went wants scene e2 mid now (λ next more. H' next (text ++ more))) → Went wants old (e1 ++ e2) before now H'
-  went-then old e1 e2 before mid now H H' w f =
-      let n = f w.scene w.text w.fact in
+  pub went-at : (old : Scene) (e1 e2 : List Event) (before mid now : List Entry) (H H' : Scene → List ℕ → Type 0) (w : Went wants old e1 before mid H) → Went wants w.scene e2 mid now (λ next more. H' next (w.text ++ more)) → Went wants old (e1 ++ e2) before now H'
+  went-at old e1 e2 before mid now H H' w n =
       record {
         scene = n.scene;
         entries = w.entries ++ n.entries;
@@ -67,6 +66,9 @@ module _ (wants : Request → List Given → Want → Type 0) where
         history = n.history ∙ (ap (λ (es : List Entry). es ++ n.entries) w.history ∙ append_assoc before w.entries n.entries);
         fact = n.fact;
       }
+
+  pub went-then : (old : Scene) (e1 e2 : List Event) (before mid now : List Entry) (H H' : Scene → List ℕ → Type 0) → Went wants old e1 before mid H → ((scene : Scene) (text : List ℕ) → H scene text → Went wants scene e2 mid now (λ next more. H' next (text ++ more))) → Went wants old (e1 ++ e2) before now H'
+  went-then old e1 e2 before mid now H H' w f = went-at old e1 e2 before mid now H H' w (f w.scene w.text w.fact)
 
   -- the same way, of which more is known
   pub went-map : (old : Scene) (read : List Event) (before now : List Entry) (H H' : Scene → List ℕ → Type 0) → ((scene : Scene) (text : List ℕ) → H scene text → H' scene text) → Went wants old read before now H → Went wants old read before now H'

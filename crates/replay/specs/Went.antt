@@ -1,5 +1,5 @@
 -- How far a part of a session has come, as the functions that play it tell.
-use Rattle.std.specs.Prelude.{◌≡◌, ℕ, Option, Some, None, List, [], ◌∷◌, ◌++◌, ◌≤◌, ◌-◌, Result, Ok, Err}
+use Rattle.std.specs.Prelude.{◌≡◌, ℕ, Option, Some, None, List, [], ◌∷◌, ◌++◌, ◌≤◌, ◌-◌, map, Result, Ok, Err}
 use Rattle.std.specs.Io.KnownBytes.{Appends}
 use Rattle.cache_law.specs.declared.setting.Params.{Params}
 use Rattle.cache_law.specs.declared.setting.Boot.{Boot}
@@ -12,8 +12,13 @@ use Rattle.replay.specs.declared.event.Event.{Event}
 use Rattle.replay.specs.declared.schedule.Pending.{Pending}
 use Rattle.replay.specs.declared.schedule.Break.{Break}
 use Rattle.replay.specs.declared.schedule.Break.TheVariants.{WriteFault, HistoryFull, NoMemory}
-use Rattle.replay.specs.Scene.{Round, Waiting, Scene, Runs, Run}
-use Rattle.replay.specs.Transcript.{WantsTooMuch, IsCutShort}
+use Rattle.replay.specs.declared.schedule.Stop.{Stop}
+use Rattle.replay.specs.declared.schedule.Stop.TheVariants.{Idle, Broken}
+use Rattle.replay.specs.declared.schedule.Halt.{Halt}
+use Rattle.replay.specs.declared.schedule.Halt.TheVariants as halts
+use Rattle.replay.specs.declared.event.NumberedEvent.{NumberedEvent}
+use Rattle.replay.specs.Scene.{Round, Waiting, Scene, Runs, Run, opening_scene}
+use Rattle.replay.specs.Transcript.{WantsTooMuch, IsCutShort, IsIdle}
 
 -- From a scene on, some moves read these events, led from one history to another and to a scene and a text of
 -- which this holds.
@@ -69,3 +74,30 @@ abbrev pub Breaks : (Request → List Given → Want → Type 0) → Params → 
 Breaks wants params boot entries before now HistoryFull scene text = WantsTooMuch wants params boot entries scene × Appends before now text
 Breaks wants params boot entries before now WriteFault scene text = (front : List ℕ) × IsCutShort wants scene front × Appends before now (text ++ front)
 Breaks wants params boot entries before now NoMemory scene text = Appends before now text
+
+-- What playing one event leads to, or why it isn't played: it can't be here, or it is broken off, before the
+-- line is heard or after it.
+abbrev pub Plays : {P : Type 0} → (Request → List Given → Want → Type 0) → (P → Request → List Given → Type 0) → Params → Boot → List Entry → List Entry → Option (List ℕ) → Option (List ℕ) → ℕ → List (Pending P) → Scene → Event → Result (Unit {0}) Stop → Type 0
+Plays wants stands params boot h0 h1 before now moment pending scene event (Ok u) =
+    Went wants scene (event ∷ []) h0 h1 (λ next text. (next.running ≡ None) × IsStage stands moment pending next × Appends before now text)
+Plays wants stands params boot h0 h1 before now moment pending scene event (Err Idle) =
+    IsIdle scene event × (h1 ≡ h0) × (now ≡ before)
+Plays wants stands params boot h0 h1 before now moment pending scene event (Err (Broken broken)) =
+    (heard : List Event) × (rest : List Event) × (event ∷ [] ≡ heard ++ rest)
+    × Went wants scene heard h0 h1 (λ next text. Breaks wants params boot h1 before now broken next text)
+
+-- the events without their lines' numbers
+abbrev pub events_in : List NumberedEvent → List Event
+events_in numbered = map (λ (one : NumberedEvent). one.event) numbered
+
+-- What playing events from the opening scene on leads to, or where it halts: at an idle event, behind those
+-- before it, or broken off, with some of the events heard.
+abbrev pub PlaysAll : {P : Type 0} → (Request → List Given → Want → Type 0) → (P → Request → List Given → Type 0) → Params → Boot → List Entry → List Entry → Option (List ℕ) → Option (List ℕ) → ℕ → List (Pending P) → List NumberedEvent → Result (Unit {0}) Halt → Type 0
+PlaysAll wants stands params boot h0 h1 before now moment pending events (Ok u) =
+    Went wants opening_scene (events_in events) h0 h1 (λ next text. (next.running ≡ None) × IsStage stands moment pending next × Appends before now text)
+PlaysAll wants stands params boot h0 h1 before now moment pending events (Err (halts.Idle line)) =
+    (played : List NumberedEvent) × (idle : NumberedEvent) × (rest : List NumberedEvent) × (events ≡ played ++ idle ∷ rest) × (idle.number ≡ line)
+    × Went wants opening_scene (events_in played) h0 h1 (λ next text. (next.running ≡ None) × IsIdle next idle.event × Appends before now text)
+PlaysAll wants stands params boot h0 h1 before now moment pending events (Err (halts.Broken broken)) =
+    (heard : List Event) × (rest : List Event) × (events_in events ≡ heard ++ rest)
+    × Went wants opening_scene heard h0 h1 (λ next text. Breaks wants params boot h1 before now broken next text)

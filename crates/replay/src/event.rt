@@ -1,6 +1,7 @@
 // What a session tells the schedule.
 use crate::Request;
-use units::Text;
+use std::alloc::{AllocError, Global};
+use units::{Copied, Text};
 
 /// One line of a session, as the schedule plays it.
 #[derive(Drop)]
@@ -18,4 +19,17 @@ pub enum Event {
 pub struct NumberedEvent {
     pub number: u32,
     pub event: Event,
+}
+
+impl Copied for Event {
+    fn copied(&self, alloc: Global) -> Result<Self, AllocError> {
+        match self {
+            Event::Moment(moment) => Ok(Event::Moment(*moment)),
+            Event::Request(request) => Ok(Event::Request(request.copied(alloc)?)),
+            Event::Reply { fetch, body } => Ok(Event::Reply {
+                fetch: *fetch,
+                body: body.copy()?,
+            }),
+        }
+    }
 }

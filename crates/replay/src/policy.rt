@@ -7,7 +7,7 @@ ghost use Rattle.replay.specs.Policy.{is_response};
 
 use cache_law::{Call, Reply};
 use std::alloc::{AllocError, Global};
-use units::Text;
+use units::{Copied, Text};
 
 /// A request for `url` at `host`, and the number of the client that sends it.
 #[derive(Drop)]
@@ -15,6 +15,16 @@ pub struct Request {
     pub client: u32,
     pub url: Text,
     pub host: Text,
+}
+
+impl Copied for Request {
+    fn copied(&self, alloc: Global) -> Result<Self, AllocError> {
+        Ok(Request {
+            client: self.client,
+            url: self.url.copy()?,
+            host: self.host.copy()?,
+        })
+    }
 }
 
 /// A backend's reply: when it came, and its body.

@@ -1,5 +1,6 @@
 // Rounds in turn, over one cache and one sink.
-ghost use Rattle.std.specs.Prelude.{◌≡◌, ◌++◌, ◌∷◌, ◌+◌, ◌≤◌, [], ℕ, List, IfOk, OnOk, OnErr, IfErr, IsErrOf, MatchResult, false};
+ghost use Rattle.std.specs.Prelude.{◌≡◌, ◌++◌, ◌∷◌, ◌==◌, ◌+◌, ◌≤◌, position, [], ℕ, List, IfOk, OnOk, OnErr, IfErr, IsErrOf, MatchResult, false, None};
+ghost use Rattle.std.specs.List.{list_any};
 ghost use Rattle.std.specs.Io.KnownBytes.{Appends};
 ghost use Rattle.cache_law.specs.Core.{FitsBehind};
 ghost use Rattle.cache_law.specs.declared.call.Entry.{Entry as HistoryEntry};
@@ -7,14 +8,14 @@ ghost use Rattle.wire.specs.Causes.{Rose};
 ghost use Rattle.wire.specs.Content.{AppendsPart};
 ghost use Rattle.replay.specs.Policy.{is_response};
 ghost use Rattle.replay.specs.declared.policy.Want.TheVariants as wants;
-ghost use Rattle.replay.specs.Scene.{Scene, fetch_line, response_line};
-ghost use Rattle.replay.specs.Went.{Went, Leads, IsStage, KeepsCore, IsInStep, Breaks, spare};
+ghost use Rattle.replay.specs.Scene.{Scene, opening_scene, fetch_line, response_line};
+ghost use Rattle.replay.specs.Went.{Went, Leads, IsStage, KeepsCore, IsInStep, Breaks, Plays, PlaysAll, spare};
 
 use crate::lines::{write_fetch_line, write_response_line};
-use crate::{Given, Policy, Request, Want};
+use crate::{Arrival, Event, Given, NumberedEvent, Policy, Request, Want};
 use cache_law::{CacheCore, Call, StepError};
 use std::alloc::{AllocError, Global};
-use units::Text;
+use units::{Copied, Text};
 use wire::{Sink, write_all};
 
 /// A round that waits for the reply to the fetch of this number.
@@ -31,6 +32,14 @@ pub(crate) enum Break {
     WriteFault,
     HistoryFull,
     NoMemory,
+}
+
+/// Why an event isn't played to its end.
+#[derive(Clone, Copy, Debug)]
+pub(crate) enum Stop {
+    /// A request of a client that is under way, or a reply that no round waits for.
+    Idle,
+    Broken(Break),
 }
 
 /// A session under way: its cache, its moment, and the rounds that wait.
@@ -206,4 +215,160 @@ fn run_round<C: CacheCore, P: Policy, K: Sink>(
             Want::Done => return Ok(()),
         }
     }
+}
+
+/// Whether the client has a round that waits.
+fn is_under_way<P>(waiting: &[Pending<P>], client: u32) -> bool
+    ensures { result ≡ list_any (λ kept. kept.client == client) waiting.now }
+{
+    waiting.iter().any(|kept| kept.client == client)
+}
+
+/// The place of the first round that waits for the number.
+fn place_of<P>(waiting: &[Pending<P>], number: u64) -> Option<usize>
+    ensures { result ≡ position (λ kept. kept.number == number) waiting.now }
+{
+    waiting.iter().position(|kept| kept.number == number)
+}
+
+/// Begins a round: its policy, and what it wants first.
+fn begin_round<P: Policy>(alloc: Global, request: Request) -> Result<(P, Want), AllocError>
+    ensures { IfOk result (λ begun. P.stands begun.0 request (Given.Start ∷ []) × P.wants request (Given.Start ∷ []) begun.1) }
+{
+    let mut policy = P::start(alloc, request)?;
+    let want = policy.resume(alloc, Given::Start)?;
+    Ok((policy, want))
+}
+
+/// Hears a request, and leads the round that it begins.
+fn hear_request<C: CacheCore, P: Policy, K: Sink>(
+    alloc: Global,
+    play: &mut Play<C, P>,
+    sink: &mut K,
+    request: Request,
+) -> Result<(), Stop>
+    requires { IsInStep play.old.moment (C.history play.old.core) }
+    ensures plays { (scene : Scene) → IsStage P.stands play.old.moment play.old.waiting.items scene → scene.running ≡ None →
+        Plays P.wants P.stands (C.limits play.new.core) (C.opened play.new.core) (C.history play.old.core) (C.history play.new.core) (K.held sink.old) (K.held sink.new) play.new.moment play.new.waiting.items scene (Event.Request request) result }
+    ensures kept { KeepsCore C.limits C.opened C.history play.old.core play.new.core }
+    ensures in_step { IsInStep play.new.moment (C.history play.new.core) }
+    ensures later { K.faults sink.old ≤ K.faults sink.new }
+    ensures cause { result ≡ Err (Stop.Broken Break.WriteFault) → Rose (K.faults sink.old) (K.faults sink.new) }
+{
+    let client = request.client;
+    if is_under_way(play.waiting.as_slice(), client) {
+        return Err(Stop::Idle);
+    }
+    let (policy, want) = match begin_round::<P>(alloc, request) {
+        Ok(begun) => begun,
+        Err(_) => return Err(Stop::Broken(Break::NoMemory)),
+    };
+    match run_round(alloc, play, sink, client, policy, want) {
+        Ok(()) => Ok(()),
+        Err(broken) => Err(Stop::Broken(broken)),
+    }
+}
+
+/// Hears the reply to a fetch, and leads the round on that waits for it.
+fn hear_reply<C: CacheCore, P: Policy, K: Sink>(
+    alloc: Global,
+    play: &mut Play<C, P>,
+    sink: &mut K,
+    fetch: u64,
+    body: Text,
+) -> Result<(), Stop>
+    requires { IsInStep play.old.moment (C.history play.old.core) }
+    ensures plays { (scene : Scene) → IsStage P.stands play.old.moment play.old.waiting.items scene → scene.running ≡ None →
+        Plays P.wants P.stands (C.limits play.new.core) (C.opened play.new.core) (C.history play.old.core) (C.history play.new.core) (K.held sink.old) (K.held sink.new) play.new.moment play.new.waiting.items scene (Event.Reply fetch body) result }
+    ensures kept { KeepsCore C.limits C.opened C.history play.old.core play.new.core }
+    ensures in_step { IsInStep play.new.moment (C.history play.new.core) }
+    ensures later { K.faults sink.old ≤ K.faults sink.new }
+    ensures cause { result ≡ Err (Stop.Broken Break.WriteFault) → Rose (K.faults sink.old) (K.faults sink.new) }
+{
+    let place = match place_of(play.waiting.as_slice(), fetch) {
+        Some(place) => place,
+        None => return Err(Stop::Idle),
+    };
+    let Pending {
+        number: _,
+        client,
+        policy,
+    } = play.waiting.remove(place);
+    let mut policy = policy;
+    let arrival = Arrival {
+        moment: play.moment,
+        body,
+    };
+    let want = match policy.resume(alloc, Given::Came(arrival)) {
+        Ok(want) => want,
+        Err(_) => return Err(Stop::Broken(Break::NoMemory)),
+    };
+    match run_round(alloc, play, sink, client, policy, want) {
+        Ok(()) => Ok(()),
+        Err(broken) => Err(Stop::Broken(broken)),
+    }
+}
+
+/// Plays one event.
+fn play_event<C: CacheCore, P: Policy, K: Sink>(
+    alloc: Global,
+    play: &mut Play<C, P>,
+    sink: &mut K,
+    event: Event,
+) -> Result<(), Stop>
+    requires { IsInStep play.old.moment (C.history play.old.core) }
+    ensures plays { (scene : Scene) → IsStage P.stands play.old.moment play.old.waiting.items scene → scene.running ≡ None →
+        Plays P.wants P.stands (C.limits play.new.core) (C.opened play.new.core) (C.history play.old.core) (C.history play.new.core) (K.held sink.old) (K.held sink.new) play.new.moment play.new.waiting.items scene event result }
+    ensures kept { KeepsCore C.limits C.opened C.history play.old.core play.new.core }
+    ensures in_step { IsInStep play.new.moment (C.history play.new.core) }
+    ensures later { K.faults sink.old ≤ K.faults sink.new }
+    ensures cause { result ≡ Err (Stop.Broken Break.WriteFault) → Rose (K.faults sink.old) (K.faults sink.new) }
+{
+    match event {
+        Event::Moment(moment) => {
+            play.moment = play.moment.max(moment);
+            Ok(())
+        }
+        Event::Request(request) => hear_request(alloc, play, sink, request),
+        Event::Reply { fetch, body } => hear_reply(alloc, play, sink, fetch, body),
+    }
+}
+
+/// Why the events of a session aren't all played: the line of an idle one, or what broke them off.
+#[derive(Clone, Copy, Debug)]
+pub(crate) enum Halt {
+    Idle(u32),
+    Broken(Break),
+}
+
+/// Plays the events in order.
+fn play_events<C: CacheCore, P: Policy, K: Sink>(
+    alloc: Global,
+    play: &mut Play<C, P>,
+    sink: &mut K,
+    events: &[NumberedEvent],
+) -> Result<(), Halt>
+    requires { IsInStep play.old.moment (C.history play.old.core) }
+    ensures plays { IsStage P.stands play.old.moment play.old.waiting.items opening_scene →
+        PlaysAll P.wants P.stands (C.limits play.new.core) (C.opened play.new.core) (C.history play.old.core) (C.history play.new.core) (K.held sink.old) (K.held sink.new) play.new.moment play.new.waiting.items events.now result }
+    ensures kept { KeepsCore C.limits C.opened C.history play.old.core play.new.core }
+    ensures in_step { IsInStep play.new.moment (C.history play.new.core) }
+    ensures later { K.faults sink.old ≤ K.faults sink.new }
+    ensures cause { result ≡ Err (Halt.Broken Break.WriteFault) → Rose (K.faults sink.old) (K.faults sink.new) }
+{
+    for numbered in events {
+        let event = match numbered.event.copied(alloc) {
+            Ok(event) => event,
+            Err(_) => return Err(Halt::Broken(Break::NoMemory)),
+        };
+        let stop = match play_event(alloc, play, sink, event) {
+            Ok(()) => continue,
+            Err(stop) => stop,
+        };
+        match stop {
+            Stop::Idle => return Err(Halt::Idle(numbered.number)),
+            Stop::Broken(broken) => return Err(Halt::Broken(broken)),
+        }
+    }
+    Ok(())
 }
