@@ -4,8 +4,15 @@
 //! with its line and kind, as the definitions in `specs/` say; and exactly one of the two stands for each text.
 #![tactic(auto)]
 
+mod laws;
+mod lines;
+mod place;
+mod reader;
+mod reading;
 mod session;
 
+pub use laws::one_meaning;
+pub use reader::read;
 pub use session::{FaultKind, Line, NumberedLine, Session, SessionError};
 
 /// A session has at most so many bytes.
