@@ -11,7 +11,6 @@ use Rattle.units.specs.Numbers.{IsNumber}
 use Rattle.units.specs.Quoted.{IsQuoted, IsQuotedAt}
 use Rattle.units.proofs.Pieces.{quoted_same}
 use Rattle.units.proofs.Numerals.{spelled}
-use Rattle.session_text.specs.declared.TheConstants.{MOMENT_LIMIT}
 use Rattle.session_text.specs.declared.session.FaultKind.TheVariants.{Word, Unknown, Argument}
 use Rattle.session_text.specs.declared.session.Line.{Line}
 use Rattle.session_text.specs.declared.session.Line.TheVariants.{At, Req, Reply, Fail, Cli, Lurk}
@@ -101,7 +100,7 @@ text_word line a h =
       | inr e ↦ inr ((words_same (word_for line) h.0 a (h.1 ++ 32 ∷ h.2) (word_for_word line) (reply_word h.0 e) h.4).0 ∙ e)
     ]
 
-none_at : (a : List ℕ) → ((n : ℕ) → IsNumber a n → n ≤ MOMENT_LIMIT → ⊥) → (m : Line) → word_for m ≡ word_for (At 0) → IsArgument m a → ⊥
+none_at : (a : List ℕ) → ((n : ℕ) → IsNumber a n → n ≤ 253402300799999 → ⊥) → (m : Line) → word_for m ≡ word_for (At 0) → IsArgument m a → ⊥
 none_at a h (At n) e p = h n p.0 p.1
 none_at a h m e p = apart _ _ refl e
 
@@ -113,7 +112,7 @@ none_lurk : (a : List ℕ) → ((n : ℕ) → IsNumber a n → n < 2 ^ 32 → �
 none_lurk a h (Lurk n) e p = h n p.0 p.1
 none_lurk a h m e p = apart _ _ refl e
 
-pub bad_at : (a : List ℕ) → ((n : ℕ) → IsNumber a n → n ≤ MOMENT_LIMIT → ⊥) → IsReading (codes "at" ++ 32 ∷ a) (Bad Argument)
+pub bad_at : (a : List ℕ) → ((n : ℕ) → IsNumber a n → n ≤ 253402300799999 → ⊥) → IsReading (codes "at" ++ 32 ∷ a) (Bad Argument)
 bad_at a h = bad_argument (At 0) a (none_at a h) (λ t. elim (text_word (At 0) a t) [ inl e ↦ apart _ _ refl e | inr e ↦ apart _ _ refl e ])
 
 pub bad_fail : (a : List ℕ) → ((n : ℕ) → IsNumber a n → ⊥) → IsReading (codes "fail" ++ 32 ∷ a) (Bad Argument)

@@ -3,7 +3,6 @@ use Rattle.std.specs.Prelude.{ℕ, ◌≡◌, ◌≢◌, ◌<◌, ◌≤◌, ◌
 use Rattle.std.specs.List.{AllByRecursion}
 use Rattle.units.specs.Numbers.{IsNumber}
 use Rattle.units.specs.Quoted.{IsQuoted}
-use Rattle.session_text.specs.declared.TheConstants.{MOMENT_LIMIT}
 use Rattle.session_text.specs.declared.session.FaultKind.TheVariants.{Word, Unknown, Argument}
 use Rattle.session_text.specs.declared.session.Line.{Line}
 use Rattle.session_text.specs.declared.session.Line.TheVariants.{At, Req, Reply, Fail, Cli, Lurk}
@@ -29,7 +28,7 @@ word_for (Lurk count) = codes "lurk"
 
 -- what stands behind the word and its blank
 abbrev pub IsArgument : Line → List ℕ → Type 0
-IsArgument (At moment) argument = IsNumber argument moment × (moment ≤ MOMENT_LIMIT)
+IsArgument (At moment) argument = IsNumber argument moment × (moment ≤ 253402300799999)
 IsArgument (Req client text) argument =
     (number quoted : List ℕ) × (argument ≡ number ++ 32 ∷ quoted) × IsNumber number client × (0 < client) × (client ≤ 250) × IsQuoted text quoted [] × (0 < length text)
 IsArgument (Reply fetch text) argument =

@@ -1,7 +1,6 @@
 -- What a whole session says, or which line is its first without a meaning.
 use Rattle.std.specs.Prelude.{ℕ, ◌≡◌, ◌<◌, ◌≤◌, ◌+◌, ◌-◌, ◌⊎◌, List, [], ◌∷◌, ◌++◌, Some, None, nat_lt, if◌then◌else◌}
 use Rattle.std.specs.Option.{is_some}
-use Rattle.session_text.specs.declared.TheConstants.{SESSION_LIMIT}
 use Rattle.session_text.specs.declared.session.FaultKind.{FaultKind}
 use Rattle.session_text.specs.declared.session.FaultKind.TheVariants.{Argument, Moment, NoEnd, After}
 use Rattle.session_text.specs.declared.session.Line.{Line}
@@ -14,9 +13,9 @@ use Rattle.session_text.specs.declared.place.Place.{Place}
 use Rattle.session_text.specs.Lines.{TextLine, lines_of, size, content}
 use Rattle.session_text.specs.Readings.{IsReading}
 
--- the place at which a text begins: line 1, room for as many bytes as the limit, moment 0, no `end` yet
+-- the place at which a text begins: line 1, room for 67,108,864 bytes, moment 0, no `end` yet
 abbrev pub first_place : Place
-first_place = record { number = 1; room = SESSION_LIMIT; moment = 0; end = None }
+first_place = record { number = 1; room = 67108864; moment = 0; end = None }
 
 -- the place behind a line
 abbrev pub behind : Place → TextLine → Place

@@ -21,3 +21,6 @@ pub use numbers::{one_number, push_number, read_number, value_of_digits, write_n
 pub use quotes::{one_quoted, quote, quote_reads_back, quoted};
 pub use sequence::Sequence;
 pub use text::{Text, same_text};
+
+#[cfg(test)]
+mod tests;
