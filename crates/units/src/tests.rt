@@ -156,7 +156,11 @@ fn durations_are_read(rt: HostRuntime) {
 }
 
 #[test]
-fn laws_hold() {
+fn laws_hold(rt: HostRuntime) {
+    match read_escape(b"x4a!") {
+        Some((byte, rest)) => assert!(rt; byte == b'J' && rest == b"!".as_slice()),
+        None => assert!(rt; false),
+    }
     one_number(b"1");
     one_quoted(b"\"a\"");
     quote_reads_back(b"a");
