@@ -4,8 +4,15 @@
 //! with its line and kind, as the definitions in `specs/` say; and exactly one of the two stands for each text.
 #![tactic(auto)]
 
+mod laws;
+mod lines;
+mod place;
+mod reader;
+mod reading;
 mod session;
 
+pub use laws::one_meaning;
+pub use reader::read;
 pub use session::{FaultKind, Line, NumberedLine, Session, SessionError};
 
 /// A session has at most so many bytes.
@@ -13,3 +20,6 @@ pub const SESSION_LIMIT: usize = 67_108_864;
 
 /// The greatest moment, in milliseconds since 1970: the last of the year 9999.
 pub const MOMENT_LIMIT: u64 = 253_402_300_799_999;
+
+#[cfg(test)]
+mod tests;

@@ -45,7 +45,7 @@ mapped : (o : Option ℕ) (rest : List ℕ) (value : ℕ) (behind : List ℕ) �
 mapped None rest value behind e = cc
 mapped (Some x) rest value behind e = (some_pair_parts x value rest behind e).1
 
-escape_ends : (bytes : List ℕ) (value : ℕ) (behind : List ℕ) → escape bytes ≡ Some (value, behind) → Ends bytes behind
+pub escape_ends : (bytes : List ℕ) (value : ℕ) (behind : List ℕ) → escape bytes ≡ Some (value, behind) → Ends bytes behind
 escape_ends [] value behind e = cc
 escape_ends (sign ∷ rest) value behind e =
     elim (chosen (eqb sign 120) _ _ _ e) [
@@ -102,7 +102,7 @@ quoted_same v w bytes x y h k =
     pieces_same v w h.0 x y h.2 (subst at same k.2)
 
 -- what is behind is the end of the bytes
-pieces_end : (values : List ℕ) (bytes rest : List ℕ) → ReadsPieces values bytes rest → (front : List ℕ) × (bytes ≡ front ++ rest)
+pub pieces_end : (values : List ℕ) (bytes rest : List ℕ) → ReadsPieces values bytes rest → (front : List ℕ) × (bytes ≡ front ++ rest)
 pieces_end [] bytes rest h = ([], h)
 pieces_end (v ∷ values) bytes rest h =
     let first = piece_ends bytes v h.0 h.1 in

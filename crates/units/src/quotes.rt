@@ -115,8 +115,9 @@ fn read_piece(bytes: &[u8]) -> Option<(u8, &[u8])>
     Some((first, rest))
 }
 
-// What stands behind a backslash.
-fn read_escape(bytes: &[u8]) -> Option<(u8, &[u8])>
+/// The byte that an escape stands for, read from behind its backslash on, and what is behind the escape. None
+/// where no escape stands there.
+pub fn read_escape(bytes: &[u8]) -> Option<(u8, &[u8])>
     ensures { option_map (λ x. (x.0, x.1.now)) result ≡ escape bytes.now }
 {
     let (sign, rest) = split_first(bytes)?;
