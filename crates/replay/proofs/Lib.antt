@@ -4,3 +4,4 @@ pub mod Sending
 pub mod Rounds
 pub mod Hearing
 pub mod Playing
+pub mod Ending

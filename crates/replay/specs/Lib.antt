@@ -5,3 +5,4 @@ pub mod Visit
 pub mod Scene
 pub mod Transcript
 pub mod Went
+pub mod Replayed

@@ -1,7 +1,7 @@
 // What a session tells the schedule.
 use crate::Request;
 use std::alloc::{AllocError, Global};
-use units::{Copied, Text};
+use units::{Copied, Sequence, Text};
 
 /// One line of a session, as the schedule plays it.
 #[derive(Drop)]
@@ -32,4 +32,11 @@ impl Copied for Event {
             }),
         }
     }
+}
+
+/// A session as the schedule plays it: its events in order, and the line of its `end`.
+#[derive(Drop)]
+pub struct Script {
+    pub events: Sequence<NumberedEvent>,
+    pub end: u32,
 }

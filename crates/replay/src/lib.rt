@@ -11,7 +11,9 @@ mod lines;
 mod messages;
 mod policy;
 mod schedule;
+mod session;
 
-pub use event::{Event, NumberedEvent};
+pub use event::{Event, NumberedEvent, Script};
 pub use fixed::Visit;
 pub use policy::{Arrival, Given, Policy, Request, Want};
+pub use session::{ReplayError, Replayed, play_session};

@@ -342,7 +342,7 @@ pub(crate) enum Halt {
 }
 
 /// Plays the events in order.
-fn play_events<C: CacheCore, P: Policy, K: Sink>(
+pub(crate) fn play_events<C: CacheCore, P: Policy, K: Sink>(
     alloc: Global,
     play: &mut Play<C, P>,
     sink: &mut K,
