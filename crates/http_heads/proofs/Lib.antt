@@ -1,0 +1,5 @@
+mod LineLemmas
+mod HeadLines
+mod Fronts
+mod RequestFacts
+mod ResponseFacts
