@@ -1,15 +1,14 @@
 -- The lines of a head.
-use Rattle.std.proofs.Common.{◌≡◌, ℕ, zero, suc, ◌+◌, ◌<◌, ◌≤◌, Bool, true, false, cond, not, Option, Some, None, List, [], ◌∷◌, ◌++◌, length, refl, sym, ◌∙◌, ap, subst, arith, eqb, inl, inr, append_assoc, append-nil, length-append}
+use Rattle.std.proofs.Common.{◌≡◌, ℕ, suc, ◌+◌, ◌≤◌, Bool, true, false, Option, Some, None, List, [], ◌∷◌, ◌++◌, length, refl, sym, ◌∙◌, ap, subst, arith, eqb, inl, inr, append_assoc, append-nil, length-append}
 use Rattle.std.specs.List.{prefix_len, flat_map, All, AllByRecursion}
-use Rattle.std.specs.Prelude.{IsTrue, codes}
+use Rattle.std.specs.Prelude.{IsTrue}
 use Rattle.std.specs.Char.{is_ascii_digit}
 use Rattle.std.proofs.lemmas.Bool.{cases_eq}
 use Rattle.std.proofs.lemmas.Bool.Decides.{nat_tests}
 use Rattle.std.proofs.lemmas.List.Elements.{recursion_from_All}
-use Rattle.std.proofs.lemmas.List.{append_cancel_right}
-use Rattle.httparse.specs.Grammar.{is_token_byte, is_uri_byte, is_value_byte, AllPass, LineEnd, print_end, print_blank, print_version, Field, print_field, IsField, print_section, RequestHead, print_request, IsRequestHead, ResponseHead, print_response, IsResponseHead, print_reason, reason_phrase}
+use Rattle.httparse.specs.Grammar.{is_token_byte, is_uri_byte, is_value_byte, AllPass, LineEnd, print_end, print_blank, print_version, Field, print_field, IsField, RequestHead, print_request, IsRequestHead, ResponseHead, print_response, IsResponseHead, print_reason, reason_phrase}
 use Rattle.httparse.specs.Grammar.LineEnd.{crlf, lf}
-use Rattle.http_heads.specs.Lines.{grow, ended_lines, is_empty_line, is_full_line, from_full, full_lines}
+use Rattle.http_heads.specs.Lines.{ended_lines, is_empty_line, is_full_line, from_full, full_lines}
 use Rattle.httparse.proofs.GrammarLemmas.{cons-append, print_request-append, print_response-append}
 use Rattle.http_heads.proofs.LineLemmas.{from_full-empty, from_full-full}
 

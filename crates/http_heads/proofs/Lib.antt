@@ -3,3 +3,4 @@ mod HeadLines
 mod Fronts
 mod RequestFacts
 mod ResponseFacts
+mod PrintFacts

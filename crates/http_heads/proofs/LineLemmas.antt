@@ -1,9 +1,7 @@
 -- Lines that are ended by LF.
-use Rattle.std.proofs.Common.{◌≡◌, ℕ, zero, suc, ◌+◌, ◌<◌, ◌≤◌, Bool, true, false, cond, not, List, [], ◌∷◌, ◌++◌, length, take, drop, get_or, refl, sym, ◌∙◌, ap, arith, eqb}
-use Rattle.std.specs.List.{prefix_len}
+use Rattle.std.proofs.Common.{◌≡◌, ℕ, zero, suc, ◌+◌, ◌<◌, true, false, List, [], ◌∷◌, length, take, drop, get_or, refl, arith, eqb}
 use Rattle.std.proofs.lemmas.Bool.Decides.{nat_tests}
-use native.Mathlib.Numerals.{unary_clauses}
-use Rattle.http_heads.specs.Lines.{grow, ended_lines, is_empty_line, is_full_line, from_full}
+use Rattle.http_heads.specs.Lines.{ended_lines, is_empty_line, from_full}
 
 one_more : (n : ℕ) → 1 + n ≡ suc n
 one_more n = omega arith

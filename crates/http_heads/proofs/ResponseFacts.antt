@@ -1,18 +1,14 @@
 -- The front of the bytes and a response at it.
-use Rattle.std.proofs.Common.{◌≡◌, ℕ, zero, suc, ◌+◌, ◌-◌, ◌<◌, ◌≤◌, min, List, [], ◌∷◌, ◌++◌, length, take, drop, map, refl, sym, ◌∙◌, ap, subst, arith, append_assoc, append-nil, length-append, take-append-drop, inl, inr, Result, Ok, Err, Bool, true, false}
-use Rattle.std.specs.List.{prefix_len, flat_map}
-use Rattle.std.proofs.lemmas.List.{length-take, length-map, take_all, append_cancel_right}
-use Rattle.std.proofs.lemmas.Simd.{map-map}
-use Rattle.httparse.specs.Grammar.{ResponseHead as ResponseTree, Field as FieldTree, ReadsResponse, HasNoResponse, NeverHasResponse, print_response, print_end, LineEnd, field_value}
-use Rattle.httparse.specs.Grammar.LineEnd.{lf}
-use Rattle.httparse.specs.Spans.{IsResponseOf, IsResponseAt, IsResponseWithin, ResponseExceeds, header_bytes, name_and_value}
+use Rattle.std.proofs.Common.{◌≡◌, ℕ, ◌+◌, ◌-◌, ◌≤◌, List, [], ◌∷◌, ◌++◌, length, take, drop, refl, sym, ◌∙◌, ap, arith, append_assoc, append-nil}
+use Rattle.std.proofs.lemmas.List.{length-take, append_cancel_right}
+use Rattle.httparse.specs.Grammar.{ResponseHead as ResponseTree, ReadsResponse, HasNoResponse, NeverHasResponse, print_response, print_end}
+use Rattle.httparse.specs.Spans.{IsResponseOf, IsResponseAt, IsResponseWithin, ResponseExceeds}
 use Rattle.httparse.specs.declared.spans.HeaderSpan.{HeaderSpan}
 use Rattle.httparse.specs.declared.spans.ResponseSpans.{ResponseSpans}
-use Rattle.http_heads.specs.declared.fields.Field.{Field}
 use Rattle.http_heads.specs.declared.message.ResponseHead.{ResponseHead}
-use Rattle.http_heads.specs.Heads.{HasResponse, LacksResponse, response_of, field_of}
-use Rattle.http_heads.specs.Lines.{ended_lines, is_full_line, full_lines, HasTooManyLines}
-use Rattle.http_heads.specs.Spans.{response_at, field_at}
+use Rattle.http_heads.specs.Heads.{HasResponse, LacksResponse, response_of}
+use Rattle.http_heads.specs.Lines.{full_lines, HasTooManyLines}
+use Rattle.http_heads.specs.Spans.{response_at}
 use Rattle.http_heads.proofs.Fronts.{take_front, split_front, same_fields, fields_fit}
 use Rattle.http_heads.proofs.HeadLines.{before_feed, print_end-feed, response_front, response_front-append, print_response-front, response_lines, last_line}
 
@@ -48,8 +44,7 @@ found bytes front room spans is size within of =
 pub stands : (bytes front : List ℕ) (message : ResponseHead) (count : ℕ) (has : HasResponse bytes message count)
     → front ≡ take 32768 bytes → (rest : List ℕ) × ReadsResponse front has.tree rest
 stands bytes front message count has is =
-    let printed = print_response has.tree in
-    (
+    let printed = print_response has.tree in (
       take (32768 - length printed) has.rest,
       (has.reads.0, is ∙ ap (λ (l : List ℕ). take 32768 l) has.reads.1 ∙ take_front 32768 printed has.rest (omega (arith, has.counted, has.short))),
     )

@@ -1,8 +1,7 @@
 -- The head of a message (RFC 9112, sections 2 to 5): the grammar of `httparse` in its default setting, within 32,768
 -- bytes and 64 fields.
-use Rattle.std.specs.Prelude.{◌≡◌, ℕ, ◌+◌, ◌-◌, ◌*◌, ◌/◌, ◌%◌, ◌≤◌, ◌<◌, ◌⊎◌, ◌==◌, if◌then◌else◌, List, [], ◌∷◌, ◌++◌, length, map, All, codes, Result, Ok, Err, Option, Some, None, IsUtf8, take}
-use Rattle.std.specs.List.{flat_map}
-use Rattle.httparse.specs.Grammar.{RequestHead as RequestTree, ResponseHead as ResponseTree, Field as FieldTree, print_request, print_response, ReadsRequest, ReadsResponse, NeverHasRequest, NeverHasResponse, MayBecomeRequest, MayBecomeResponse, field_value, status_code, reason_phrase, IsToken, AllPass, is_uri_byte, is_value_byte, trim_ows}
+use Rattle.std.specs.Prelude.{◌≡◌, ℕ, ◌+◌, ◌≤◌, ◌<◌, ◌⊎◌, List, length, map, Result, Ok, Err, Option, Some, None, take}
+use Rattle.httparse.specs.Grammar.{RequestHead as RequestTree, ResponseHead as ResponseTree, Field as FieldTree, print_request, print_response, ReadsRequest, ReadsResponse, NeverHasRequest, NeverHasResponse, MayBecomeRequest, MayBecomeResponse, field_value, status_code, reason_phrase}
 use Rattle.http_heads.specs.declared.fields.Field.{Field}
 use Rattle.http_heads.specs.declared.message.RequestHead.{RequestHead}
 use Rattle.http_heads.specs.declared.message.ResponseHead.{ResponseHead}

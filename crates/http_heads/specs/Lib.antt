@@ -2,3 +2,4 @@ pub mod Fields
 pub mod Lines
 pub mod Heads
 pub mod Spans
+pub mod Printed

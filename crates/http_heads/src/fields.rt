@@ -198,7 +198,9 @@ fn may_stand(name: &[u8], value: &[u8]) -> bool
 {
     name.len() <= LONGEST_NAME
         && is_token(name)
-        && value.iter().all(|byte| !(*byte == 0 || *byte == b'\n' || *byte == b'\r'))
+        && value
+            .iter()
+            .all(|byte| !(*byte == 0 || *byte == b'\n' || *byte == b'\r'))
 }
 
 fn put_behind(fields: &mut Vec<Field>, name: &Text, value: &Text) -> Result<(), FieldError>

@@ -10,9 +10,13 @@ mod exchange;
 mod fields;
 mod lines;
 mod message;
+mod print;
 mod read;
+#[cfg(test)]
+mod tests;
 
 pub use exchange::{Backend, BackendRequest, Exchange, Got};
 pub use fields::{Field, FieldError, Fields};
 pub use message::{HeadError, RequestHead, ResponseHead};
+pub use print::{print_request, print_response};
 pub use read::{read_request, read_response};

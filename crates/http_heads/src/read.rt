@@ -8,10 +8,10 @@ ghost use Rattle.http_heads.specs.declared.message.ResponseHead.{ResponseHead};
 
 use crate::lines::{LONGEST_HEAD, has_too_many_lines};
 use crate::{Field, Fields, HeadError, RequestHead, ResponseHead};
+use httparse::Status;
 use httparse::spans::{
     EMPTY_HEADER_SPAN, HeaderSpan, RequestSpans, ResponseSpans, Span, parse_request, parse_response,
 };
-use httparse::Status;
 use std::alloc::{AllocError, Global};
 use units::Text;
 
@@ -47,7 +47,10 @@ pub fn read_request(alloc: Global, bytes: &[u8]) -> Result<Option<(RequestHead, 
 
 /// The response whose head stands at the front of the bytes, and the length of the head. None where the
 /// head isn't whole yet. A head has at most 32,768 bytes and 64 fields.
-pub fn read_response(alloc: Global, bytes: &[u8]) -> Result<Option<(ResponseHead, usize)>, HeadError>
+pub fn read_response(
+    alloc: Global,
+    bytes: &[u8],
+) -> Result<Option<(ResponseHead, usize)>, HeadError>
     ensures answer { AnswersResponse bytes.now result }
     ensures found { (message : ResponseHead) (count : ℕ) → HasResponse bytes.now message count
         → GivesUnlessNoMemory result (Some (message, count)) }

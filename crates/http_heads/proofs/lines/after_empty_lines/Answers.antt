@@ -1,6 +1,6 @@
 -- One more empty line is passed over.
-use Rattle.std.proofs.Common.{rules, ◌≡◌, sym, ◌∙◌, ap, false, true}
-use Rattle.http_heads.specs.Lines.{ended_lines, from_full, is_empty_line}
+use Rattle.std.proofs.Common.{rules, sym, ◌∙◌, ap}
+use Rattle.http_heads.specs.Lines.{ended_lines, from_full}
 use Rattle.http_heads.proofs.LineLemmas.{from_full-empty}
 use Rattle.http_heads.proofs.lines.after_empty_lines.Goals as goal
 

@@ -1,5 +1,4 @@
 -- All the bytes, where they are no more.
-use Rattle.std.proofs.Common.{◌≡◌, ◌≤◌, ℕ, take, length, min, arith, ap, sym, ◌∙◌, inl, inr}
 use Rattle.http_heads.proofs.Fronts.{take_min}
 use Rattle.http_heads.proofs.read.front_of.Goals as goal
 

@@ -1,10 +1,7 @@
 -- What the parser told of the front holds of the bytes.
-use Rattle.std.proofs.Common.{◌≡◌, ◌≤◌, ◌<◌, ℕ, List, take, drop, length, min, arith, ap, sym, subst, ◌∙◌, inl, inr, refl, Ok, Err, Some, None, true, false, length-take}
-use Rattle.std.proofs.lemmas.List.{take_all}
-use Rattle.httparse.specs.declared.Error.TheVariants.{TooManyHeaders}
+use Rattle.std.proofs.Common.{◌≡◌, ap, sym, subst, ◌∙◌, inl, refl, Ok, Err, Some, true, false}
 use Rattle.httparse.specs.Grammar.{MayBecomeResponse, NeverHasResponse}
-use Rattle.http_heads.specs.Heads.{HasResponse, GivesUnlessNoMemory}
-use Rattle.http_heads.specs.Lines.{full_lines, HasTooManyLines}
+use Rattle.http_heads.specs.Heads.{HasResponse}
 use Rattle.http_heads.proofs.ResponseFacts.{found, stands, same, lacks, never_lacks, few_lines, many_lines}
 use Rattle.http_heads.proofs.Fronts.{many, not_many, all_of, full_of}
 use Rattle.http_heads.proofs.read.read_response.Goals as goal
@@ -45,8 +42,7 @@ returns-then-front-lt-LONGEST_HEAD-clause-answer c =
     let is = c.front_of-front.ensures in
     let none = rw c.in-Ok-Partial.field-0-is at c.in-Ok-Partial.ensures.partial in
     let open_end = rw c.in-Ok-Partial.field-0-is at c.in-Ok-Partial.ensures.unfinished in
-    let all = all_of c.args.bytes.now c.front_of-front.result.now is c.if-front-lt-LONGEST_HEAD.true in
-    (
+    let all = all_of c.args.bytes.now c.front_of-front.result.now is c.if-front-lt-LONGEST_HEAD.true in (
       all.0,
       lacks c.args.bytes.now c.front_of-front.result.now is none,
       subst MayBecomeResponse all.1 open_end,
@@ -62,8 +58,7 @@ pub returns-else-front-lt-LONGEST_HEAD-clause-answer : goal.returns-else-front-l
 returns-else-front-lt-LONGEST_HEAD-clause-answer c =
     let is = c.front_of-front.ensures in
     let none = rw c.in-Ok-Partial.field-0-is at c.in-Ok-Partial.ensures.partial in
-    let open_end = rw c.in-Ok-Partial.field-0-is at c.in-Ok-Partial.ensures.unfinished in
-    (
+    let open_end = rw c.in-Ok-Partial.field-0-is at c.in-Ok-Partial.ensures.unfinished in (
       full_of c.args.bytes.now c.front_of-front.result.now is c.if-front-lt-LONGEST_HEAD.false,
       lacks c.args.bytes.now c.front_of-front.result.now is none,
       subst MayBecomeResponse is open_end,
