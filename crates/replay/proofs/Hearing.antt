@@ -60,11 +60,11 @@ kept_at {P} stands zero (p ∷ ps) (w ∷ ws) are short kept one e f = subst (λ
 kept_at stands (suc i) (p ∷ ps) (w ∷ ws) are short kept one e f = kept_at stands i ps ws are.1 (omega arith) kept one e f
 
 -- what a place that was found tells
-place_found : (k n place : ℕ) (b : Bool) → b ≡ nat_lt k n → cond b (Some k) None ≡ Some place → (k ≡ place) × (k < n)
+pub place_found : (k n place : ℕ) (b : Bool) → b ≡ nat_lt k n → cond b (Some k) None ≡ Some place → (k ≡ place) × (k < n)
 place_found k n place true e found = (cc, ltb-true k n (sym e))
 place_found k n place false e found = cc
 
-none_found : (k n : ℕ) (b : Bool) → b ≡ nat_lt k n → cond b (Some k) None ≡ None → n ≤ k
+pub none_found : (k n : ℕ) (b : Bool) → b ≡ nat_lt k n → cond b (Some k) None ≡ None → n ≤ k
 none_found k n true e found = cc
 none_found k n false e found = ltb-false k n (sym e)
 

@@ -5,3 +5,5 @@ pub mod Rounds
 pub mod Hearing
 pub mod Playing
 pub mod Ending
+pub mod Reading
+pub mod Building

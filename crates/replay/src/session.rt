@@ -1,12 +1,14 @@
 // A whole session.
 ghost use Rattle.std.specs.Prelude.{◌≡◌, ◌≤◌, Some};
 ghost use Rattle.wire.specs.Causes.{Rose};
+ghost use Rattle.replay.specs.FixedPolicy.{Wants};
 ghost use Rattle.replay.specs.Replayed.{IsReplayed, error_for, refusal_of};
 
 use crate::event::Script;
 use crate::schedule::{Break, Halt, Play, play_events};
-use crate::Policy;
+use crate::{Policy, Visit};
 use cache_law::{Boot, CacheCore, Entry, Params};
+use flat_core::FlatCore;
 use std::alloc::Global;
 use units::Sequence;
 use wire::Sink;
@@ -97,4 +99,19 @@ pub fn play_session<C: CacheCore + Drop, P: Policy, K: Sink>(
         history: core.into_history(),
         refusal,
     }
+}
+
+/// Plays a session over the plain cache, its rounds led by the policy of plain GET requests.
+pub fn run_session<K: Sink>(
+    alloc: Global,
+    script: &Script,
+    params: &Params,
+    boot: Boot,
+    sink: &mut K,
+) -> Replayed
+    ensures replayed { IsReplayed Wants script.now params.now boot (K.held sink.old) (K.held sink.new) result }
+    ensures later { K.faults sink.old ≤ K.faults sink.new }
+    ensures cause { result.refusal ≡ Some ReplayError.WriteFault → Rose (K.faults sink.old) (K.faults sink.new) }
+{
+    play_session::<FlatCore, Visit, K>(alloc, script, params, boot, sink)
 }

@@ -1,0 +1,32 @@
+-- Lines and the events that they stand for, one after another.
+use Rattle.std.proofs.Common.{◌≡◌, ℕ, List, [], ◌∷◌, ◌++◌, ◌+◌, ◌<◌, ◌≤◌, length, take, drop, get_or, refl, sym, ◌∙◌, ap, subst}
+use Rattle.std.proofs.lemmas.List.{take-append-drop, take_more, take_all, drop_more}
+use Rattle.session_text.specs.declared.session.NumberedLine.{NumberedLine}
+use Rattle.session_text.specs.declared.session.Session.{Session}
+use Rattle.replay.specs.declared.event.Event.{Event}
+use Rattle.replay.specs.declared.event.NumberedEvent.{NumberedEvent}
+use Rattle.replay.specs.declared.script.BuildError.TheVariants.{NotBuilt}
+use Rattle.replay.specs.Build.{StandsFor, IsBuiltAs, IsBuildError}
+
+built_push : (lines : List NumberedLine) (events : List NumberedEvent) (line : NumberedLine) (event : NumberedEvent) → IsBuiltAs lines events → event.number ≡ line.number → StandsFor line.line event.event → IsBuiltAs (lines ++ line ∷ []) (events ++ event ∷ [])
+built_push [] [] line event are number stands = (number, stands, tt)
+built_push [] (e ∷ es) line event are number stands = absurd are
+built_push (l ∷ ls) [] line event are number stands = absurd are
+built_push (l ∷ ls) (e ∷ es) line event are number stands = (are.0, are.1, built_push ls es line event are.2 number stands)
+
+-- one line more
+pub built_more : (lines : List NumberedLine) (i : ℕ) (events more : List NumberedEvent) (line : NumberedLine) (event : NumberedEvent) → i < length lines → line ≡ get_or lines i line → IsBuiltAs (take i lines) events → event.number ≡ line.number → StandsFor line.line event.event → more ≡ events ++ event ∷ [] → IsBuiltAs (take (i + 1) lines) more
+built_more lines i events more line event short is are number stands pushed =
+    let longer : take (i + 1) lines ≡ take i lines ++ line ∷ [] = take_more lines i line short ∙ ap (λ (l : NumberedLine). take i lines ++ l ∷ []) (sym is) in
+    subst (λ (es : List NumberedEvent). IsBuiltAs (take (i + 1) lines) es) (sym pushed)
+      (subst (λ (ls : List NumberedLine). IsBuiltAs ls (events ++ event ∷ [])) (sym longer) (built_push (take i lines) events line event are number stands))
+
+-- the first that isn't built
+pub not_built : (session : Session) (i : ℕ) (events : List NumberedEvent) (line : NumberedLine) → i < length session.lines → line ≡ get_or session.lines i line → IsBuiltAs (take i session.lines) events → ((event : Event) → StandsFor line.line event → ⊥) → IsBuildError session (NotBuilt line.number)
+not_built session i events line short is are none =
+    let split : session.lines ≡ take i session.lines ++ line ∷ drop (i + 1) session.lines =
+      sym (take-append-drop i session.lines) ∙ (ap (λ (ls : List NumberedLine). take i session.lines ++ ls) (drop_more session.lines i line short) ∙ ap (λ (l : NumberedLine). take i session.lines ++ l ∷ drop (i + 1) session.lines) (sym is)) in
+    (take i session.lines, line, drop (i + 1) session.lines, events, split, are, refl, none)
+
+pub all_built : (lines : List NumberedLine) (i : ℕ) (events : List NumberedEvent) → length lines ≤ i → IsBuiltAs (take i lines) events → IsBuiltAs lines events
+all_built lines i events all are = subst (λ (ls : List NumberedLine). IsBuiltAs ls events) (take_all i lines all) are

@@ -1,0 +1,38 @@
+-- Which events the lines of a session stand for, as far as that is built.
+use Rattle.std.specs.Prelude.{◌≡◌, ℕ, List, [], ◌∷◌, ◌++◌}
+use Rattle.session_text.specs.declared.session.Line.{Line}
+use Rattle.session_text.specs.declared.session.Line.TheVariants as lines
+use Rattle.session_text.specs.declared.session.NumberedLine.{NumberedLine}
+use Rattle.session_text.specs.declared.session.Session.{Session}
+use Rattle.replay.specs.declared.event.Event.{Event}
+use Rattle.replay.specs.declared.event.Event.TheVariants as events
+use Rattle.replay.specs.declared.event.NumberedEvent.{NumberedEvent}
+use Rattle.replay.specs.declared.event.Script.{Script}
+use Rattle.replay.specs.declared.script.BuildError.{BuildError}
+use Rattle.replay.specs.declared.script.BuildError.TheVariants.{NotBuilt, NoMemory}
+use Rattle.replay.specs.Forms.{IsRequestText, IsReplyText}
+
+-- the line stands for the event: a moment; a request of client 1, or a reply, of the form that is built
+abbrev pub StandsFor : Line → Event → Type 0
+StandsFor (lines.At moment) (events.Moment same) = moment ≡ same
+StandsFor (lines.Req client text) (events.Request request) = (client ≡ 1) × (request.client ≡ 1) × IsRequestText text request.url request.host
+StandsFor (lines.Reply fetch text) (events.Reply number body) = (number ≡ fetch) × IsReplyText text body
+StandsFor line event = ⊥
+
+-- line by line, with the same numbers
+abbrev pub IsBuiltAs : List NumberedLine → List NumberedEvent → Type 0
+IsBuiltAs [] [] = Unit {0}
+IsBuiltAs (line ∷ more) (event ∷ events) = (event.number ≡ line.number) × StandsFor line.line event.event × IsBuiltAs more events
+IsBuiltAs [] (event ∷ events) = ⊥
+IsBuiltAs (line ∷ more) [] = ⊥
+
+pub record IsBuilt (session : Session) (script : Script) : Type 0 where
+  pub lines_are : IsBuiltAs session.lines script.events
+  pub end_is : script.end ≡ session.end
+
+-- A refusal names the first line that stands for no event; those before it stand for some.
+abbrev pub IsBuildError : Session → BuildError → Type 0
+IsBuildError session (NotBuilt number) =
+    (front : List NumberedLine) × (first : NumberedLine) × (back : List NumberedLine) × (events : List NumberedEvent)
+    × (session.lines ≡ front ++ first ∷ back) × IsBuiltAs front events × (first.number ≡ number) × ((event : Event) → StandsFor first.line event → ⊥)
+IsBuildError session NoMemory = Unit {0}
