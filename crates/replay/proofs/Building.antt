@@ -19,13 +19,13 @@ pub built_more : (lines : List NumberedLine) (i : ℕ) (events more : List Numbe
 built_more lines i events more line event short is are number stands pushed =
     let longer : take (i + 1) lines ≡ take i lines ++ line ∷ [] = take_more lines i line short ∙ ap (λ (l : NumberedLine). take i lines ++ l ∷ []) (sym is) in
     subst (λ (es : List NumberedEvent). IsBuiltAs (take (i + 1) lines) es) (sym pushed)
-      (subst (λ (ls : List NumberedLine). IsBuiltAs ls (events ++ event ∷ [])) (sym longer) (built_push (take i lines) events line event are number stands))
+    (subst (λ (ls : List NumberedLine). IsBuiltAs ls (events ++ event ∷ [])) (sym longer) (built_push (take i lines) events line event are number stands))
 
 -- the first that isn't built
 pub not_built : (session : Session) (i : ℕ) (events : List NumberedEvent) (line : NumberedLine) → i < length session.lines → line ≡ get_or session.lines i line → IsBuiltAs (take i session.lines) events → ((event : Event) → StandsFor line.line event → ⊥) → IsBuildError session (NotBuilt line.number)
 not_built session i events line short is are none =
     let split : session.lines ≡ take i session.lines ++ line ∷ drop (i + 1) session.lines =
-      sym (take-append-drop i session.lines) ∙ (ap (λ (ls : List NumberedLine). take i session.lines ++ ls) (drop_more session.lines i line short) ∙ ap (λ (l : NumberedLine). take i session.lines ++ l ∷ drop (i + 1) session.lines) (sym is)) in
+    sym (take-append-drop i session.lines) ∙ (ap (λ (ls : List NumberedLine). take i session.lines ++ ls) (drop_more session.lines i line short) ∙ ap (λ (l : NumberedLine). take i session.lines ++ l ∷ drop (i + 1) session.lines) (sym is)) in
     (take i session.lines, line, drop (i + 1) session.lines, events, split, are, refl, none)
 
 pub all_built : (lines : List NumberedLine) (i : ℕ) (events : List NumberedEvent) → length lines ≤ i → IsBuiltAs (take i lines) events → IsBuiltAs lines events

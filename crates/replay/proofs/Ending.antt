@@ -52,13 +52,13 @@ nothing_played wants params boot script before =
 
 -- the same, as the calls of a whole session tell it
 pub ends_at : {P : Type 0} (wants : Request → List Given → Want → Type 0) (stands : P → Request → List Given → Type 0) (params params' : Params) (boot boot' : Boot) (script : Script) (h0 h1 history : List Entry) (before now : Option (List ℕ)) (moment : ℕ) (pending : List (Pending P)) (played : Result (Unit {0}) Halt) (empty : Bool) (refusal : Option ReplayError)
-  → params' ≡ params → boot' ≡ boot → h0 ≡ [] → history ≡ h1 → empty ≡ (length pending == 0) → refusal ≡ refusal_of played empty script.end
-  → Legal params' boot' h1 → PlaysAll wants stands params' boot' h0 h1 before now moment pending script.events played
-  → EndsSo wants params boot script history before now refusal
+    → params' ≡ params → boot' ≡ boot → h0 ≡ [] → history ≡ h1 → empty ≡ (length pending == 0) → refusal ≡ refusal_of played empty script.end
+    → Legal params' boot' h1 → PlaysAll wants stands params' boot' h0 h1 before now moment pending script.events played
+    → EndsSo wants params boot script history before now refusal
 ends_at wants stands params params' boot boot' script h0 h1 history before now moment pending played empty refusal p b none all is told legal plays =
     subst (λ (r : Option ReplayError). EndsSo wants params boot script history before now r) (sym told)
     (subst (λ (h : List Entry). EndsSo wants params boot script h before now (refusal_of played empty script.end)) (sym all)
     (subst (λ (x : Params). EndsSo wants x boot script h1 before now (refusal_of played empty script.end)) p
     (subst (λ (x : Boot). EndsSo wants params' x script h1 before now (refusal_of played empty script.end)) b
     (ends_so wants stands params' boot' script h1 before now moment pending legal played empty is
-      (subst (λ (h : List Entry). PlaysAll wants stands params' boot' h h1 before now moment pending script.events played) none plays)))))
+    (subst (λ (h : List Entry). PlaysAll wants stands params' boot' h h1 before now moment pending script.events played) none plays)))))

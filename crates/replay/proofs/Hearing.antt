@@ -83,13 +83,13 @@ found {P} stands pending waiting number place kept are at kept_is =
     let short : place < length waiting = omega (arith, told.0, told.1, same_length stands pending waiting are) in
     let short_kept : place < length pending = omega (arith, told.0, told.1) in
     elim (slice_get_cases waiting place).1 [
-      inl here ↦ record {
+      | inl here ↦ record {
         one = here.0;
         is_first = find_at (waits_for number) waiting ∙ (ap (λ (i : ℕ). slice_get waiting i) first ∙ here.2);
         is_kept = kept_at stands place pending waiting are short_kept kept here.0 kept_is (sym here.3);
         others = subst (λ (i : ℕ). ArePending stands (remove pending place) (remove waiting i)) (sym first) (others_pending stands place pending waiting are);
       }
-    | inr past ↦ absurd (omega (arith, past.0))
+      | inr past ↦ absurd (omega (arith, past.0))
     ]
 
 pub not_found : {P : Type 0} (stands : P → Request → List Given → Type 0) (pending : List (Pending P)) (waiting : List Waiting) (number : ℕ) → ArePending stands pending waiting → position (λ (k : Pending P). k.number == number) pending ≡ None → find (waits_for number) waiting ≡ None
@@ -102,20 +102,20 @@ not_found {P} stands pending waiting number are at =
 pub request_heard : (wants : Request → List Given → Want → Type 0) (scene : Scene) (request : Request) (h0 h1 : List Entry) (H : Scene → List ℕ → Type 0) → scene.running ≡ None → is_under_way request.client scene.waiting ≡ false → Went wants (with_running scene (begun request)) [] h0 h1 H → Went wants scene (events.Request request ∷ []) h0 h1 H
 request_heard wants scene request h0 h1 H rests free went =
     went-then wants scene (events.Request request ∷ []) [] h0 h0 h1 (λ next text. (next ≡ with_running scene (begun request)) × (text ≡ [])) H
-      (went-one wants scene (with_running scene (begun request)) (hears (events.Request request)) h0 h0 _ (rests, free, refl) (sym (append-nil h0)) (refl, refl))
-      (λ next text at. subst (λ (s : Scene). Went wants s [] h0 h1 (λ t more. H t (text ++ more))) (sym at.0) (subst (λ (x : List ℕ). Went wants (with_running scene (begun request)) [] h0 h1 (λ t more. H t (x ++ more))) (sym at.1) went))
+    (went-one wants scene (with_running scene (begun request)) (hears (events.Request request)) h0 h0 _ (rests, free, refl) (sym (append-nil h0)) (refl, refl))
+    (λ next text at. subst (λ (s : Scene). Went wants s [] h0 h1 (λ t more. H t (text ++ more))) (sym at.0) (subst (λ (x : List ℕ). Went wants (with_running scene (begun request)) [] h0 h1 (λ t more. H t (x ++ more))) (sym at.1) went))
 
 -- the scene in which a round has its reply
 abbrev pub replied : Scene → ℕ → List ℕ → Waiting → Scene
 replied scene number body one = record {
-    moment = scene.moment;
-    running = Some (gave one.round (Came (record { moment = scene.moment; body = body })));
-    waiting = without_first number scene.waiting;
-  }
+  moment = scene.moment;
+  running = Some (gave one.round (Came (record { moment = scene.moment; body = body })));
+  waiting = without_first number scene.waiting;
+}
 
 -- a reply that a round waits for
 pub reply_heard : (wants : Request → List Given → Want → Type 0) (scene : Scene) (number : ℕ) (body : List ℕ) (one : Waiting) (h0 h1 : List Entry) (H : Scene → List ℕ → Type 0) → scene.running ≡ None → find (waits_for number) scene.waiting ≡ Some one → Went wants (replied scene number body one) [] h0 h1 H → Went wants scene (events.Reply number body ∷ []) h0 h1 H
 reply_heard wants scene number body one h0 h1 H rests is went =
     went-then wants scene (events.Reply number body ∷ []) [] h0 h0 h1 (λ next text. (next ≡ replied scene number body one) × (text ≡ [])) H
-      (went-one wants scene (replied scene number body one) (hears (events.Reply number body)) h0 h0 _ (one, rests, is, refl) (sym (append-nil h0)) (refl, refl))
-      (λ next text at. subst (λ (s : Scene). Went wants s [] h0 h1 (λ t more. H t (text ++ more))) (sym at.0) (subst (λ (x : List ℕ). Went wants (replied scene number body one) [] h0 h1 (λ t more. H t (x ++ more))) (sym at.1) went))
+    (went-one wants scene (replied scene number body one) (hears (events.Reply number body)) h0 h0 _ (one, rests, is, refl) (sym (append-nil h0)) (refl, refl))
+    (λ next text at. subst (λ (s : Scene). Went wants s [] h0 h1 (λ t more. H t (text ++ more))) (sym at.0) (subst (λ (x : List ℕ). Went wants (replied scene number body one) [] h0 h1 (λ t more. H t (x ++ more))) (sym at.1) went))

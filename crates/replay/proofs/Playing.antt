@@ -50,16 +50,19 @@ module _ {P : Type 0} (wants : Request → List Given → Want → Type 0) (stan
   played_more one event short is same w plays =
       let heard : events_in (take i events) ++ event ∷ [] ≡ events_in (take (i + 1) events) = ap (λ (e : Event). events_in (take i events) ++ e ∷ []) (same ∙ ap (λ (n : NumberedEvent). n.event) is) ∙ sym (map_more (λ (n : NumberedEvent). n.event) events i one short) in
       subst (λ (es : List Event). Went wants opening_scene es h0 h2 (λ next text. (next.running ≡ None) × IsStage stands moment' pending' next × Appends before then_ text)) heard
-        (went-at wants opening_scene (events_in (take i events)) (event ∷ []) h0 h1 h2 SoPlayed _ w
-          (went-map wants w.scene (event ∷ []) h1 h2 _ _ (λ next more f. (f.0, f.1, Appends-then before now then_ w.text more w.fact.2 f.2)) (plays w.scene w.fact.1 w.fact.0)))
+      (went-at wants opening_scene (events_in (take i events)) (event ∷ []) h0 h1 h2 SoPlayed _ w
+      (went-map wants w.scene (event ∷ []) h1 h2 _ _ (λ next more f. (f.0, f.1, Appends-then before now then_ w.text more w.fact.2 f.2)) (plays w.scene w.fact.1 w.fact.0)))
 
   pub idle_at : (one : NumberedEvent) (event : Event) (stop : Stop) → stop ≡ Idle → i < length events → one ≡ get_or events i one → event ≡ one.event → Went wants opening_scene (events_in (take i events)) h0 h1 SoPlayed → ((scene : Scene) → IsStage stands moment pending scene → scene.running ≡ None → Plays wants stands params boot h1 h2 now then_ moment' pending' scene event (Err stop)) → PlaysAll wants stands params boot h0 h2 before then_ moment' pending' events (Err (halts.Idle one.number))
   idle_at one event stop idle short is same w plays =
-      let p = subst (λ (s : Stop). Plays wants stands params boot h1 h2 now then_ moment' pending' w.scene event (Err s)) idle (plays w.scene w.fact.1 w.fact.0) in
-      (
-        take i events, one, drop (i + 1) events, split_at events i one short is, refl,
+      let p = subst (λ (s : Stop). Plays wants stands params boot h1 h2 now then_ moment' pending' w.scene event (Err s)) idle (plays w.scene w.fact.1 w.fact.0) in (
+        take i events,
+        one,
+        drop (i + 1) events,
+        split_at events i one short is,
+        refl,
         subst (λ (es : List Event). Went wants opening_scene es h0 h2 (λ next text. (next.running ≡ None) × IsIdle next one.event × Appends before then_ text)) (append-nil (events_in (take i events)))
-          (went-at wants opening_scene (events_in (take i events)) [] h0 h1 h2 SoPlayed _ w
+            (went-at wants opening_scene (events_in (take i events)) [] h0 h1 h2 SoPlayed _ w
             (went-still wants w.scene h1 h2 _ p.1 (w.fact.0, subst (λ (e : Event). IsIdle w.scene e) same p.0, Appends-at before then_ w.text (w.text ++ []) (sym (append-nil w.text)) (subst (λ (held : Option (List ℕ)). Appends before held w.text) (sym p.2) w.fact.2)))),
       )
 
@@ -69,14 +72,15 @@ module _ {P : Type 0} (wants : Request → List Given → Want → Type 0) (stan
       let front = events_in (take i events) in
       let back = events_in (drop (i + 1) events) in
       let whole : events_in events ≡ (front ++ p.0) ++ (p.1 ++ back) =
-        events_split_more events i one short is
-          ∙ (ap (λ (e : Event). front ++ (e ∷ [] ++ back)) (sym same)
-          ∙ (ap (λ (es : List Event). front ++ (es ++ back)) p.2
-          ∙ (ap (λ (es : List Event). front ++ es) (append_assoc p.0 p.1 back) ∙ sym (append_assoc front p.0 (p.1 ++ back))))) in
-      (
-        front ++ p.0, p.1 ++ back, whole,
+      events_split_more events i one short is
+      ∙ (ap (λ (e : Event). front ++ (e ∷ [] ++ back)) (sym same)
+      ∙ (ap (λ (es : List Event). front ++ (es ++ back)) p.2
+      ∙ (ap (λ (es : List Event). front ++ es) (append_assoc p.0 p.1 back) ∙ sym (append_assoc front p.0 (p.1 ++ back))))) in (
+        front ++ p.0,
+        p.1 ++ back,
+        whole,
         went-at wants opening_scene front p.0 h0 h1 h2 SoPlayed _ w
-          (went-map wants w.scene p.0 h1 h2 _ _ (λ next more b. Breaks-behind wants params boot h2 before now then_ broken next w.text more w.fact.2 b) p.3),
+            (went-map wants w.scene p.0 h1 h2 _ _ (λ next more b. Breaks-behind wants params boot h2 before now then_ broken next w.text more w.fact.2 b) p.3),
       )
 
   pub no_memory_at : Went wants opening_scene (events_in (take i events)) h0 h1 SoPlayed → PlaysAll wants stands params boot h0 h1 before now moment pending events (Err (halts.Broken NoMemory))

@@ -53,8 +53,7 @@ url_letters (first ∷ rest) is = ap (λ (byte : ℕ). is_url_byte byte && list_
 pub cut_there : (bytes letters behind rest : List ℕ) → StartsOtherwise behind → list_all is_url_byte letters ≡ true → bytes ≡ letters ++ (behind ++ rest) → (take (position_or_len other bytes) bytes ≡ letters) × (drop (position_or_len other bytes) bytes ≡ behind ++ rest)
 cut_there bytes letters [] rest starts all is = absurd starts
 cut_there bytes letters (x ∷ xs) rest starts all is =
-    let n : position_or_len other bytes ≡ length letters = ap (λ (bs : List ℕ). position_or_len other bs) is ∙ front_len letters x (xs ++ rest) all starts in
-    (
+    let n : position_or_len other bytes ≡ length letters = ap (λ (bs : List ℕ). position_or_len other bs) is ∙ front_len letters x (xs ++ rest) all starts in (
       ap (λ (k : ℕ). take k bytes) n ∙ (ap (λ (bs : List ℕ). take (length letters) bs) is ∙ take_at letters (x ∷ xs ++ rest) (length letters) refl),
       ap (λ (k : ℕ). drop k bytes) n ∙ (ap (λ (bs : List ℕ). drop (length letters) bs) is ∙ drop_at letters (x ∷ xs ++ rest) (length letters) refl),
     )
@@ -62,8 +61,7 @@ cut_there bytes letters (x ∷ xs) rest starts all is =
 -- the same behind a prefix, at a place that was counted
 pub cut_only : (bytes prefix behind mid front back : List ℕ) (n : ℕ) → StartsOtherwise behind → bytes ≡ prefix ++ mid → n ≡ position_or_len other mid → front ≡ take n mid → back ≡ drop n mid → (letters rest : List ℕ) → list_all is_url_byte letters ≡ true → bytes ≡ prefix ++ (letters ++ (behind ++ rest)) → (front ≡ letters) × (back ≡ behind ++ rest)
 cut_only bytes prefix behind mid front back n starts split count f b letters rest all is =
-    let there = cut_there mid letters behind rest starts all (append_cancel_left prefix mid (letters ++ (behind ++ rest)) (sym split ∙ is)) in
-    (
+    let there = cut_there mid letters behind rest starts all (append_cancel_left prefix mid (letters ++ (behind ++ rest)) (sym split ∙ is)) in (
       f ∙ (ap (λ (k : ℕ). take k mid) count ∙ there.0),
       b ∙ (ap (λ (k : ℕ). drop k mid) count ∙ there.1),
     )
@@ -75,9 +73,9 @@ digit_letter n small = agree_below_at (λ (d : ℕ). is_url_byte (48 + d)) (λ (
 pub decimal_letters : (n : ℕ) → n < 2 ^ 64 → list_all is_url_byte (decimal n) ≡ true
 decimal_letters n small =
     decimal_by_steps (λ (k : ℕ) (ds : List ℕ). list_all is_url_byte ds ≡ true)
-      (λ k d. ap (λ (b : Bool). b && true) (digit_letter k d))
-      (λ k ds ten all. list_all-append is_url_byte ds ((48 + k % 10) ∷ []) ∙ (ap (λ (b : Bool). b && list_all is_url_byte ((48 + k % 10) ∷ [])) all ∙ ap (λ (b : Bool). b && true) (digit_letter (k % 10) (omega arith))))
-      n small
+    (λ k d. ap (λ (b : Bool). b && true) (digit_letter k d))
+    (λ k ds ten all. list_all-append is_url_byte ds ((48 + k % 10) ∷ []) ∙ (ap (λ (b : Bool). b && list_all is_url_byte ((48 + k % 10) ∷ [])) all ∙ ap (λ (b : Bool). b && true) (digit_letter (k % 10) (omega arith))))
+    n small
 
 -- the length of a body that a reply may have
 pub body_small : (n : ℕ) → n ≤ 8388608 → n < 2 ^ 64

@@ -5,7 +5,6 @@
 //! refusal means, are relations in `specs/` between the session's events, a history and a text.
 #![tactic(auto)]
 
-
 mod event;
 mod fixed;
 mod forms;
@@ -16,8 +15,8 @@ mod schedule;
 mod script;
 mod session;
 
-pub use script::{BuildError, build};
 pub use event::{Event, NumberedEvent, Script};
 pub use fixed::Visit;
 pub use policy::{Arrival, Given, Policy, Request, Want};
+pub use script::{BuildError, build};
 pub use session::{ReplayError, Replayed, play_session, run_session};

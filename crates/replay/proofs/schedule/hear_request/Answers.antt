@@ -23,13 +23,17 @@ returns-in-Ok-run_round-clause-plays g c = λ scene stage rests.
     let same = under_way g.P.Policy.stands _ scene.waiting c.args.request.client stage.pending_are in
     let free : is_under_way c.args.request.client scene.waiting ≡ false = cc in
     request_heard _ scene c.args.request _ _ _ rests free
-      (c.in-Ok-run_round.ensures.went (with_running scene (begun c.args.request)) (record { moment_is = stage.moment_is; pending_are = stage.pending_are })
-        (record { round = begun c.args.request; runs = record { turn = refl; wanted = c.in-Ok.ensures.1 }; client_is = refl; stands_at = c.in-Ok.ensures.0 }))
+    (c.in-Ok-run_round.ensures.went (with_running scene (begun c.args.request)) (record { moment_is = stage.moment_is; pending_are = stage.pending_are })
+    (record { round = begun c.args.request; runs = record { turn = refl; wanted = c.in-Ok.ensures.1 }; client_is = refl; stands_at = c.in-Ok.ensures.0 }))
 
 pub returns-in-Err-run_round-clause-plays : goal.returns-in-Err-run_round-clause-plays
 returns-in-Err-run_round-clause-plays g c = λ scene stage rests.
     let same = under_way g.P.Policy.stands _ scene.waiting c.args.request.client stage.pending_are in
-    let free : is_under_way c.args.request.client scene.waiting ≡ false = cc in
-    (events.Request c.args.request ∷ [], [], refl, request_heard _ scene c.args.request _ _ _ rests free
-      (c.in-Err-run_round.ensures.went (with_running scene (begun c.args.request)) (record { moment_is = stage.moment_is; pending_are = stage.pending_are })
-        (record { round = begun c.args.request; runs = record { turn = refl; wanted = c.in-Ok.ensures.1 }; client_is = refl; stands_at = c.in-Ok.ensures.0 })))
+    let free : is_under_way c.args.request.client scene.waiting ≡ false = cc in (
+      events.Request c.args.request ∷ [],
+      [],
+      refl,
+      request_heard _ scene c.args.request _ _ _ rests free
+          (c.in-Err-run_round.ensures.went (with_running scene (begun c.args.request)) (record { moment_is = stage.moment_is; pending_are = stage.pending_are })
+          (record { round = begun c.args.request; runs = record { turn = refl; wanted = c.in-Ok.ensures.1 }; client_is = refl; stands_at = c.in-Ok.ensures.0 })),
+    )

@@ -13,4 +13,4 @@ returns-in-Moment-clause-plays g c = λ scene stage rests.
     let sink = g.K.Sink in
     rw c.in-Moment.is
     (went-one g.P.Policy.wants scene (record { moment = max scene.moment c.in-Moment.moment; running = None; waiting = scene.waiting }) (hears (events.Moment c.in-Moment.moment)) _ _ _ (rests, refl) (sym (append-nil _))
-      (refl, record { moment_is = c.max-play.ensures ∙ ap (λ (m : ℕ). max m c.in-Moment.moment) stage.moment_is; pending_are = stage.pending_are }, Appends-nil _))
+    (refl, record { moment_is = c.max-play.ensures ∙ ap (λ (m : ℕ). max m c.in-Moment.moment) stage.moment_is; pending_are = stage.pending_are }, Appends-nil _))

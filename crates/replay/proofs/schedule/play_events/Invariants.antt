@@ -11,7 +11,7 @@ invariant-loop-numbered g l =
     let policy = g.P.Policy in
     record {
       plays : IsStage policy.stands l.fn.play.moment l.fn.play.waiting.items opening_scene
-        → Went policy.wants opening_scene (events_in (take l.numbered-index l.events)) (core.history l.fn.play.core) (core.history l.play.core) (λ next text. (next.running ≡ None) × IsStage policy.stands l.play.moment l.play.waiting.items next × Appends (g.K.Sink.held l.fn.sink) (g.K.Sink.held l.sink) text);
+          → Went policy.wants opening_scene (events_in (take l.numbered-index l.events)) (core.history l.fn.play.core) (core.history l.play.core) (λ next text. (next.running ≡ None) × IsStage policy.stands l.play.moment l.play.waiting.items next × Appends (g.K.Sink.held l.fn.sink) (g.K.Sink.held l.sink) text);
       kept : KeepsCore core.limits core.opened core.history l.fn.play.core l.play.core;
       in_step : IsInStep l.play.moment (core.history l.play.core);
       later : g.K.Sink.faults l.fn.sink ≤ g.K.Sink.faults l.sink;

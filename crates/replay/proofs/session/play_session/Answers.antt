@@ -21,5 +21,5 @@ returns-clause-replayed g c =
     let play = c.play_events-played.new.play in
     let plays = subst (λ (es : List NumberedEvent). PlaysAll g.P.Policy.wants g.P.Policy.stands (core.limits play.core) (core.opened play.core) (core.history c.in-Ok.core) (core.history play.core) (g.K.Sink.held c.args.sink.now) (g.K.Sink.held c.play_events-played.new.sink) play.moment play.waiting.items es c.play_events-played.result) c.as_slice.ensures (c.play_events-played.ensures.plays stage) in
     ends_at g.P.Policy.wants g.P.Policy.stands _ _ _ _ c.args.script.now _ _ _ _ _ play.moment play.waiting.items c.play_events-played.result c.is_empty.result c.refusal-refusal.result (kept.limits_same ∙ c.in-Ok.ensures.params) (kept.opened_same ∙ c.in-Ok.ensures.boot) c.in-Ok.ensures.history c.into_history.ensures
-      (c.is_empty.ensures ∙ ap (λ (ps : List (Pending g.row.P.Denot)). length ps == 0) c.as_slice-2.ensures.value) c.refusal-refusal.ensures
-      (kept.legal (subst (λ (h : List Entry). Legal (core.limits c.in-Ok.core) (core.opened c.in-Ok.core) h) (sym c.in-Ok.ensures.history) tt)) plays
+    (c.is_empty.ensures ∙ ap (λ (ps : List (Pending g.row.P.Denot)). length ps == 0) c.as_slice-2.ensures.value) c.refusal-refusal.ensures
+    (kept.legal (subst (λ (h : List Entry). Legal (core.limits c.in-Ok.core) (core.opened c.in-Ok.core) h) (sym c.in-Ok.ensures.history) tt)) plays

@@ -1,0 +1,51 @@
+//! The program: it reads its words, plays the session of standard input and writes the transcript to
+//! standard output.
+//!
+//! The contract of the whole stands on `run`, which `main` calls with the real words, source and sink.
+#![tactic(auto)]
+
+mod outcome;
+mod run;
+
+use outcome::{Note, Status};
+use run::run;
+use std::alloc::{AllocError, Global};
+use std::env;
+use std::process::ExitCode;
+use units::{Sequence, Text};
+use wire::{StreamSink, StreamSource};
+
+const USAGE: &str = "usage: varn replay < SESSION > TRANSCRIPT";
+
+// The words of the command line behind the program's name; none where they can't be had as text.
+fn read_words(rt: &HostRuntime) -> Option<Vec<Text>> {
+    let mut words = Vec::new(rt.alloc());
+    for word in env::args(rt).ok()?.skip(1) {
+        let text = Text::of(rt.alloc(), word.as_bytes()).ok()?;
+        words.push(text).ok()?;
+    }
+    Some(words)
+}
+
+fn tell(rt: &HostRuntime, status: Status, note: Option<Note>) {
+    if let Some(note) = note {
+        let line = note.line;
+        let kind = note.kind;
+        let _ = eprintln!(rt; "line {line} kind {kind}");
+    }
+    if status == Status::Words {
+        let _ = eprintln!(rt; "{USAGE}");
+    }
+}
+
+fn main(rt: HostRuntime) -> ExitCode {
+    let Some(words) = read_words(&rt) else {
+        tell(&rt, Status::Words, None);
+        return ExitCode::from(Status::Words.code());
+    };
+    let mut source = StreamSource::new(rt.stdin());
+    let mut sink = StreamSink::new(rt.stdout());
+    let outcome = run(rt.alloc(), words.as_slice(), &mut source, &mut sink);
+    tell(&rt, outcome.status, outcome.note);
+    ExitCode::from(outcome.status.code())
+}
