@@ -5,7 +5,7 @@ use Rattle.cache_law.specs.declared.setting.Boot.{Boot}
 use Rattle.cache_law.specs.declared.call.Call.{Call}
 use Rattle.cache_law.specs.declared.call.Call.TheVariants.{Insert, End}
 use Rattle.cache_law.specs.declared.call.Entry.{Entry}
-use Rattle.cache_law.specs.declared.core.Told.{Told}
+use Rattle.cache_law.specs.declared.cache.Told.{Told}
 use Rattle.cache_law.specs.State.{State, has_round, has_fetch}
 use Rattle.cache_law.specs.History.{Fits, Follows, reached, bytes_of_all}
 

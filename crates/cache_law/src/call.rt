@@ -1,5 +1,5 @@
 // The calls of a cache, its replies, and an entry of its history.
-use crate::{Fields, ObjectView, Object};
+use crate::{Fields, Object, ObjectView};
 use std::alloc::{AllocError, Global};
 use units::{Copied, Sequence, Text};
 
@@ -21,9 +21,16 @@ pub enum Call {
         request: RequestView,
     },
     /// Asks which backend a target stands for. So far a target is the name of one backend.
-    Pick { vcl: u32, target: Text, word: u64 },
+    Pick {
+        vcl: u32,
+        target: Text,
+        word: u64,
+    },
     /// Hands over the object that the fetch of this number made.
-    Insert { token: u64, object: Object },
+    Insert {
+        token: u64,
+        object: Object,
+    },
     /// Closes the caller's round and its open fetches.
     End,
 }

@@ -7,17 +7,17 @@
 #![tactic(auto)]
 
 mod bytes;
+mod cache;
 mod call;
-mod core;
-
-mod state;
+mod laws;
 mod object;
 mod setting;
+mod state;
 
 pub use bytes::{entry_bytes, object_size};
+pub use cache::{CacheCore, StepError, Told};
 pub use call::{Call, Entry, Reply, RequestView};
-pub use core::{CacheCore, StepError, Told};
-
+pub use laws::closing_fits;
 pub use object::{Field, Fields, Object, ObjectView, Timing, is_fresh_at, is_in_time, same_key};
 pub use setting::{Boot, Params};
 pub use state::{OpenFetch, OpenRound};

@@ -13,6 +13,7 @@ pub struct Params {
 
 impl Params {
     pub const DEFAULT_ROOM: u64 = 268_435_456;
+
     pub const DEFAULT_HISTORY: u64 = 268_435_456;
 }
 

@@ -4,7 +4,7 @@ ghost use Rattle.cache_law.specs.declared.call.Entry.{Entry as HistoryEntry};
 ghost use Rattle.cache_law.specs.declared.setting.Params.{Params as Limits};
 ghost use Rattle.cache_law.specs.declared.setting.Boot.{Boot as Opening};
 ghost use Rattle.cache_law.specs.Core.{Entered, FitsBehind, moment_of, is_kept};
-ghost use Rattle.cache_law.specs.History.{reached};
+ghost use Rattle.cache_law.specs.History.{Legal, reached};
 
 use crate::{Boot, Call, Entry, Params, Reply};
 use std::alloc::{AllocError, Global};
@@ -55,6 +55,8 @@ pub trait CacheCore: Sized {
             ↔ ¬ FitsBehind (limits self.old) (opened self.old) (history self.old) caller (moment_of (history self.old) reading) call }
         ensures kept { is_kept (reached (history self.old)) caller call ≡ true → IsErrOf result StepError.NoMemory → ⊥ }
         ensures err { OnErr result (history self.new ≡ history self.old) }
+        ensures legal { Legal (limits self.old) (opened self.old) (history self.old) →
+            Legal (limits self.new) (opened self.new) (history self.new) }
         ensures same { limits self.new ≡ limits self.old }
         ensures same_boot { opened self.new ≡ opened self.old };
 
