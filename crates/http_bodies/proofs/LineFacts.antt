@@ -1,13 +1,13 @@
 -- The line of a chunk, and what it leaves.
-use Rattle.std.proofs.Common.{◌≡◌, ℕ, ◌+◌, ◌-◌, ◌<◌, ◌≤◌, ◌⊎◌, inl, inr, ◌↔◌, List, [], ◌∷◌, ◌++◌, length, take, drop, refl, sym, ◌∙◌, ap, subst, arith, append_assoc, length-append}
+use Rattle.std.proofs.Common.{◌≡◌, ℕ, ◌<◌, ◌≤◌, inl, inr, ◌↔◌, List, [], ◌∷◌, ◌++◌, length, take, refl, sym, ◌∙◌, ap, subst, arith, length-append}
 use Rattle.std.specs.List.{flat_map}
 use Rattle.std.proofs.lemmas.Bool.{cases_lt}
 use Rattle.httparse.specs.Grammar.{ChunkLine, IsChunkLine, ReadsChunkLine, print_chunk_line, chunk_size, HasNoChunkLine, NeverHasChunkLine}
 use Rattle.httparse.proofs.ChunkLemmas.{chunk_line_unique}
-use Rattle.http_bodies.specs.declared.place.Place.TheVariants.{Line, Data, Trailer}
+use Rattle.http_bodies.specs.declared.place.Place.TheVariants.{Data, Trailer}
 use Rattle.http_bodies.specs.Bodies.{ReadsLine, IsTrailer, ReadsChunks, IsChunked}
 use Rattle.http_bodies.specs.Reading.{Left}
-use Rattle.http_bodies.proofs.Prefixes.{prefix_split, Joined, join, ahead}
+use Rattle.http_bodies.proofs.Prefixes.{prefix_split, Joined, join}
 
 -- a line at the front isn't in the buffer alone
 pub line_joined : (b p r : List ℕ) (k len : ℕ) (l : ChunkLine) → HasNoChunkLine b → ReadsChunkLine (b ++ take k p) l r → len ≡ length (print_chunk_line l)
@@ -56,9 +56,11 @@ left_data text whole added l is reads short some = (there, back)
         let d = left.0 in
         let next = left.1 in
         let chunks = left.5 in
-        let size : 0 < length d = omega (arith, left.4) in
-        (d ∷ chunks.0, (l, text, next, record { reads = (is, reads); short = short }, sym left.4, size, left.3, chunks.1),
-        left.6 ∙ ap (λ (m : List ℕ). d ++ m) chunks.2)
+        let size : 0 < length d = omega (arith, left.4) in (
+          d ∷ chunks.0,
+          (l, text, next, record { reads = (is, reads); short = short }, sym left.4, size, left.3, chunks.1),
+          left.6 ∙ ap (λ (m : List ℕ). d ++ m) chunks.2,
+        )
 
     by_datas : (datas : List (List ℕ)) → ReadsChunks datas whole → added ≡ flat_map (λ d. d) datas → Left (Data (chunk_size l)) [] text added
     by_datas [] chunks body =

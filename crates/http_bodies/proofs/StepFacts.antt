@@ -1,13 +1,12 @@
 -- What a step leaves.
-use Rattle.std.proofs.Common.{◌≡◌, ◌≢◌, ℕ, ◌+◌, ◌-◌, ◌<◌, ◌≤◌, ◌⊎◌, inl, inr, ◌↔◌, List, [], ◌∷◌, ◌++◌, length, take, drop, refl, sym, ◌∙◌, ap, subst, arith, append_assoc, append-nil, length-append, Result, Ok, Err, IfOk, IfErr}
+use Rattle.std.proofs.Common.{◌≡◌, ◌≢◌, ℕ, ◌-◌, ◌<◌, ◌≤◌, ◌⊎◌, inl, inr, ◌↔◌, List, [], ◌∷◌, ◌++◌, length, take, refl, sym, ◌∙◌, ap, subst, arith, append_assoc, append-nil, length-append, Result, Ok, Err, IfOk, IfErr}
 use Rattle.std.specs.Result.{IsErrOf}
 use Rattle.http_bodies.specs.declared.framing.BodyError.{BodyError}
 use Rattle.http_bodies.specs.declared.framing.BodyError.TheVariants.{BadChunk, TooLarge, NoMemory}
-use Rattle.httparse.specs.Grammar.{ChunkLine, LineEnd, Field as FieldTree, ReadsChunkLine, ReadsSection, print_chunk_line, print_section, print_end, print_extension, HasNoChunkLine, HasNoSection}
+use Rattle.httparse.specs.Grammar.{ChunkLine, LineEnd, print_chunk_line, print_end, print_extension, HasNoChunkLine}
 use Rattle.httparse.specs.Grammar.LineEnd.{crlf, lf}
 use Rattle.http_bodies.specs.declared.place.Place.{Place}
 use Rattle.http_bodies.specs.declared.place.Place.TheVariants.{Whole, Sized, Open, Line, Data, Return, Feed, Trailer, Refused}
-use Rattle.http_bodies.specs.Bodies.{IsTrailer, IsChunked}
 use Rattle.http_bodies.specs.Reading.{ReaderState, Left, Makes, Follows, Never, IsSound, state}
 use Rattle.http_bodies.proofs.Prefixes.{prefix_split}
 use Rattle.http_bodies.proofs.LineFacts.{first_of}
@@ -94,11 +93,15 @@ data_more n d buffer kept limit fits text body = (there, back)
         let more = m.left.2 in
         record {
           added = d ++ m.added;
-          left = (d ++ e, next, more,
-          ap (λ (l : List ℕ). d ++ l) m.left.3 ∙ sym (append_assoc d e (13 ∷ 10 ∷ next)),
-          omega (arith, length-append d e, m.left.4),
-          m.left.5,
-          ap (λ (l : List ℕ). d ++ l) m.left.6 ∙ sym (append_assoc d e more));
+          left = (
+            d ++ e,
+            next,
+            more,
+            ap (λ (l : List ℕ). d ++ l) m.left.3 ∙ sym (append_assoc d e (13 ∷ 10 ∷ next)),
+            omega (arith, length-append d e, m.left.4),
+            m.left.5,
+            ap (λ (l : List ℕ). d ++ l) m.left.6 ∙ sym (append_assoc d e more),
+          );
           whole = m.whole ∙ append_assoc kept d m.added;
           within = m.within;
         }
@@ -146,9 +149,10 @@ data_end n d buffer kept limit fits text body = (there, back)
 -- where the body doesn't grow
 pub follows_left : (p q : Place) (b c kept : List ℕ) (limit : ℕ) (bytes : List ℕ)
     → ((text added : List ℕ) → Left q c text added ↔ Left p b (bytes ++ text) added) → Follows (state p b kept limit) (state q c kept limit) bytes
-follows_left p q b c kept limit bytes same text body =
-    (λ m. record { added = m.added; left = (same text m.added).0 m.left; whole = m.whole; within = m.within },
-    λ m. record { added = m.added; left = (same text m.added).1 m.left; whole = m.whole; within = m.within })
+follows_left p q b c kept limit bytes same text body = (
+  λ m. record { added = m.added; left = (same text m.added).0 m.left; whole = m.whole; within = m.within },
+  λ m. record { added = m.added; left = (same text m.added).1 m.left; whole = m.whole; within = m.within },
+)
 
 pub never_left : (p : Place) (b kept : List ℕ) (limit : ℕ) (bytes : List ℕ)
     → ((text added : List ℕ) → ¬ (Left p b (bytes ++ text) added)) → Never (state p b kept limit) bytes
@@ -165,9 +169,10 @@ Follows-nil a text body = (λ m. m, λ m. m)
 
 pub Follows-trans : (a b c : ReaderState) (x y : List ℕ) → Follows a b x → Follows b c y → Follows a c (x ++ y)
 Follows-trans a b c x y first second text body =
-    let joined : (x ++ y) ++ text ≡ x ++ (y ++ text) = append_assoc x y text in
-    (λ m. subst (λ (t : List ℕ). Makes a t body) (sym joined) ((first (y ++ text) body).0 ((second text body).0 m)),
-    λ m. (second text body).1 ((first (y ++ text) body).1 (subst (λ (t : List ℕ). Makes a t body) joined m)))
+    let joined : (x ++ y) ++ text ≡ x ++ (y ++ text) = append_assoc x y text in (
+      λ m. subst (λ (t : List ℕ). Makes a t body) (sym joined) ((first (y ++ text) body).0 ((second text body).0 m)),
+      λ m. (second text body).1 ((first (y ++ text) body).1 (subst (λ (t : List ℕ). Makes a t body) joined m)),
+    )
 
 pub Never-after : (a b : ReaderState) (x y : List ℕ) → Follows a b x → Never b y → Never a (x ++ y)
 Never-after a b x y first never text body m =
@@ -183,9 +188,9 @@ never_line_step (Ok x) b kept piece limit room is bad large kinds = tt
 never_line_step (Err e) b kept piece limit room is bad large kinds = λ other. elim kinds [
   | inl is_bad ↦ never_left Line b kept limit piece (bad (ap Err is_bad))
   | inr rest ↦ elim rest [
-      | inl is_large ↦ never_large Line b kept limit piece (λ text added left. omega (arith, is, large (ap Err is_large) text added left))
-      | inr is_memory ↦ absurd (other is_memory)
-    ]
+    | inl is_large ↦ never_large Line b kept limit piece (λ text added left. omega (arith, is, large (ap Err is_large) text added left))
+    | inr is_memory ↦ absurd (other is_memory)
+  ]
 ]
 
 pub never_trailer_step : (result : Result (ℕ × Place) BodyError) (b kept piece : List ℕ) (limit : ℕ)

@@ -1,13 +1,13 @@
 -- The trailer behind the last chunk.
-use Rattle.std.proofs.Common.{◌≡◌, ℕ, ◌+◌, ◌-◌, ◌<◌, ◌≤◌, ◌⊎◌, inl, inr, ◌↔◌, List, [], ◌∷◌, ◌++◌, length, take, drop, map, refl, sym, ◌∙◌, ap, subst, arith, append_assoc, append-nil, length-append}
+use Rattle.std.proofs.Common.{◌≡◌, ℕ, ◌-◌, ◌<◌, ◌≤◌, inl, inr, ◌↔◌, List, [], ◌++◌, length, take, drop, map, sym, ◌∙◌, ap, arith, append_assoc, append-nil}
 use Rattle.std.proofs.lemmas.Bool.{cases_lt}
 use Rattle.std.proofs.lemmas.List.{length-take, length-map}
 use Rattle.httparse.specs.Grammar.{Field as FieldTree, LineEnd, ReadsSection, print_section, HasNoSection}
-use Rattle.httparse.specs.Spans.{IsSectionOf, IsSectionAt, SectionOverflows, header_bytes, name_and_value}
+use Rattle.httparse.specs.Spans.{IsSectionOf, SectionOverflows, header_bytes, name_and_value}
 use Rattle.httparse.specs.declared.spans.HeaderSpan.{HeaderSpan}
 use Rattle.httparse.proofs.GrammarLemmas.{section_unique}
 use Rattle.http_bodies.specs.Bodies.{IsTrailer}
-use Rattle.http_bodies.proofs.Prefixes.{prefix_split, Joined, join, ahead}
+use Rattle.http_bodies.proofs.Prefixes.{prefix_split, Joined, join}
 
 fields_fit : (buf : List ℕ) (room : List HeaderSpan) (count : ℕ) (lines : List FieldTree)
     → map (header_bytes buf) (take count room) ≡ map name_and_value lines → length lines ≤ length room
@@ -37,14 +37,14 @@ section_joined b p all k room found is size none of =
     let few : length fields ≤ 64 = omega (arith, fields_fit all room found.1 fields at.fields_are, size) in
     elim (cases_lt (length b) (length printed)) [
       | inl past ↦ record {
-          fields = fields;
-          last = last;
-          each = (at.reads.0, sym (append-nil printed));
-          few = few;
-          past = omega arith;
-          joined = join b p printed (drop found.0 all) k found.0 reads (omega arith) len;
-          size = len;
-        }
+        fields = fields;
+        last = last;
+        each = (at.reads.0, sym (append-nil printed));
+        few = few;
+        past = omega arith;
+        joined = join b p printed (drop found.0 all) k found.0 reads (omega arith) len;
+        size = len;
+      }
       | inr within ↦
           let split = prefix_split printed (drop found.0 all) b (take k p) (sym reads) within in
           absurd (none fields last split.0 (at.reads.0, split.1))
@@ -63,14 +63,16 @@ trailer_left b p text added len section short = (there, back)
     there : (text ≡ []) × (added ≡ []) → IsTrailer (b ++ (take (len - length b) p ++ text)) × (added ≡ [])
     there (none, nothing) =
         let all : b ++ (take (len - length b) p ++ text) ≡ print_section section.fields section.last ++ [] =
-        whole ∙ ap (λ (l : List ℕ). print_section section.fields section.last ++ l) none in
-        (record {
-          fields = section.fields;
-          last = section.last;
-          reads = (section.each.0, all);
-          few = section.few;
-          short = omega (arith, ap length all, ap length (append-nil (print_section section.fields section.last)), section.size, short);
-        }, nothing)
+        whole ∙ ap (λ (l : List ℕ). print_section section.fields section.last ++ l) none in (
+          record {
+            fields = section.fields;
+            last = section.last;
+            reads = (section.each.0, all);
+            few = section.few;
+            short = omega (arith, ap length all, ap length (append-nil (print_section section.fields section.last)), section.size, short);
+          },
+          nothing,
+        )
 
     back : IsTrailer (b ++ (take (len - length b) p ++ text)) × (added ≡ []) → (text ≡ []) × (added ≡ [])
     back (trailer, nothing) =

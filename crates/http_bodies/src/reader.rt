@@ -232,7 +232,13 @@ impl BodyReader {
         ensures refused { IfErr result (λ e. e ≢ BodyError.NoMemory → (self.new.place ≡ Place.Refused e) × Never self.old piece.now) }
         ensures no_memory { IsErrOf result BodyError.NoMemory → self.new ≡ self.old }
     {
-        match step(self.place, &mut self.buffer, &mut self.kept, self.limit, piece) {
+        match step(
+            self.place,
+            &mut self.buffer,
+            &mut self.kept,
+            self.limit,
+            piece,
+        ) {
             Ok((count, place)) => {
                 self.place = place;
                 Ok(count)

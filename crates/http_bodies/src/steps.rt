@@ -88,10 +88,7 @@ fn behind_line(size: u64) -> Place
 }
 
 // A step behind the last chunk.
-pub(crate) fn trailer_step(
-    buffer: &mut Vec<u8>,
-    piece: &[u8],
-) -> Result<(usize, Place), BodyError>
+pub(crate) fn trailer_step(buffer: &mut Vec<u8>, piece: &[u8]) -> Result<(usize, Place), BodyError>
     requires { HasNoSection buffer.old.items }
     ensures count { IfOk result (λ r. (r.0 ≤ length piece.now) × (0 < length piece.now → 0 < r.0)) }
     ensures waits { IfOk result (λ r. Waits r.1 buffer.new.items) }

@@ -98,17 +98,34 @@ const EARLY: [&[u8]; 8] = [
 fn chunks(rt: HostRuntime) {
     let alloc = rt.alloc();
     for (bytes, body) in CHUNKED {
-        assert!(rt; is_body(alloc, Framing::Chunked, 10, bytes, body), "{bytes:?}");
+        assert!(rt;
+            is_body(alloc, Framing::Chunked, 10, bytes, body),
+            "{bytes:?}"
+        );
     }
     for bytes in BAD_CHUNKS {
-        assert!(rt; is_refused(alloc, Framing::Chunked, 10, bytes, BodyError::BadChunk), "{bytes:?}");
+        assert!(rt;
+            is_refused(alloc, Framing::Chunked, 10, bytes, BodyError::BadChunk),
+            "{bytes:?}"
+        );
     }
     for bytes in EARLY {
-        assert!(rt; is_refused(alloc, Framing::Chunked, 10, bytes, BodyError::Early), "{bytes:?}");
+        assert!(rt;
+            is_refused(alloc, Framing::Chunked, 10, bytes, BodyError::Early),
+            "{bytes:?}"
+        );
     }
     let large = BodyError::TooLarge;
     assert!(rt; is_refused(alloc, Framing::Chunked, 1, b"2\r\nhi\r\n0\r\n\r\n", large));
-    assert!(rt; is_refused(alloc, Framing::Chunked, 1, b"1\r\nh\r\n1\r\ni\r\n0\r\n\r\n", large));
+    assert!(rt;
+        is_refused(
+            alloc,
+            Framing::Chunked,
+            1,
+            b"1\r\nh\r\n1\r\ni\r\n0\r\n\r\n",
+            large
+        )
+    );
     assert!(rt; is_refused(alloc, Framing::Chunked, 9, b"ffffffffffffffff\r\n", large));
 }
 
@@ -150,15 +167,30 @@ fn frames(rt: HostRuntime) -> Result<(), Fail> {
     assert_eq!(rt; frame(&nothing, Kind::Reply), Ok(Framing::UntilEnd));
     let cases: [(&[(&[u8], &[u8])], Result<Framing, BodyError>); 10] = [
         (&[(length, b"12")], Ok(Framing::Length(12))),
-        (&[(length, b"012"), (length, b"12")], Ok(Framing::Length(12))),
-        (&[(length, b"12"), (length, b"13")], Err(BodyError::BadLength)),
+        (
+            &[(length, b"012"), (length, b"12")],
+            Ok(Framing::Length(12)),
+        ),
+        (
+            &[(length, b"12"), (length, b"13")],
+            Err(BodyError::BadLength),
+        ),
         (&[(length, b"12, 12")], Err(BodyError::BadLength)),
         (&[(length, b"")], Err(BodyError::BadLength)),
-        (&[(length, b"18446744073709551616")], Err(BodyError::BadLength)),
+        (
+            &[(length, b"18446744073709551616")],
+            Err(BodyError::BadLength),
+        ),
         (&[(coding, b"Chunked")], Ok(Framing::Chunked)),
         (&[(coding, b"gzip, chunked")], Err(BodyError::TwoFramings)),
-        (&[(coding, b"chunked"), (coding, b"chunked")], Err(BodyError::TwoFramings)),
-        (&[(coding, b"chunked"), (length, b"2")], Err(BodyError::TwoFramings)),
+        (
+            &[(coding, b"chunked"), (coding, b"chunked")],
+            Err(BodyError::TwoFramings),
+        ),
+        (
+            &[(coding, b"chunked"), (length, b"2")],
+            Err(BodyError::TwoFramings),
+        ),
     ];
     for (lines, wanted) in cases {
         let fields = fields_of(alloc, lines)?;

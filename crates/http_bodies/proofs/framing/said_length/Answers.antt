@@ -1,5 +1,5 @@
 -- What every field says, the first says.
-use Rattle.std.proofs.Common.{◌≡◌, ℕ, Some, None, true, false, sym, ◌∙◌, ap, subst, refl, arith}
+use Rattle.std.proofs.Common.{◌≡◌, Some, None, true, false, sym, ◌∙◌, ap, subst, arith}
 use Rattle.http_bodies.specs.Framings.{length_name, length_number, is_that, says_length}
 use Rattle.http_bodies.proofs.LengthFacts.{first_says, none_named, that}
 use Rattle.http_bodies.proofs.framing.said_length.Goals as goal
@@ -16,11 +16,10 @@ returns-in-None-length_of c n says =
 
 pub returns-then-all_agree : goal.returns-then-all_agree
 returns-then-all_agree c =
-    let some : Some c.in-Some-length_of.length ≡ length_number c.in-Some.first.now = c.in-Some-length_of.ensures ∙ ap length_number c.bytes.ensures in
-    (
+    let some : Some c.in-Some-length_of.length ≡ length_number c.in-Some.first.now = c.in-Some-length_of.ensures ∙ ap length_number c.bytes.ensures in (
       sym (c.if-all_agree.ensures ∙ ap (says_length c.in-Some-length_of.length) c.as_slice.ensures),
       λ m says. that m c.in-Some-length_of.length
-      (subst (λ r. is_that m r ≡ true) (sym some) (first_says m c.args.fields.now c.in-Some.first.now c.in-Some.ensures says)),
+          (subst (λ r. is_that m r ≡ true) (sym some) (first_says m c.args.fields.now c.in-Some.first.now c.in-Some.ensures says)),
     )
 
 pub returns-else-all_agree : goal.returns-else-all_agree

@@ -1,5 +1,5 @@
 -- What the taken bytes leave.
-use Rattle.std.proofs.Common.{◌≡◌, ℕ, ◌-◌, List, ◌++◌, length, take, sym, ap, subst, arith, ◌∙◌}
+use Rattle.std.proofs.Common.{◌≡◌, ℕ, ◌-◌, List, ◌++◌, length, take, sym, subst, arith}
 use Rattle.std.proofs.lemmas.List.{length-take}
 use Rattle.http_bodies.specs.declared.place.Place.TheVariants.{Data, Return}
 use Rattle.http_bodies.specs.Reading.{Follows, state}

@@ -1,9 +1,8 @@
 -- The places with lines.
-use Rattle.std.proofs.Common.{◌≡◌, ◌≢◌, ℕ, ◌-◌, List, length, sym, ap, subst, arith, refl, ◌∙◌, IfErr, IfOk}
+use Rattle.std.proofs.Common.{◌≡◌, ◌≢◌, ◌-◌, length, sym, subst, arith, IfErr}
 use Rattle.http_bodies.specs.declared.framing.BodyError.TheVariants.{NoMemory}
 use Rattle.http_bodies.specs.declared.place.Place.{Place}
-use Rattle.http_bodies.specs.declared.place.Place.TheVariants.{Line, Trailer, Feed}
-use Rattle.http_bodies.specs.Reading.{Never, IsSound, due, state}
+use Rattle.http_bodies.specs.Reading.{Never, state}
 use Rattle.http_bodies.proofs.StepFacts.{never_line_step, never_trailer_step, feed_sound}
 use Rattle.http_bodies.proofs.reader.step.Goals as goal
 

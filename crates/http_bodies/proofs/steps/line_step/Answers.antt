@@ -1,9 +1,9 @@
 -- What the parser told of the buffer, of what may still come.
-use Rattle.std.proofs.Common.{◌≡◌, ℕ, ◌+◌, ◌-◌, ◌<◌, ◌≤◌, ◌↔◌, List, [], ◌++◌, length, take, drop, refl, sym, ◌∙◌, ap, subst, arith, append_assoc, inl, inr}
+use Rattle.std.proofs.Common.{◌≡◌, ℕ, ◌-◌, ◌≤◌, ◌↔◌, List, [], ◌++◌, length, take, drop, sym, ◌∙◌, ap, subst, arith, append_assoc, inl, inr}
 use Rattle.std.proofs.lemmas.Bool.{cases_lt}
-use Rattle.httparse.specs.Grammar.{ReadsChunkLine, print_chunk_line, chunk_size, HasNoChunkLine, NeverHasChunkLine}
+use Rattle.httparse.specs.Grammar.{print_chunk_line, chunk_size}
 use Rattle.http_bodies.specs.declared.place.Place.{Place}
-use Rattle.http_bodies.specs.declared.place.Place.TheVariants.{Line, Data, Trailer}
+use Rattle.http_bodies.specs.declared.place.Place.TheVariants.{Data}
 use Rattle.http_bodies.specs.Bodies.{IsChunked}
 use Rattle.http_bodies.specs.Reading.{Left}
 use Rattle.http_bodies.proofs.Prefixes.{ahead}

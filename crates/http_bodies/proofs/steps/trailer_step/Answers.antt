@@ -1,7 +1,6 @@
 -- What the parser told of the buffer, of what may still come.
-use Rattle.std.proofs.Common.{◌≡◌, ℕ, ◌+◌, ◌-◌, ◌<◌, ◌≤◌, ◌↔◌, List, [], ◌++◌, length, take, drop, refl, sym, ◌∙◌, ap, subst, arith, append_assoc, inl, inr}
+use Rattle.std.proofs.Common.{◌≡◌, ℕ, ◌-◌, ◌↔◌, List, [], ◌++◌, length, take, drop, sym, ◌∙◌, ap, subst, arith}
 use Rattle.http_bodies.specs.Bodies.{IsTrailer}
-use Rattle.http_bodies.specs.Reading.{Left}
 use Rattle.http_bodies.proofs.Prefixes.{ahead}
 use Rattle.http_bodies.proofs.TrailerFacts.{section_joined, trailer_left, never_trailer}
 use Rattle.http_bodies.proofs.steps.trailer_step.Goals as goal

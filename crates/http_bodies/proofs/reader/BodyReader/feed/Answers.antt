@@ -1,5 +1,5 @@
 -- One more step, and what was taken before it.
-use Rattle.std.proofs.Common.{◌≡◌, ℕ, ◌+◌, ◌-◌, ◌≤◌, List, ◌++◌, length, take, drop, sym, ap, subst, arith, ◌∙◌, refl, length-drop, take-append-drop}
+use Rattle.std.proofs.Common.{◌≡◌, ℕ, ◌-◌, List, length, take, drop, sym, ap, subst, arith, ◌∙◌, length-drop, take-append-drop}
 use Rattle.std.proofs.Math.Seq.{take-add}
 use Rattle.std.proofs.lemmas.List.{take_all}
 use Rattle.http_bodies.specs.Reading.{ReaderState, Follows, Never}
@@ -29,6 +29,8 @@ pub returns-in-Err-clause-again : goal.returns-in-Err-clause-again
 returns-in-Err-clause-again c e place = absurd (c.in_default.not-Refused e (ap (λ (s : ReaderState). s.place) c.self.view_is ∙ place))
 
 pub returns-in-Err-clause-no_memory : goal.returns-in-Err-clause-no_memory
-returns-in-Err-clause-no_memory c is =
-    (c.loop-at.at, c.loop-at.invariant.within,
-    subst (λ (s : ReaderState). Follows c.args.self.now s (take c.loop-at.at c.args.piece.now)) (sym (c.in-Err.ensures.no_memory is)) c.loop-at.invariant.follows)
+returns-in-Err-clause-no_memory c is = (
+  c.loop-at.at,
+  c.loop-at.invariant.within,
+  subst (λ (s : ReaderState). Follows c.args.self.now s (take c.loop-at.at c.args.piece.now)) (sym (c.in-Err.ensures.no_memory is)) c.loop-at.invariant.follows,
+)

@@ -1,5 +1,5 @@
 -- What the step told of the fields holds of the reader.
-use Rattle.std.proofs.Common.{List, refl, subst}
+use Rattle.std.proofs.Common.{refl, subst}
 use Rattle.http_bodies.specs.Reading.{ReaderState, Never}
 use Rattle.http_bodies.proofs.reader.BodyReader.take_step.Goals as goal
 
