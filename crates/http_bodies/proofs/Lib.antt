@@ -1,0 +1,5 @@
+mod LengthFacts
+mod Prefixes
+mod LineFacts
+mod TrailerFacts
+mod StepFacts

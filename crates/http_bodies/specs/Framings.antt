@@ -1,0 +1,40 @@
+-- Which fields say where a body ends (RFC 9112, section 6.3).
+use Rattle.std.specs.Prelude.{ℕ, ◌^◌, Bool, not, ◌&&◌, ◌||◌, ◌==◌, nat_lt, List, length, codes, Option, Some, None, false, if◌then◌else◌}
+use Rattle.std.specs.List.{list_all}
+use Rattle.std.specs.Char.{is_digit}
+use Rattle.std.specs.Str.Parse.{digits_value}
+use Rattle.http_heads.specs.declared.fields.Field.{Field}
+use Rattle.http_heads.specs.Fields.{is_named}
+use Rattle.http_bodies.specs.declared.framing.Kind.{Kind}
+use Rattle.http_bodies.specs.declared.framing.Kind.TheVariants.{Request, Reply, NoBody}
+use Rattle.http_bodies.specs.declared.framing.Framing.{Framing}
+use Rattle.http_bodies.specs.declared.framing.Framing.TheVariants.{Nothing, UntilEnd}
+
+abbrev pub length_name : List ℕ
+length_name = codes "content-length"
+
+abbrev pub coding_name : List ℕ
+coding_name = codes "transfer-encoding"
+
+-- the number that the bytes write: digits alone, at least one, with zeros in front or not, within 64 bits
+abbrev pub length_number : List ℕ → Option ℕ
+length_number value =
+    if nat_lt 0 (length value) && list_all (λ byte. is_digit byte 10) value && nat_lt (digits_value 10 value) (2 ^ 64)
+    then Some (digits_value 10 value) else None
+
+abbrev pub is_that : ℕ → Option ℕ → Bool
+is_that n None = false
+is_that n (Some m) = m == n
+
+abbrev pub is_length : ℕ → List ℕ → Bool
+is_length n value = is_that n (length_number value)
+
+-- each Content-Length says this length
+abbrev pub says_length : ℕ → List Field → Bool
+says_length n fields = list_all (λ field. not (is_named length_name field) || is_length n field.value) fields
+
+-- where no field says it: a request without a length has no body, and a reply goes to the end
+abbrev pub unsaid : Kind → Framing
+unsaid Request = Nothing
+unsaid Reply = UntilEnd
+unsaid NoBody = Nothing

@@ -1,0 +1,146 @@
+// Where a body ends.
+ghost use Rattle.std.specs.Prelude.{◌≡◌, ◌≢◌, ◌<◌, ℕ, codes, not, ◌||◌, true, false, IsTrue, Ok, Err, IfSome, MatchOption};
+ghost use Rattle.units.specs.Folding.{folded};
+ghost use Rattle.http_heads.specs.Fields.{is_named, count_of, first_value};
+ghost use Rattle.http_bodies.specs.Framings.{length_name, coding_name, length_number, is_length, says_length, unsaid};
+
+use http_heads::{Field, Fields};
+use units::{fold_eq, value_of_digits};
+
+/// Whose body it is.
+#[derive(Clone, Copy, Debug, PartialEq, Eq)]
+pub enum Kind {
+    Request,
+    Reply,
+    /// A reply to HEAD, or one with the status 204 or 304.
+    NoBody,
+}
+
+/// Where a body ends.
+#[derive(Clone, Copy, Debug, PartialEq, Eq)]
+pub enum Framing {
+    /// There is no body.
+    Nothing,
+    /// After so many bytes.
+    Length(u64),
+    /// With its last chunk.
+    Chunked,
+    /// With the connection.
+    UntilEnd,
+}
+
+/// Why a body is refused.
+#[derive(Clone, Copy, Debug, PartialEq, Eq)]
+pub enum BodyError {
+    /// A Content-Length is no number of 64 bits, or two differ.
+    BadLength,
+    /// Content-Length and Transfer-Encoding, or a coding other than one `chunked`.
+    TwoFramings,
+    /// The bytes are no chunks.
+    BadChunk,
+    /// The body is longer than the limit.
+    TooLarge,
+    /// The body isn't whole.
+    Early,
+    NoMemory,
+}
+
+/// Where the body of a message with these fields ends (RFC 9112, section 6.3). `NoBody` looks at no
+/// field. It takes no memory.
+pub fn frame(fields: &Fields, kind: Kind) -> Result<Framing, BodyError>
+    ensures no_body { kind ≡ Kind.NoBody → result ≡ Ok Framing.Nothing }
+    ensures unsaid { kind ≢ Kind.NoBody → count_of length_name fields.now ≡ 0 → count_of coding_name fields.now ≡ 0
+        → result ≡ Ok (unsaid kind) }
+    ensures both { kind ≢ Kind.NoBody → 0 < count_of length_name fields.now → 0 < count_of coding_name fields.now
+        → result ≡ Err BodyError.TwoFramings }
+    ensures chunked { kind ≢ Kind.NoBody → count_of length_name fields.now ≡ 0 → count_of coding_name fields.now ≡ 1
+        → IfSome (first_value coding_name fields.now) (λ coding. folded coding ≡ codes "chunked" → result ≡ Ok Framing.Chunked) }
+    ensures other_coding { kind ≢ Kind.NoBody → count_of length_name fields.now ≡ 0 → count_of coding_name fields.now ≡ 1
+        → IfSome (first_value coding_name fields.now) (λ coding. folded coding ≢ codes "chunked" → result ≡ Err BodyError.TwoFramings) }
+    ensures codings { kind ≢ Kind.NoBody → 1 < count_of coding_name fields.now → result ≡ Err BodyError.TwoFramings }
+    ensures length { kind ≢ Kind.NoBody → 0 < count_of length_name fields.now → count_of coding_name fields.now ≡ 0
+        → (n : ℕ) → IsTrue (says_length n fields.now) → result ≡ Ok (Framing.Length n) }
+    ensures no_length { kind ≢ Kind.NoBody → 0 < count_of length_name fields.now → count_of coding_name fields.now ≡ 0
+        → ((n : ℕ) → ¬ (IsTrue (says_length n fields.now))) → result ≡ Err BodyError.BadLength }
+{
+    if kind == Kind::NoBody {
+        return Ok(Framing::Nothing);
+    }
+    let lengths = fields.count(b"content-length");
+    let codings = fields.count(b"transfer-encoding");
+    if codings > 0 {
+        if lengths == 0 && codings == 1 && is_chunked(fields) {
+            return Ok(Framing::Chunked);
+        }
+        return Err(BodyError::TwoFramings);
+    }
+    if lengths > 0 {
+        return match said_length(fields) {
+            Some(length) => Ok(Framing::Length(length)),
+            None => Err(BodyError::BadLength),
+        };
+    }
+    match kind {
+        Kind::Reply => Ok(Framing::UntilEnd),
+        _ => Ok(Framing::Nothing),
+    }
+}
+
+// Whether the first Transfer-Encoding is `chunked`.
+fn is_chunked(fields: &Fields) -> bool
+    ensures { IfSome (first_value coding_name fields.now) (λ coding. (folded coding ≡ codes "chunked" → result ≡ true)
+        × (folded coding ≢ codes "chunked" → result ≡ false)) }
+{
+    match fields.first(b"transfer-encoding") {
+        Some(coding) => fold_eq(coding.bytes(), b"chunked"),
+        None => false,
+    }
+}
+
+// The length that every Content-Length says.
+fn said_length(fields: &Fields) -> Option<u64>
+    requires { 0 < count_of length_name fields.now }
+    ensures { MatchOption result ((n : ℕ) → ¬ (IsTrue (says_length n fields.now))) (λ n. IsTrue (says_length n fields.now)
+        × ((m : ℕ) → IsTrue (says_length m fields.now) → m ≡ n)) }
+{
+    let first = match fields.first(b"content-length") {
+        Some(first) => first,
+        None => return None,
+    };
+    let length = match length_of(first.bytes()) {
+        Some(length) => length,
+        None => return None,
+    };
+    if all_agree(fields.as_slice(), length) {
+        Some(length)
+    } else {
+        None
+    }
+}
+
+fn length_of(value: &[u8]) -> Option<u64>
+    ensures { result ≡ length_number value.now }
+{
+    if value.is_empty() {
+        return None;
+    }
+    value_of_digits(value)
+}
+
+fn all_agree(fields: &[Field], length: u64) -> bool
+    ensures { result ≡ says_length length fields.now }
+{
+    fields.iter().all(|field| agrees(length, field))
+}
+
+fn agrees(length: u64, field: &Field) -> bool
+    ensures { result ≡ (not (is_named length_name field.now) || is_length length field.now.value) }
+{
+    if !fold_eq(b"content-length", field.name.bytes()) {
+        return true;
+    }
+    match length_of(field.value.bytes()) {
+        Some(said) => said == length,
+        None => false,
+    }
+}

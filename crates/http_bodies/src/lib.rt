@@ -1,0 +1,17 @@
+//! The bodies of HTTP messages: where they end, and reading them in any pieces.
+//!
+//! Contract for the layer above: `frame` says by the fields where a body ends. A `BodyReader` takes a
+//! body in pieces. Whatever the pieces are, what it takes next is what was left of the body before, by
+//! the grammar in `specs/Bodies.antt`, so the cut into pieces changes nothing.
+#![tactic(auto)]
+
+mod framing;
+mod place;
+mod reader;
+mod steps;
+#[cfg(test)]
+mod tests;
+
+pub use framing::{BodyError, Framing, Kind, frame};
+pub use place::Place;
+pub use reader::BodyReader;

@@ -1,0 +1,202 @@
+use super::*;
+use http_heads::Fields;
+use std::alloc::{AllocError, Global};
+use std::test::Fail;
+use units::Text;
+
+// How a body ends: its bytes, a refusal, or None where bytes stand behind its end.
+fn read_in_two(
+    alloc: Global,
+    framing: Framing,
+    limit: u64,
+    first: &[u8],
+    second: &[u8],
+) -> Result<Text, BodyError> {
+    let mut reader = BodyReader::of(alloc, framing, limit);
+    reader.feed(first)?;
+    reader.feed(second)?;
+    reader.finish(alloc)
+}
+
+// Whether the body is this one, wherever it is cut.
+fn is_body(alloc: Global, framing: Framing, limit: u64, bytes: &[u8], body: &[u8]) -> bool {
+    for at in 0..=bytes.len() {
+        match read_in_two(alloc, framing, limit, &bytes[..at], &bytes[at..]) {
+            Ok(read) => {
+                if read.bytes() != body {
+                    return false;
+                }
+            }
+            Err(_) => return false,
+        }
+    }
+    true
+}
+
+// Whether the body is refused so, wherever it is cut.
+fn is_refused(alloc: Global, framing: Framing, limit: u64, bytes: &[u8], error: BodyError) -> bool {
+    for at in 0..=bytes.len() {
+        match read_in_two(alloc, framing, limit, &bytes[..at], &bytes[at..]) {
+            Ok(_) => return false,
+            Err(refusal) => {
+                if refusal != error {
+                    return false;
+                }
+            }
+        }
+    }
+    true
+}
+
+// Whole bodies in chunks, and what they are.
+const CHUNKED: [(&[u8], &[u8]); 14] = [
+    (b"0\r\n\r\n", b""),
+    (b"2\r\nhi\r\n0\r\n\r\n", b"hi"),
+    (b"1\r\nh\r\n1\r\ni\r\n0\r\n\r\n", b"hi"),
+    (b"0002\r\nhi\r\n000\r\n\r\n", b"hi"),
+    (b"a\r\n0123456789\r\n0\r\n\r\n", b"0123456789"),
+    (b"A\r\n0123456789\r\n0\r\n\r\n", b"0123456789"),
+    (b"2;x\r\nhi\r\n0\r\n\r\n", b"hi"),
+    (b"2;x=\"y\"\r\nhi\r\n0;z\r\n\r\n", b"hi"),
+    (b"2 \t\r\nhi\r\n0\r\n\r\n", b"hi"),
+    (b"2\r\n\r\n\r\n0\r\n\r\n", b"\r\n"),
+    (b"2\r\nhi\r\n0\r\nA: b\r\n\r\n", b"hi"),
+    (b"2\r\nhi\r\n0\r\nA: b\r\nC: d\r\n\r\n", b"hi"),
+    (b"2\r\nhi\r\n0\r\nA: b\n\n", b"hi"),
+    (b"0000000000000002\r\nhi\r\n0\r\n\r\n", b"hi"),
+];
+
+const BAD_CHUNKS: [&[u8]; 14] = [
+    b"g\r\n",
+    b"\r\n",
+    b" 2\r\nhi\r\n",
+    b"-2\r\nhi\r\n",
+    b"2\nhi\r\n",
+    b"2\rhi\r\n",
+    b"2 x\r\nhi\r\n",
+    b"2;a\nb\r\nhi\r\n",
+    b"00000000000000002\r\nhi\r\n",
+    b"2\r\nhix",
+    b"2\r\nhi\n0\r\n\r\n",
+    b"2\r\nhi\r0\r\n\r\n",
+    b"2\r\nhi\r\n0\r\nA b\r\n\r\n",
+    b"2\r\nhi\r\n0\r\n A: b\r\n\r\n",
+];
+
+const EARLY: [&[u8]; 8] = [
+    b"",
+    b"2",
+    b"2\r\n",
+    b"2\r\nh",
+    b"2\r\nhi\r\n",
+    b"2\r\nhi\r\n0\r\n",
+    b"2\r\nhi\r\n0\r\n\r",
+    b"2\r\nhi\r\n0\r\nA: b\r\n",
+];
+
+#[test]
+fn chunks(rt: HostRuntime) {
+    let alloc = rt.alloc();
+    for (bytes, body) in CHUNKED {
+        assert!(rt;
+            is_body(alloc, Framing::Chunked, 10, bytes, body),
+            "{bytes:?}"
+        );
+    }
+    for bytes in BAD_CHUNKS {
+        assert!(rt;
+            is_refused(alloc, Framing::Chunked, 10, bytes, BodyError::BadChunk),
+            "{bytes:?}"
+        );
+    }
+    for bytes in EARLY {
+        assert!(rt;
+            is_refused(alloc, Framing::Chunked, 10, bytes, BodyError::Early),
+            "{bytes:?}"
+        );
+    }
+    let large = BodyError::TooLarge;
+    assert!(rt; is_refused(alloc, Framing::Chunked, 1, b"2\r\nhi\r\n0\r\n\r\n", large));
+    assert!(rt;
+        is_refused(
+            alloc,
+            Framing::Chunked,
+            1,
+            b"1\r\nh\r\n1\r\ni\r\n0\r\n\r\n",
+            large
+        )
+    );
+    assert!(rt; is_refused(alloc, Framing::Chunked, 9, b"ffffffffffffffff\r\n", large));
+}
+
+#[test]
+fn other_framings(rt: HostRuntime) {
+    let alloc = rt.alloc();
+    assert!(rt; is_body(alloc, Framing::Nothing, 9, b"", b""));
+    assert!(rt; is_body(alloc, Framing::Length(0), 0, b"", b""));
+    assert!(rt; is_body(alloc, Framing::Length(3), 3, b"abc", b"abc"));
+    assert!(rt; is_body(alloc, Framing::UntilEnd, 3, b"abc", b"abc"));
+    assert!(rt; is_refused(alloc, Framing::Length(3), 9, b"ab", BodyError::Early));
+    assert!(rt; is_refused(alloc, Framing::Length(3), 2, b"abc", BodyError::TooLarge));
+    assert!(rt; is_refused(alloc, Framing::UntilEnd, 2, b"abc", BodyError::TooLarge));
+    let mut reader = BodyReader::of(alloc, Framing::Length(2), 9);
+    assert!(rt; matches!(reader.feed(b"abc"), Ok(2)));
+    assert!(rt; reader.done());
+    let mut reader = BodyReader::of(alloc, Framing::Chunked, 9);
+    assert!(rt; matches!(reader.feed(b"1\r\na\r\n0\r\n\r\nGET"), Ok(11)));
+    assert!(rt; reader.done());
+}
+
+fn fields_of(alloc: Global, lines: &[(&[u8], &[u8])]) -> Result<Fields, AllocError> {
+    let mut fields = Fields::new(alloc);
+    for (name, value) in lines {
+        let name = Text::of(alloc, name)?;
+        let value = Text::of(alloc, value)?;
+        let _ = fields.append(&name, &value);
+    }
+    Ok(fields)
+}
+
+#[test]
+fn frames(rt: HostRuntime) -> Result<(), Fail> {
+    let alloc = rt.alloc();
+    let length = b"Content-Length".as_slice();
+    let coding = b"transfer-encoding".as_slice();
+    let nothing = fields_of(alloc, &[])?;
+    assert_eq!(rt; frame(&nothing, Kind::Request), Ok(Framing::Nothing));
+    assert_eq!(rt; frame(&nothing, Kind::Reply), Ok(Framing::UntilEnd));
+    let cases: [(&[(&[u8], &[u8])], Result<Framing, BodyError>); 10] = [
+        (&[(length, b"12")], Ok(Framing::Length(12))),
+        (
+            &[(length, b"012"), (length, b"12")],
+            Ok(Framing::Length(12)),
+        ),
+        (
+            &[(length, b"12"), (length, b"13")],
+            Err(BodyError::BadLength),
+        ),
+        (&[(length, b"12, 12")], Err(BodyError::BadLength)),
+        (&[(length, b"")], Err(BodyError::BadLength)),
+        (
+            &[(length, b"18446744073709551616")],
+            Err(BodyError::BadLength),
+        ),
+        (&[(coding, b"Chunked")], Ok(Framing::Chunked)),
+        (&[(coding, b"gzip, chunked")], Err(BodyError::TwoFramings)),
+        (
+            &[(coding, b"chunked"), (coding, b"chunked")],
+            Err(BodyError::TwoFramings),
+        ),
+        (
+            &[(coding, b"chunked"), (length, b"2")],
+            Err(BodyError::TwoFramings),
+        ),
+    ];
+    for (lines, wanted) in cases {
+        let fields = fields_of(alloc, lines)?;
+        assert_eq!(rt; frame(&fields, Kind::Reply), wanted, "{lines:?}");
+        assert_eq!(rt; frame(&fields, Kind::Request), wanted, "{lines:?}");
+        assert_eq!(rt; frame(&fields, Kind::NoBody), Ok(Framing::Nothing));
+    }
+    Ok(())
+}
