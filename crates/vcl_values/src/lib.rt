@@ -1,0 +1,15 @@
+//! The values of VCL and its patterns.
+//!
+//! Contract for the layer above: what a value is as a text and in a condition, how two values compare, and
+//! what their sum and difference are, are functions on values in `specs/`, and each call here answers what
+//! its function does. A pattern is seen as its text; what it finds and replaces in a text is what the crate
+//! `regex` means by the text's reading.
+#![tactic(auto)]
+
+mod comparisons;
+mod sums;
+mod value;
+
+pub use comparisons::{Comparison, compare};
+pub use sums::{MOST_MILLISECONDS, MOST_TEXT, ValueError, difference, sum};
+pub use value::{Backend, Kind, Value};
