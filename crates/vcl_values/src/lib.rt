@@ -7,9 +7,12 @@
 #![tactic(auto)]
 
 mod comparisons;
+mod pattern;
+mod replacement;
 mod sums;
 mod value;
 
 pub use comparisons::{Comparison, compare};
+pub use pattern::{MOST_PATTERN, Pattern, PatternError};
 pub use sums::{MOST_MILLISECONDS, MOST_TEXT, ValueError, difference, sum};
 pub use value::{Backend, Kind, Value};

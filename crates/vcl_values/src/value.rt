@@ -24,6 +24,22 @@ pub struct Backend {
     pub key: Option<Text>,
 }
 
+impl Backend {
+    /// The same backend again; its texts are shared.
+    pub fn copy(&self) -> Result<Backend, AllocError>
+        ensures { IfOk result (λ copy. copy ≡ self.now) }
+    {
+        let name = self.name.copy()?;
+        match &self.key {
+            None => Ok(Backend { name, key: None }),
+            Some(key) => Ok(Backend {
+                name,
+                key: Some(key.copy()?),
+            }),
+        }
+    }
+}
+
 /// A value of VCL: a text or an absent one, a whole number, a time in milliseconds, a truth, an address, or a
 /// backend or none.
 #[derive(Drop)]
@@ -48,6 +64,22 @@ impl Value {
             Value::Bool(_) => Kind::Bool,
             Value::Ip(_) => Kind::Ip,
             Value::Backend(_) => Kind::Backend,
+        }
+    }
+
+    /// The same value again; its texts are shared.
+    pub fn copy(&self) -> Result<Value, AllocError>
+        ensures { IfOk result (λ copy. copy ≡ self.now) }
+    {
+        match self {
+            Value::String(None) => Ok(Value::String(None)),
+            Value::String(Some(text)) => Ok(Value::String(Some(text.copy()?))),
+            Value::Int(number) => Ok(Value::Int(*number)),
+            Value::Duration(milliseconds) => Ok(Value::Duration(*milliseconds)),
+            Value::Bool(truth) => Ok(Value::Bool(*truth)),
+            Value::Ip(address) => Ok(Value::Ip(*address)),
+            Value::Backend(None) => Ok(Value::Backend(None)),
+            Value::Backend(Some(backend)) => Ok(Value::Backend(Some(backend.copy()?))),
         }
     }
 
