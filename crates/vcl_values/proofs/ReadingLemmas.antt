@@ -1,9 +1,9 @@
 -- From what `regex` says of a pattern that it read or refused to the text's reading.
-use Rattle.std.proofs.Common.{◌≡◌, ◌≢◌, ◌⊎◌, ◌<◌, ◌≤◌, ℕ, Bool, true, List, Option, Some, None, IsSomeAnd, IfSome, is_some, option_map, refl, sym, ◌∙◌, ap, inl, inr, ⊎_elim, get_or, length, false, option_and_then}
+use Rattle.std.proofs.Common.{◌≡◌, ◌≢◌, ◌⊎◌, ◌<◌, ◌≤◌, ℕ, true, List, Option, Some, None, IsSomeAnd, IfSome, is_some, option_map, refl, sym, ◌∙◌, ap, inl, inr, ⊎_elim, get_or, length, false, option_and_then}
 use Rattle.std.proofs.lemmas.Bool.{cond-true, cond-false, false_from_ne_true}
 use Rattle.std.proofs.lemmas.Str.{IsUtf8-from_is_utf8}
 use Rattle.std.specs.Str.{is_utf8, chars, IsUtf8}
-use Rattle.regex.specs.Patterns.{Re, Match, find, SameCaptures, Reads, Refuses}
+use Rattle.regex.specs.Patterns.{Re, find, SameCaptures, Reads, Refuses}
 use Rattle.regex.specs.Bytes.{regex_source, regex_pattern}
 use Rattle.regex.specs.declared.bytes.regex.Regex.{Regex}
 use Rattle.regex_syntax.specs.Brackets.{Nested}

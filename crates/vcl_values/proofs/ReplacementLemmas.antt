@@ -1,6 +1,5 @@
 -- What is replaced, from what `regex` says of a replacement by a function.
-use Rattle.std.proofs.Common.{◌≡◌, ℕ, ◌<◌, ◌≤◌, ◌+◌, ◌*◌, zero, suc, Bool, true, false, List, [], ◌∷◌, ◌++◌, map, take, drop, Option, Some, None, refl, sym, ◌∙◌, ap, ap₂, get_or, slice_range, if◌then◌else◌, ◌==◌, ne_eqb, arith}
-use mathlib.Core.Path.{fun_ext}
+use Rattle.std.proofs.Common.{◌≡◌, ℕ, ◌<◌, ◌+◌, ◌*◌, zero, suc, Bool, true, false, List, [], ◌∷◌, ◌++◌, map, take, Option, Some, refl, sym, ◌∙◌, ap, ap₂, get_or, slice_range, if◌then◌else◌, ◌==◌, ne_eqb, arith}
 use Rattle.std.proofs.lemmas.List.{take-map}
 use Rattle.std.proofs.lemmas.Bool.{cond-false}
 use Rattle.std.specs.Option.{option_map_or}
@@ -8,7 +7,7 @@ use Rattle.regex.specs.Patterns.{Re, Match, find_all, SameCaptures, span}
 use Rattle.regex.specs.Search.{group_span, first_or_all}
 use Rattle.regex.specs.Writes.{group_of, both}
 use Rattle.regex.specs.Replace.{replaced_by, IsReplacedInTurn, group_bytes, bytes_of}
-use Rattle.regex.specs.Bytes.{IsCapturesOf, regex_source, regex_pattern, match_span}
+use Rattle.regex.specs.Bytes.{IsCapturesOf, regex_source, regex_pattern}
 use Rattle.regex.specs.declared.bytes.regex.Regex.{Regex}
 use Rattle.regex.specs.declared.bytes.captures.Captures.{Captures}
 use Rattle.regex.proofs.ForCallers.{spans, find_all_alike}
@@ -20,8 +19,8 @@ use Rattle.vcl_values.proofs.ReadingLemmas.{tree_of-regex}
 
 -- a replacement in turn, where each step keeps a fact of the state and writes what is told of the match
 pub replaced_by-in_turn : {S : Type 0} (Writes : S → Match → List ℕ → S → Type 0) (Keeps : S → Type 0) (told : Match → List ℕ)
-  → ((s : S) (m : Match) (w : List ℕ) (next : S) → Keeps s → Writes s m w next → (w ≡ told m) × Keeps next)
-  → (hay : List ℕ) (ms : List Match) (s : S) (at : ℕ) (out : List ℕ) → Keeps s → IsReplacedInTurn Writes hay s at ms out → out ≡ replaced_by told hay at ms
+    → ((s : S) (m : Match) (w : List ℕ) (next : S) → Keeps s → Writes s m w next → (w ≡ told m) × Keeps next)
+    → (hay : List ℕ) (ms : List Match) (s : S) (at : ℕ) (out : List ℕ) → Keeps s → IsReplacedInTurn Writes hay s at ms out → out ≡ replaced_by told hay at ms
 unfolding replaced_by
 replaced_by-in_turn Writes Keeps told tells hay [] s at out kept turn = turn
 replaced_by-in_turn Writes Keeps told tells hay (m ∷ ms) s at out kept turn =
@@ -43,7 +42,7 @@ written_alike by hay x y same =
 
 -- lists of matches that are seen alike are replaced alike
 pub replaced_by-alike : (by hay : List ℕ) (xs ys : List Match) → map spans xs ≡ map spans ys → (at : ℕ)
-  → replaced_by (λ m. written (group_bytes hay m) by) hay at xs ≡ replaced_by (λ m. written (group_bytes hay m) by) hay at ys
+    → replaced_by (λ m. written (group_bytes hay m) by) hay at xs ≡ replaced_by (λ m. written (group_bytes hay m) by) hay at ys
 unfolding replaced_by
 replaced_by-alike by hay [] [] same at = refl
 replaced_by-alike by hay [] (y ∷ ys) same at = absurd cc
@@ -58,16 +57,18 @@ replaced_by-alike by hay (x ∷ xs) (y ∷ ys) same at =
 
 -- the matches that are replaced, of the regex and of its text
 pub replaced-regex : (r : Regex) → IsReadHere r → (text by : List ℕ) → ((k : ℕ) → get_or text k 0 < 256) → (all : Bool)
-  → replaced_by (λ m. written (group_bytes text m) by) text 0 (first_or_all (if all then 0 else 1) (find_all (regex_pattern r) text)) ≡ replaced (regex_source r) text by all
+    → replaced_by (λ m. written (group_bytes text m) by) text 0 (first_or_all (if all then 0 else 1) (find_all (regex_pattern r) text)) ≡ replaced (regex_source r) text by all
 unfolding replaced all_found
 replaced-regex r here text by bytes all = go (tree_of-regex r here) all
   where
     told : Match → List ℕ
     told m = written (group_bytes text m) by
+
     ms : List Match
     ms = find_all (regex_pattern r) text
+
     go : (t : Re) × (tree_of (regex_source r) ≡ Some t) × SameCaptures (regex_pattern r) t → (all : Bool)
-      → replaced_by told text 0 (first_or_all (if all then 0 else 1) ms) ≡ replaced_by told text 0 (chosen (regex_source r) text all)
+        → replaced_by told text 0 (first_or_all (if all then 0 else 1) ms) ≡ replaced_by told text 0 (chosen (regex_source r) text all)
     go t true = replaced_by-alike by text ms (find_all t.0 text) (find_all_alike t.2 text bytes false) 0
         ∙ ap (λ o. replaced_by told text 0 (option_map_or (λ re. find_all re text) o [])) (sym t.1)
     go t false = replaced_by-alike by text (take 1 ms) (take 1 (find_all t.0 text)) (sym (take-map spans 1 ms) ∙ ap (take 1) (find_all_alike t.2 text bytes false) ∙ take-map spans 1 (find_all t.0 text)) 0

@@ -1,5 +1,5 @@
 -- Patterns of VCL as the crate `regex` reads them: over bytes, with Unicode classes.
-use Rattle.std.specs.Prelude.{◌≡◌, ◌<◌, ◌≤◌, false, List, ℕ, [], Option, Some, None, option_map, option_and_then, IsSomeAnd, if◌then◌else◌}
+use Rattle.std.specs.Prelude.{◌≡◌, ◌<◌, ◌≤◌, false, List, ℕ, [], Option, None, option_map, option_and_then, IsSomeAnd, if◌then◌else◌}
 use Rattle.std.specs.Option.{option_map_or}
 use Rattle.std.specs.Str.{chars, is_utf8}
 use Rattle.regex.specs.Patterns.{Re, Match, find, find_all, Config, default_config}

@@ -10,6 +10,8 @@ mod comparisons;
 mod pattern;
 mod replacement;
 mod sums;
+#[cfg(test)]
+mod tests;
 mod value;
 
 pub use comparisons::{Comparison, compare};

@@ -1,4 +1,4 @@
-use Rattle.std.proofs.Common.{◌≡◌, is_some, ◌∙◌, ap, arith}
+use Rattle.std.proofs.Common.{is_some, ◌∙◌, ap, arith}
 use Rattle.regex.specs.Patterns.{find}
 use Rattle.vcl_values.proofs.ReadingLemmas.{first_found-regex}
 use Rattle.vcl_values.proofs.pattern.has_match.Goals as goal

@@ -1,7 +1,6 @@
-use Rattle.std.proofs.Common.{◌≡◌, ◌∙◌, ap, sym, inl, true}
+use Rattle.std.proofs.Common.{◌∙◌, ap, inl}
 use Rattle.std.specs.Str.{is_utf8}
 use Rattle.std.proofs.lemmas.Str.{is_utf8-from_IsUtf8}
-use Rattle.regex.specs.Bytes.{regex_source}
 use Rattle.vcl_values.specs.Readings.{IsAccepted}
 use Rattle.vcl_values.specs.ReadHere.{IsReadHere}
 use Rattle.vcl_values.proofs.ReadingLemmas.{HasNoReading-bytes, IsAccepted-reading, refusal_cause, IsAccepted-regex}
