@@ -1,0 +1,93 @@
+// Reading one word.
+ghost use Rattle.std.specs.Prelude.{◌≡◌, ◌↔◌, IsTrue, ℕ, List, ◌<◌, IfOk, MatchOption, IfSome, option_map, length};
+ghost use Rattle.units.specs.Quoted.{IsQuoted};
+ghost use Rattle.cli_words.specs.Words.{ReadsWord, ReadsPlain, IsWordEnd, is_blank, plain_piece};
+
+use std::alloc::{AllocError, Global};
+use units::{Text, quoted, read_escape};
+
+/// The word that the bytes begin with, and what is behind it. None where they begin with none.
+pub fn read_word(alloc: Global, start: &[u8]) -> Result<Option<(Text, &[u8])>, AllocError>
+    requires { 0 < length start.now }
+    ensures word { IfOk result (λ found. MatchOption found
+        ((word rest : List ℕ) → ReadsWord word start.now rest → ⊥)
+        (λ x. ReadsWord x.0 start.now x.1.now)) }
+    ensures shorter { IfOk result (λ found. IfSome found (λ x. length x.1.now < length start.now)) }
+{
+    if start[0] == b'"' {
+        let Some((word, rest)) = read_quoted(alloc, start)? else {
+            return Ok(None);
+        };
+        return Ok(Some((word, rest)));
+    }
+    read_plain(alloc, start)
+}
+
+// The quoted text that the bytes begin with.
+fn read_quoted(alloc: Global, start: &[u8]) -> Result<Option<(Text, &[u8])>, AllocError>
+    ensures word { IfOk result (λ found. MatchOption found
+        ((word rest : List ℕ) → IsQuoted word start.now rest → ⊥)
+        (λ x. IsQuoted x.0 start.now x.1.now)) }
+    ensures shorter { IfOk result (λ found. IfSome found (λ x. length x.1.now < length start.now)) }
+{
+    let Some((text, behind)) = quoted(alloc, start, 0)? else {
+        return Ok(None);
+    };
+    Ok(Some((text, &start[behind..])))
+}
+
+// The plain word that the bytes begin with.
+fn read_plain(alloc: Global, start: &[u8]) -> Result<Option<(Text, &[u8])>, AllocError>
+    ensures word { IfOk result (λ found. MatchOption found
+        ((word rest : List ℕ) → 0 < length word → ReadsPlain word start.now rest → IsWordEnd rest → ⊥)
+        (λ x. (0 < length x.0) × ReadsPlain x.0 start.now x.1.now × IsWordEnd x.1.now)) }
+    ensures shorter { IfOk result (λ found. IfSome found (λ x. length x.1.now < length start.now)) }
+{
+    let mut word = Vec::new(alloc);
+    let mut rest = start;
+    'pieces: while let Some((value, behind)) = read_piece(rest) {
+        word.push(value)?;
+        rest = behind;
+    }
+    if word.len() == 0 {
+        return Ok(None);
+    }
+    if !is_word_end(rest) {
+        return Ok(None);
+    }
+    Ok(Some((Text::of(alloc, word.as_slice())?, rest)))
+}
+
+// The byte that the first piece of a plain word stands for, and what is behind the piece.
+fn read_piece(bytes: &[u8]) -> Option<(u8, &[u8])>
+    ensures piece { option_map (λ x. (x.0, x.1.now)) result ≡ plain_piece bytes.now }
+{
+    match bytes {
+        [] => None,
+        [first, rest @ ..] => {
+            if *first == b'\\' {
+                return read_escape(rest);
+            }
+            if is_blank_byte(*first) {
+                return None;
+            }
+            Some((*first, rest))
+        }
+    }
+}
+
+fn is_word_end(rest: &[u8]) -> bool
+    ensures { IsTrue result ↔ IsWordEnd rest.now }
+{
+    match rest {
+        [] => true,
+        [first, ..] => is_blank_byte(*first),
+    }
+}
+
+/// Space and tab.
+pub fn is_blank_byte(byte: u8) -> bool
+    ensures { result ≡ is_blank byte }
+{
+    byte == b' ' || byte == b'\t'
+}

@@ -1,0 +1,4 @@
+pub mod Totals
+pub mod Lookups
+pub mod Reserves
+pub mod Steps

@@ -1,0 +1,6 @@
+mod LineLemmas
+mod HeadLines
+mod Fronts
+mod RequestFacts
+mod ResponseFacts
+mod PrintFacts

@@ -1,0 +1,5 @@
+pub mod Fields
+pub mod Lines
+pub mod Heads
+pub mod Spans
+pub mod Printed

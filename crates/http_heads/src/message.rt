@@ -1,0 +1,37 @@
+// The head of a message, as a value.
+use crate::Fields;
+use units::Text;
+
+/// The head of a request.
+#[derive(Drop)]
+pub struct RequestHead {
+    pub method: Text,
+    /// The target as it stands in the request line.
+    pub url: Text,
+    /// 10 for HTTP/1.0, 11 for HTTP/1.1.
+    pub version: u8,
+    pub fields: Fields,
+}
+
+/// The head of a response.
+#[derive(Drop)]
+pub struct ResponseHead {
+    /// 10 for HTTP/1.0, 11 for HTTP/1.1.
+    pub version: u8,
+    pub status: u16,
+    /// The reason phrase, which may be empty.
+    pub reason: Text,
+    pub fields: Fields,
+}
+
+/// Why bytes are refused as a head.
+#[derive(Clone, Copy, Debug, PartialEq, Eq)]
+pub enum HeadError {
+    /// No bytes that could follow make a head.
+    Bad,
+    /// 32,768 bytes hold no head.
+    TooLong,
+    /// The start line and 65 lines behind it have come, none of them empty.
+    TooMany,
+    NoMemory,
+}

@@ -1,0 +1,19 @@
+//! Plays a session: a schedule of rounds over a cache, and the transcript that it writes.
+//!
+//! Contract for the layer above: `run_session` writes the transcript of the session over the history that
+//! it hands out, and says by its refusal what else ended it, and where. The transcript, and what each
+//! refusal means, are relations in `specs/` between the session's events, a history and a text.
+#![tactic(auto)]
+
+mod event;
+mod fixed;
+mod lines;
+mod messages;
+mod policy;
+mod schedule;
+mod session;
+
+pub use event::{Event, NumberedEvent, Script};
+pub use fixed::Visit;
+pub use policy::{Arrival, Given, Policy, Request, Want};
+pub use session::{ReplayError, Replayed, play_session};

@@ -1,0 +1,48 @@
+// The lines of a transcript.
+ghost use Rattle.std.specs.Prelude.{◌≡◌, ◌++◌, ◌∷◌, [], IfOk, codes};
+ghost use Rattle.std.specs.Fmt.{decimal};
+ghost use Rattle.replay.specs.Scene.{fetch_line, response_line};
+
+use std::alloc::{AllocError, Global};
+use units::{push_number, quote};
+
+/// The line of an exchange that begins.
+#[tactic(auto, unfolding(crate::specs::Scene::fetch_line))]
+pub(crate) fn write_fetch_line(
+    alloc: Global,
+    number: u64,
+    backend: &[u8],
+    request: &[u8],
+) -> Result<Vec<u8>, AllocError>
+    ensures { IfOk result (λ line. line.items ≡ fetch_line number backend.now request.now) }
+{
+    let quoted = quote(alloc, request)?;
+    let mut line = Vec::new(alloc);
+    line.extend_from_slice(b"fetch ")?;
+    push_number(&mut line, alloc, number)?;
+    line.extend_from_slice(b" ")?;
+    line.extend_from_slice(backend)?;
+    line.extend_from_slice(b" ")?;
+    line.extend_from_slice(quoted.bytes())?;
+    line.extend_from_slice(b"\n")?;
+    Ok(line)
+}
+
+/// The line of a response.
+#[tactic(auto, unfolding(crate::specs::Scene::response_line))]
+pub(crate) fn write_response_line(
+    alloc: Global,
+    client: u32,
+    response: &[u8],
+) -> Result<Vec<u8>, AllocError>
+    ensures { IfOk result (λ line. line.items ≡ response_line client response.now) }
+{
+    let quoted = quote(alloc, response)?;
+    let mut line = Vec::new(alloc);
+    line.extend_from_slice(b"resp ")?;
+    push_number(&mut line, alloc, u64::from(client))?;
+    line.extend_from_slice(b" ")?;
+    line.extend_from_slice(quoted.bytes())?;
+    line.extend_from_slice(b"\n")?;
+    Ok(line)
+}

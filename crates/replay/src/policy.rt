@@ -1,0 +1,83 @@
+// What a round wants next, after what it was given.
+ghost use Rattle.std.specs.Prelude.{◌≡◌, List, [], ◌∷◌, IfOk, OnOk, false};
+ghost use Rattle.replay.specs.declared.policy.Request.{Request as Asked};
+ghost use Rattle.replay.specs.declared.policy.Given.{Given as Gift};
+ghost use Rattle.replay.specs.declared.policy.Want.{Want as Wish};
+ghost use Rattle.replay.specs.Policy.{is_response};
+
+use cache_law::{Call, Reply};
+use std::alloc::{AllocError, Global};
+use units::{Copied, Text};
+
+/// A request for `url` at `host`, and the number of the client that sends it.
+#[derive(Drop)]
+pub struct Request {
+    pub client: u32,
+    pub url: Text,
+    pub host: Text,
+}
+
+impl Copied for Request {
+    fn copied(&self, alloc: Global) -> Result<Self, AllocError> {
+        Ok(Request {
+            client: self.client,
+            url: self.url.copy()?,
+            host: self.host.copy()?,
+        })
+    }
+}
+
+/// A backend's reply: when it came, and its body.
+#[derive(Drop)]
+pub struct Arrival {
+    pub moment: u64,
+    pub body: Text,
+}
+
+/// What a round is given.
+#[derive(Drop)]
+pub enum Given {
+    /// It begins.
+    Start,
+    /// Its call was entered at this moment, with this reply.
+    Told { moment: u64, reply: Reply },
+    /// Its exchange is over.
+    Came(Arrival),
+    /// Its response was sent.
+    Sent,
+}
+
+/// What a round wants.
+#[derive(Drop)]
+pub enum Want {
+    /// A call of the cache.
+    Ask(Call),
+    /// An exchange with a backend, for the fetch of this number.
+    Exchange {
+        number: u64,
+        backend: Text,
+        request: Text,
+    },
+    /// That the client gets these bytes.
+    Respond(Text),
+    /// Nothing more.
+    Done,
+}
+
+/// How a round is led, from the request on, one want after another.
+pub trait Policy: Drop {
+    /// After these givens, newest first, a round of this request wants this.
+    ghost wants: { Asked → List Gift → Wish → Type 0 };
+
+    /// The round has this request and was given these.
+    ghost stands: { Self → Asked → List Gift → Type 0 };
+
+    fn start(alloc: Global, request: Request) -> Result<Self, AllocError>
+        ensures { IfOk result (λ round. stands round request []) };
+
+    /// The next want. A response is never followed by another at once.
+    fn resume(&mut self, alloc: Global, given: Given) -> Result<Want, AllocError>
+        ensures stands { OnOk result ((request : Asked) (givens : List Gift) → stands self.old request givens → stands self.new request (given ∷ givens)) }
+        ensures wanted { IfOk result (λ want. (request : Asked) (givens : List Gift) → stands self.old request givens → wants request (given ∷ givens) want) }
+        ensures calm { given ≡ Given.Sent → IfOk result (λ want. is_response want ≡ false) };
+}

@@ -1,0 +1,100 @@
+// A whole session.
+ghost use Rattle.std.specs.Prelude.{◌≡◌, ◌≤◌, Some};
+ghost use Rattle.wire.specs.Causes.{Rose};
+ghost use Rattle.replay.specs.Replayed.{IsReplayed, error_for, refusal_of};
+
+use crate::event::Script;
+use crate::schedule::{Break, Halt, Play, play_events};
+use crate::Policy;
+use cache_law::{Boot, CacheCore, Entry, Params};
+use std::alloc::Global;
+use units::Sequence;
+use wire::Sink;
+
+/// Why a session wasn't played to its end.
+#[derive(Clone, Copy, Debug)]
+pub enum ReplayError {
+    /// At this line a client sends a request while it is under way, or a fetch gets a reply that has no
+    /// exchange under way.
+    Idle(u32),
+    /// At this line, the session's `end`, an exchange is under way.
+    Unanswered(u32),
+    /// The sink failed.
+    WriteFault,
+    /// A call doesn't fit the history's limit.
+    HistoryFull,
+    NoMemory,
+}
+
+/// What was played: the history of the cache, and why there is no more of it.
+#[derive(Drop)]
+pub struct Replayed {
+    pub history: Sequence<Entry>,
+    pub refusal: Option<ReplayError>,
+}
+
+fn error_of(halt: Halt) -> ReplayError
+    ensures { result ≡ error_for halt }
+{
+    match halt {
+        Halt::Idle(line) => ReplayError::Idle(line),
+        Halt::Broken(Break::WriteFault) => ReplayError::WriteFault,
+        Halt::Broken(Break::HistoryFull) => ReplayError::HistoryFull,
+        Halt::Broken(Break::NoMemory) => ReplayError::NoMemory,
+    }
+}
+
+/// What ends a session whose events were played so, where rounds still wait or not.
+fn refusal(played: Result<(), Halt>, nobody_waits: bool, end: u32) -> Option<ReplayError>
+    ensures { result ≡ refusal_of played nobody_waits end }
+{
+    match played {
+        Ok(()) => {
+            if nobody_waits {
+                None
+            } else {
+                Some(ReplayError::Unanswered(end))
+            }
+        }
+        Err(halt) => Some(error_of(halt)),
+    }
+}
+
+/// Plays a session over a cache of this kind, its rounds led by this policy, and writes its transcript.
+pub fn play_session<C: CacheCore + Drop, P: Policy, K: Sink>(
+    alloc: Global,
+    script: &Script,
+    params: &Params,
+    boot: Boot,
+    sink: &mut K,
+) -> Replayed
+    ensures replayed { IsReplayed P.wants script.now params.now boot (K.held sink.old) (K.held sink.new) result }
+    ensures later { K.faults sink.old ≤ K.faults sink.new }
+    ensures cause { result.refusal ≡ Some ReplayError.WriteFault → Rose (K.faults sink.old) (K.faults sink.new) }
+{
+    let core = match C::make(alloc, params, boot) {
+        Ok(core) => core,
+        Err(_) => {
+            return Replayed {
+                history: Sequence::new(alloc),
+                refusal: Some(ReplayError::NoMemory),
+            };
+        }
+    };
+    let mut play: Play<C, P> = Play {
+        core,
+        moment: 0,
+        waiting: Vec::new(alloc),
+    };
+    let played = play_events(alloc, &mut play, sink, script.events.as_slice());
+    let refusal = refusal(played, play.waiting.as_slice().is_empty(), script.end);
+    let Play {
+        core,
+        moment: _,
+        waiting: _,
+    } = play;
+    Replayed {
+        history: core.into_history(),
+        refusal,
+    }
+}

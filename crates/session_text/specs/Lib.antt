@@ -1,0 +1,7 @@
+pub mod Errors
+pub mod Faults
+pub mod Keywords
+pub mod Lines
+pub mod Readings
+pub mod Sessions
+pub mod Turns

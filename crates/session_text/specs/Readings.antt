@@ -1,0 +1,68 @@
+-- What one line of a session says.
+use Rattle.std.specs.Prelude.{ℕ, ◌≡◌, ◌≢◌, ◌<◌, ◌≤◌, ◌^◌, ◌⊎◌, List, [], ◌∷◌, ◌++◌, length, codes}
+use Rattle.std.specs.List.{AllByRecursion}
+use Rattle.units.specs.Numbers.{IsNumber}
+use Rattle.units.specs.Quoted.{IsQuoted}
+use Rattle.session_text.specs.declared.session.FaultKind.TheVariants.{Word, Unknown, Argument}
+use Rattle.session_text.specs.declared.session.Line.{Line}
+use Rattle.session_text.specs.declared.session.Line.TheVariants.{At, Req, Reply, Fail, Cli, Lurk}
+use Rattle.session_text.specs.declared.reading.Reading.{Reading}
+use Rattle.session_text.specs.declared.reading.Reading.TheVariants.{Passed, End, Says, Bad}
+
+-- the text has no blank
+abbrev pub IsWord : List ℕ → Type 0
+IsWord text = AllByRecursion (λ byte. byte ≢ 32) text
+
+-- the text's first word
+abbrev pub HasWord : List ℕ → List ℕ → Type 0
+HasWord text word = IsWord word × ((text ≡ word) ⊎ ((argument : List ℕ) × (text ≡ word ++ 32 ∷ argument)))
+
+-- the word that a line begins with
+abbrev pub word_for : Line → List ℕ
+word_for (At moment) = codes "at"
+word_for (Req client text) = codes "req"
+word_for (Reply fetch text) = codes "reply"
+word_for (Fail fetch) = codes "fail"
+word_for (Cli text) = codes "cli"
+word_for (Lurk count) = codes "lurk"
+
+-- what stands behind the word and its blank
+abbrev pub IsArgument : Line → List ℕ → Type 0
+IsArgument (At moment) argument = IsNumber argument moment × (moment ≤ 253402300799999)
+IsArgument (Req client text) argument =
+    (number quoted : List ℕ) × (argument ≡ number ++ 32 ∷ quoted) × IsNumber number client × (0 < client) × (client ≤ 250) × IsQuoted text quoted [] × (0 < length text)
+IsArgument (Reply fetch text) argument =
+    (number quoted : List ℕ) × (argument ≡ number ++ 32 ∷ quoted) × IsNumber number fetch × IsQuoted text quoted []
+IsArgument (Fail fetch) argument = IsNumber argument fetch
+IsArgument (Cli text) argument = argument ≡ text
+IsArgument (Lurk count) argument = IsNumber argument count × (count < 2 ^ 32)
+
+-- the text is this line: its word, a blank, and what the word takes
+abbrev pub IsLine : List ℕ → Line → Type 0
+IsLine text line = (argument : List ℕ) × (text ≡ word_for line ++ 32 ∷ argument) × IsArgument line argument
+
+-- the text is passed over: it is empty, or begins with `#`
+abbrev pub IsPassed : List ℕ → Type 0
+IsPassed [] = Unit {0}
+IsPassed (first ∷ rest) = first ≡ 35
+
+-- the words of the language
+abbrev pub IsKnown : List ℕ → Type 0
+IsKnown word = (word ≡ codes "end") ⊎ ((line : Line) × (word ≡ word_for line))
+
+-- `req` or `reply`, a word, and something that should be a quoted text and is none
+abbrev pub HasBadText : List ℕ → Type 0
+HasBadText text =
+    (word number quoted : List ℕ) × ((word ≡ codes "req") ⊎ (word ≡ codes "reply")) × (text ≡ word ++ 32 ∷ (number ++ 32 ∷ quoted)) × IsWord number × ((values : List ℕ) → IsQuoted values quoted [] → ⊥)
+
+-- What a text is read as: each text in one way. A text without a meaning has the least kind of fault: a text
+-- that isn't quoted as it should be, else a first word that isn't known, else what the word takes.
+abbrev pub IsReading : List ℕ → Reading → Type 0
+IsReading text Passed = IsPassed text
+IsReading text End = text ≡ codes "end"
+IsReading text (Says line) = IsLine text line
+IsReading text (Bad Word) = HasBadText text
+IsReading text (Bad Unknown) = (IsPassed text → ⊥) × ((word : List ℕ) → HasWord text word → IsKnown word → ⊥)
+IsReading text (Bad Argument) =
+    ((word : List ℕ) × HasWord text word × IsKnown word) × (text ≢ codes "end") × ((line : Line) → IsLine text line → ⊥) × (HasBadText text → ⊥)
+IsReading text (Bad kind) = ⊥

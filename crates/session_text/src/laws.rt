@@ -1,0 +1,13 @@
+// Laws of sessions and their faults.
+ghost use Rattle.std.specs.Prelude.{◌≡◌, ℕ, List};
+ghost use Rattle.session_text.specs.declared.session.Session.{Session as TheSession};
+ghost use Rattle.session_text.specs.declared.session.FaultKind.{FaultKind as Kind};
+ghost use Rattle.session_text.specs.Sessions.{IsSession, IsFault};
+
+/// A text is one session, or it has one fault, and not both.
+pub fn one_meaning(text: &[u8])
+    ensures one_session { (s t : TheSession) → IsSession text.now s → IsSession text.now t → s ≡ t }
+    ensures one_fault { (x y : ℕ) (a b : Kind) → IsFault text.now x a → IsFault text.now y b → (x ≡ y) × (a ≡ b) }
+    ensures not_both { (s : TheSession) (x : ℕ) (a : Kind) → IsSession text.now s → IsFault text.now x a → ⊥ }
+    ensures not_neither { ((s : TheSession) → IsSession text.now s → ⊥) → ((x : ℕ) (a : Kind) → IsFault text.now x a → ⊥) → ⊥ }
+{}

@@ -1,0 +1,21 @@
+//! The program's outside: where bytes come from and where they go.
+//!
+//! Contract for the layer above: a source and a sink each have a count of faults that never falls. An
+//! error, and a write that takes nothing, come only where the count rose in that call. Where a source
+//! tells what it has left, a read gives its front; where a sink tells what it holds, a write adds a
+//! front of the piece, and an error adds nothing. `write_all` and `read_all` keep that over many calls.
+#![tactic(auto)]
+
+mod copying;
+mod failing;
+mod stream;
+#[cfg(test)]
+mod tests;
+mod traits;
+mod unfailing;
+
+pub use copying::{ReadError, WriteFault, read_all, write_all};
+pub use failing::{FailingSink, FailingSource};
+pub use stream::{StreamSink, StreamSource};
+pub use traits::{Failed, Sink, Source};
+pub use unfailing::{UnfailingSink, UnfailingSource};
