@@ -1,0 +1,3 @@
+pub mod DecisionLemmas
+pub mod SignLemmas
+pub mod SoundnessLemmas

@@ -1,0 +1,2 @@
+pub mod Acl
+pub mod Signs

@@ -1,0 +1,17 @@
+//! Address lists of VCL: networks of IPv4 with a sign each, and whether a list takes an address.
+//!
+//! Contract for the layer above: an `Acl` is seen as the list of its entries, in which no mask is over 32
+//! and no network stands with both signs; it takes an address exactly where the entry with the longest
+//! mask that holds the address isn't negated.
+#![tactic(auto)]
+
+mod acl;
+mod deciding;
+mod entry;
+mod faults;
+mod network;
+#[cfg(test)]
+mod tests;
+
+pub use acl::{Acl, AclError};
+pub use entry::{AclEntries, AclEntry};

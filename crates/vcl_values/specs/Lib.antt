@@ -1,0 +1,6 @@
+pub mod Values
+pub mod Operators
+pub mod Readings
+pub mod Replacements
+pub mod Captured
+pub mod ReadHere
