@@ -78,7 +78,7 @@ entered params boot entries room used old new caller reading moment call answer 
       moment = at_ ∙ ap (λ (s : State). max s.moment reading) by_reached;
       place = refl;
       follows = subst (λ (s : State). Follows params boot s (record { caller = caller; moment = moment; call = call; reply = answer.told })) by_reached
-        (record { no_earlier = omega (arith, at_); answer = answers.allows });
+          (record { no_earlier = omega (arith, at_); answer = answers.allows });
       fits = subst (λ (s : State). Fits params boot s (bytes_of_all entries) caller moment call) by_reached fits_;
     }
 
