@@ -1,5 +1,5 @@
 -- What a lookup answers, where the place of the first object that serves is known.
-use Rattle.std.proofs.Common.{zero, suc, ◌≤◌, ◌≡◌, ℕ, Bool, true, false, cond, List, [], ◌∷◌, ◌+◌, ◌<◌, length, get_or, ◌++◌, set, find, position, if◌then◌else◌, slice_get, Option, Some, None, refl, arith, sym, ap, ◌∙◌, subst, nat_lt}
+use Rattle.std.proofs.Common.{zero, suc, ◌≤◌, ◌≡◌, ℕ, Bool, true, false, cond, List, [], ◌∷◌, ◌+◌, ◌<◌, length, get_or, set, find, position, if◌then◌else◌, slice_get, Some, None, refl, arith, sym, ap, ◌∙◌, subst, nat_lt}
 use Rattle.std.specs.List.{position_or_len}
 use Rattle.std.proofs.lemmas.List.Folds.{find_at}
 use Rattle.std.proofs.lemmas.Bool.{ltb-true, ltb-false, cond-true}

@@ -7,11 +7,11 @@ use Rattle.cache_law.specs.declared.object.Object.{Object}
 use Rattle.cache_law.specs.declared.call.Call.{Call}
 use Rattle.cache_law.specs.declared.call.Call.TheVariants.{Begin, Lookup, Pick, Insert, End}
 use Rattle.cache_law.specs.declared.call.Reply.{Reply}
-use Rattle.cache_law.specs.declared.call.Reply.TheVariants.{Began, NoRound, Hit, Miss, Picked, Stored, NotOpen, NotInTime, NoRoom, Refused, Ended}
+use Rattle.cache_law.specs.declared.call.Reply.TheVariants.{Began, Miss, Stored, NotOpen, Ended}
 use Rattle.cache_law.specs.declared.call.Entry.{Entry}
 use Rattle.cache_law.specs.declared.cache.Told.{Told}
 use Rattle.cache_law.specs.State.{State, reserve, has_fetch, without_fetch}
-use Rattle.cache_law.specs.Law.{reply_to, after, after_begin, after_lookup, after_insert, after_end, allowed}
+use Rattle.cache_law.specs.Law.{reply_to, after, after_begin, after_lookup, after_insert, after_end}
 use Rattle.cache_law.specs.History.{bytes_of, bytes_of_all, Fits, Follows, reached, Legal}
 use Rattle.cache_law.specs.Core.{Entered, entry_of, is_kept}
 use Rattle.cache_law.proofs.Histories.{reached-push, bytes_of_all-push, bytes_of_all-least, Legal-push}

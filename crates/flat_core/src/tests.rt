@@ -154,7 +154,11 @@ fn rounds(rt: HostRuntime) -> Result<(), Fail> {
         let answer = core.step(alloc, caller, reading, call_of(alloc, ask)?);
         assert_eq!(rt; outcome(&answer), wanted, "{place}");
         if let Ok(told) = answer {
-            assert_eq!(rt; (told.place, told.moment), (place as u64, moment), "{place}");
+            assert_eq!(rt;
+                (told.place, told.moment),
+                (place as u64, moment),
+                "{place}"
+            );
         }
     }
     let history = core.into_history();

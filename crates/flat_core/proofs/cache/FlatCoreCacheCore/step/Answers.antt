@@ -1,8 +1,8 @@
-use Rattle.std.proofs.Common.{rules, ◌≡◌, ◌<◌, ◌+◌, ◌^◌, arith, length, ◌≤◌, ◌++◌, ◌∷◌, [], sym, subst}
+use Rattle.std.proofs.Common.{rules, ◌≡◌, ◌<◌, ◌+◌, arith, length, ◌≤◌, ◌++◌, ◌∷◌, [], sym, subst}
 use Rattle.std.specs.Vec.{vec_capacity}
 use Rattle.cache_law.specs.History.{Fits, Legal, bytes_of}
 use Rattle.flat_core.specs.Plain.{Plain}
-use Rattle.flat_core.proofs.Steps.{next_fits, sound_behind, legal_behind, room_kept, opens_few, entered}
+use Rattle.flat_core.proofs.Steps.{sound_behind, legal_behind, room_kept, opens_few, entered}
 use Rattle.flat_core.proofs.cache.FlatCoreCacheCore.step.Goals as goal
 
 pub overflow_cast-open : goal.overflow_cast-open
