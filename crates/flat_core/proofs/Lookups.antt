@@ -1,5 +1,5 @@
 -- What a lookup answers, where the place of the first object that serves is known.
-use Rattle.std.proofs.Common.{zero, suc, ◌≤◌, ◌≡◌, ℕ, Bool, true, false, cond, List, [], ◌∷◌, ◌+◌, ◌<◌, length, get_or, ◌++◌, set, find, position, if◌then◌else◌, slice_get, Option, Some, None, refl, arith, sym, ap, ◌∙◌, subst, nat_lt}
+use Rattle.std.proofs.Common.{zero, suc, ◌≤◌, ◌≡◌, ℕ, Bool, true, false, cond, List, [], ◌∷◌, ◌+◌, ◌<◌, length, get_or, set, find, position, if◌then◌else◌, slice_get, Some, None, refl, arith, sym, ap, ◌∙◌, subst, nat_lt}
 use Rattle.std.specs.List.{position_or_len}
 use Rattle.std.proofs.lemmas.List.Folds.{find_at}
 use Rattle.std.proofs.lemmas.Bool.{ltb-true, ltb-false, cond-true}
@@ -56,7 +56,7 @@ hit_answers old caller moment key request place objects answer opened at_ told t
     let told_ : answer.told ≡ Hit (raised view) = told view ∙ ap (λ (v : ObjectView). Hit (raised v)) (h.2 view) in
     let law = replies old caller moment key opened (Hit (raised view)) (ap (hit_or_miss old.next) h.1) in
     let counted_ : objects ≡ set old.objects (position_or_len (serves key moment) old.objects) (raised view) =
-        counted view ∙ ap (λ (v : ObjectView). set old.objects place (raised v)) (h.2 view) ∙ ap (λ (i : ℕ). set old.objects i (raised view)) (sym h.3) in
+    counted view ∙ ap (λ (v : ObjectView). set old.objects place (raised v)) (h.2 view) ∙ ap (λ (i : ℕ). set old.objects i (raised view)) (sym h.3) in
     record {
       twice = twice;
       allows = subst (λ (t : Reply). t ≡ allowed t (if has_round old.rounds caller then hit_or_miss old.next (find (serves key moment) old.objects) else NoRound)) (sym told_) (sym law);

@@ -24,7 +24,7 @@ lookup_by_cases old caller moment key request true (Some view) = refl
 pub lookup_reserve : (params : Params) (boot : Boot) (old : State) (caller moment : ℕ) (key : List (List ℕ)) (request : RequestView) (misses : Bool) → misses ≡ (has_round old.rounds caller && is_none (position (serves key moment) old.objects)) → 64 * (cond misses (length old.rounds + length old.fetches + 1) (length old.rounds + length old.fetches)) ≡ reserve (after old caller moment (Lookup key request) (reply_to params boot old caller moment (Lookup key request)))
 lookup_reserve params boot old caller moment key request misses e =
     ap (λ (b : Bool). 64 * (cond b (length old.rounds + length old.fetches + 1) (length old.rounds + length old.fetches)))
-      (e ∙ ap (λ (b : Bool). has_round old.rounds caller && b) (sym (none_by_place (serves key moment) old.objects (position (serves key moment) old.objects) refl)))
+    (e ∙ ap (λ (b : Bool). has_round old.rounds caller && b) (sym (none_by_place (serves key moment) old.objects (position (serves key moment) old.objects) refl)))
     ∙ lookup_by_cases old caller moment key request (has_round old.rounds caller) (find (serves key moment) old.objects)
 
 insert_by_cases : (old : State) (caller moment token : ℕ) (object : Object) (opened lives full : Bool) → 64 * (length old.rounds + cond opened (length (without_fetch token old.fetches)) (length old.fetches)) ≡ reserve (after old caller moment (Insert token object) (cond opened (cond lives (cond full NoRoom (Stored token)) NotInTime) NotOpen))

@@ -7,11 +7,11 @@ use Rattle.cache_law.specs.declared.object.Object.{Object}
 use Rattle.cache_law.specs.declared.call.Call.{Call}
 use Rattle.cache_law.specs.declared.call.Call.TheVariants.{Begin, Lookup, Pick, Insert, End}
 use Rattle.cache_law.specs.declared.call.Reply.{Reply}
-use Rattle.cache_law.specs.declared.call.Reply.TheVariants.{Began, NoRound, Hit, Miss, Picked, Stored, NotOpen, NotInTime, NoRoom, Refused, Ended}
+use Rattle.cache_law.specs.declared.call.Reply.TheVariants.{Began, Miss, Stored, NotOpen, Ended}
 use Rattle.cache_law.specs.declared.call.Entry.{Entry}
 use Rattle.cache_law.specs.declared.cache.Told.{Told}
 use Rattle.cache_law.specs.State.{State, reserve, has_fetch, without_fetch}
-use Rattle.cache_law.specs.Law.{reply_to, after, after_begin, after_lookup, after_insert, after_end, allowed}
+use Rattle.cache_law.specs.Law.{reply_to, after, after_begin, after_lookup, after_insert, after_end}
 use Rattle.cache_law.specs.History.{bytes_of, bytes_of_all, Fits, Follows, reached, Legal}
 use Rattle.cache_law.specs.Core.{Entered, entry_of, is_kept}
 use Rattle.cache_law.proofs.Histories.{reached-push, bytes_of_all-push, bytes_of_all-least, Legal-push}
@@ -78,7 +78,7 @@ entered params boot entries room used old new caller reading moment call answer 
       moment = at_ ∙ ap (λ (s : State). max s.moment reading) by_reached;
       place = refl;
       follows = subst (λ (s : State). Follows params boot s (record { caller = caller; moment = moment; call = call; reply = answer.told })) by_reached
-        (record { no_earlier = omega (arith, at_); answer = answers.allows });
+          (record { no_earlier = omega (arith, at_); answer = answers.allows });
       fits = subst (λ (s : State). Fits params boot s (bytes_of_all entries) caller moment call) by_reached fits_;
     }
 

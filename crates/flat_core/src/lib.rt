@@ -11,3 +11,6 @@ mod lists;
 mod store;
 
 pub use cache::FlatCore;
+
+#[cfg(test)]
+mod tests;

@@ -4,7 +4,9 @@ ghost use Rattle.cache_law.specs.State.{has_round, has_fetch, without_fetch, wit
 ghost use Rattle.cache_law.specs.Law.{serves, room_wanted};
 ghost use Rattle.cache_law.specs.Object.{size_of, those_in_time};
 
-use cache_law::{Object, ObjectView, OpenFetch, OpenRound, is_fresh_at, is_in_time, object_size, same_key};
+use cache_law::{
+    Object, ObjectView, OpenFetch, OpenRound, is_fresh_at, is_in_time, object_size, same_key,
+};
 use units::Text;
 
 /// Whether a round of the caller is open.
@@ -88,7 +90,10 @@ pub(crate) fn count_without(fetches: &[OpenFetch], token: u64) -> usize
 pub(crate) fn count_fetches_without(fetches: &[OpenFetch], caller: u32) -> usize
     ensures { result ≡ length (without_fetches_of caller fetches.now) }
 {
-    fetches.iter().filter(|fetch| fetch.caller != caller).count()
+    fetches
+        .iter()
+        .filter(|fetch| fetch.caller != caller)
+        .count()
 }
 
 pub(crate) fn count_rounds_without(rounds: &[OpenRound], caller: u32) -> usize

@@ -12,8 +12,14 @@ ghost use Rattle.cache_law.specs.Core.{is_kept};
 ghost use Rattle.flat_core.specs.Step.{Answers};
 
 use crate::answer::Answer;
-use crate::lists::{count_fetches_without, count_rounds_without, count_without, close_fetch, close_fetches_of, close_round_of, has_fetch, has_round, keep_in_time, place_of, room_for};
-use cache_law::{Boot, Call, Object, ObjectView, OpenFetch, OpenRound, Params, Reply, RequestView, entry_bytes, is_in_time};
+use crate::lists::{
+    close_fetch, close_fetches_of, close_round_of, count_fetches_without, count_rounds_without,
+    count_without, has_fetch, has_round, keep_in_time, place_of, room_for,
+};
+use cache_law::{
+    Boot, Call, Object, ObjectView, OpenFetch, OpenRound, Params, Reply, RequestView, entry_bytes,
+    is_in_time,
+};
 use std::alloc::{AllocError, Global};
 use std::marker::Model;
 use units::{Copied, Sequence, Text};
@@ -37,11 +43,11 @@ impl Model for Store {
     ghost Value = { State };
 
     ghost view = { λ s. record {
-        moment = s.moment;
-        next = s.next;
-        objects = s.objects.items;
-        fetches = s.fetches.items;
-        rounds = s.rounds.items;
+      moment = s.moment;
+      next = s.next;
+      objects = s.objects.items;
+      fetches = s.fetches.items;
+      rounds = s.rounds.items;
     } };
 }
 

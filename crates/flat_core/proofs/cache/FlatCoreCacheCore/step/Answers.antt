@@ -1,8 +1,8 @@
-use Rattle.std.proofs.Common.{rules, ◌≡◌, ◌<◌, ◌+◌, ◌^◌, arith, length, ◌≤◌, ◌++◌, ◌∷◌, [], sym, subst}
+use Rattle.std.proofs.Common.{rules, ◌≡◌, ◌<◌, ◌+◌, arith, length, ◌≤◌, ◌++◌, ◌∷◌, [], sym, subst}
 use Rattle.std.specs.Vec.{vec_capacity}
 use Rattle.cache_law.specs.History.{Fits, Legal, bytes_of}
 use Rattle.flat_core.specs.Plain.{Plain}
-use Rattle.flat_core.proofs.Steps.{next_fits, sound_behind, legal_behind, room_kept, opens_few, entered}
+use Rattle.flat_core.proofs.Steps.{sound_behind, legal_behind, room_kept, opens_few, entered}
 use Rattle.flat_core.proofs.cache.FlatCoreCacheCore.step.Goals as goal
 
 pub overflow_cast-open : goal.overflow_cast-open
@@ -36,5 +36,5 @@ returns-clause-legal c legal =
     let fits : Fits c.self.inside.params c.self.inside.boot c.self.inside.store c.self.inside.used c.args.caller c.max-moment.result c.args.call = search rules in
     let items : c.push_within_room.new.entries.items ≡ c.self.inside.entries.items ++ record { caller = c.args.caller; moment = c.max-moment.result; call = c.args.call; reply = c.in-Ok.answer.kept } ∷ [] = search rules in
     rw items (legal_behind c.self.inside.params c.self.inside.boot c.self.inside.entries.items _ c.args.caller c.args.reading c.args.call _
-      (entered c.self.inside.params c.self.inside.boot c.self.inside.entries.items (vec_capacity c.self.inside.entries) c.self.inside.used c.self.inside.store c.answer.new.self c.args.caller c.args.reading c.max-moment.result c.args.call c.in-Ok.answer c.self.invariant (search rules) fits (search rules))
-      (subst (λ (v : Plain). Legal v.params v.boot v.entries) (sym c.self.view_is) legal))
+    (entered c.self.inside.params c.self.inside.boot c.self.inside.entries.items (vec_capacity c.self.inside.entries) c.self.inside.used c.self.inside.store c.answer.new.self c.args.caller c.args.reading c.max-moment.result c.args.call c.in-Ok.answer c.self.invariant (search rules) fits (search rules))
+    (subst (λ (v : Plain). Legal v.params v.boot v.entries) (sym c.self.view_is) legal))

@@ -1,4 +1,4 @@
-use Rattle.std.proofs.Common.{rules, ◌≡◌, true}
+use Rattle.std.proofs.Common.{rules}
 use Rattle.flat_core.proofs.Lookups.{hit_answers, miss_answers}
 use Rattle.flat_core.proofs.store.Store.lookup.Goals as goal
 

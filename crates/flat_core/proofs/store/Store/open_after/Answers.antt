@@ -1,4 +1,4 @@
-use Rattle.std.proofs.Common.{rules, ◌≡◌, true, false, arith}
+use Rattle.std.proofs.Common.{rules, true, false}
 use Rattle.flat_core.proofs.Reserves.{lookup_reserve, insert_reserve}
 use Rattle.flat_core.proofs.store.Store.open_after.Goals as goal
 
