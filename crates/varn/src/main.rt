@@ -6,6 +6,8 @@
 
 mod outcome;
 mod run;
+#[cfg(test)]
+mod tests;
 
 use outcome::{Note, Status};
 use run::run;
