@@ -3,7 +3,7 @@ use Rattle.std.specs.Prelude.{ℕ, ℤ, Bool, List, ◌+◌, ◌*◌, ◌+ℤ◌
 use Rattle.std.specs.Int.Signed.{lt_z}
 use Rattle.std.specs.Str.{bytes_eq}
 use Rattle.std.specs.Cmp.Lexicographic.{pointwise}
-use Rattle.cache_law.specs.declared.object.Field.{Field}
+use Rattle.http_heads.specs.declared.fields.Field.{Field}
 use Rattle.cache_law.specs.declared.object.Timing.{Timing}
 use Rattle.cache_law.specs.declared.object.Object.{Object}
 use Rattle.cache_law.specs.declared.object.ObjectView.{ObjectView}

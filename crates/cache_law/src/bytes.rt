@@ -3,7 +3,8 @@ ghost use Rattle.std.specs.Prelude.{◌≡◌, ◌+◌, ◌-◌, ◌^◌, min, s
 ghost use Rattle.cache_law.specs.Object.{size_of, texts_len, fields_len};
 ghost use Rattle.cache_law.specs.History.{bytes_of, call_len};
 
-use crate::{Call, Field, Object};
+use crate::{Call, Object};
+use http_heads::Field;
 use units::Text;
 
 /// A sum that stops at the greatest number of 128 bits.

@@ -1,5 +1,6 @@
 // The calls of a cache, its replies, and an entry of its history.
-use crate::{Fields, Object, ObjectView};
+use crate::{Object, ObjectView};
+use http_heads::Fields;
 use std::alloc::{AllocError, Global};
 use units::{Copied, Sequence, Text};
 

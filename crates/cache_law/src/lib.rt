@@ -18,6 +18,6 @@ pub use bytes::{entry_bytes, object_size};
 pub use cache::{CacheCore, StepError, Told};
 pub use call::{Call, Entry, Reply, RequestView};
 pub use laws::closing_fits;
-pub use object::{Field, Fields, Object, ObjectView, Timing, is_fresh_at, is_in_time, same_key};
+pub use object::{Object, ObjectView, Timing, is_fresh_at, is_in_time, same_key};
 pub use setting::{Boot, Params};
 pub use state::{OpenFetch, OpenRound};

@@ -2,18 +2,9 @@
 ghost use Rattle.std.specs.Prelude.{◌≡◌, ◌^◌, ◌+ℤ◌, ◌≤ℤ◌, neg_ℤ, pos};
 ghost use Rattle.cache_law.specs.Object.{serves_key, in_time, is_fresh};
 
+use http_heads::Fields;
 use std::alloc::{AllocError, Global};
 use units::{Copied, Sequence, Text, same_text};
-
-/// A field of a message (RFC 9110, section 5).
-#[derive(Drop)]
-pub struct Field {
-    pub name: Text,
-    pub value: Text,
-}
-
-/// The fields of a message in their order.
-pub type Fields = Sequence<Field>;
 
 /// When an object came to be and how long it serves, in milliseconds. `origin` counts from 1970.
 #[derive(Clone, Copy, Debug)]
@@ -43,15 +34,6 @@ pub struct ObjectView {
     /// How often it was given.
     pub hits: u64,
     pub object: Object,
-}
-
-impl Copied for Field {
-    fn copied(&self, alloc: Global) -> Result<Self, AllocError> {
-        Ok(Field {
-            name: self.name.copy()?,
-            value: self.value.copy()?,
-        })
-    }
 }
 
 impl Copied for Object {

@@ -61,6 +61,13 @@ impl Fields {
         Fields { items }
     }
 
+    /// The vector of the fields, in the same memory.
+    pub fn into_vec(self) -> Vec<Field>
+        ensures { result.items ≡ self }
+    {
+        self.items
+    }
+
     pub fn as_slice(&self) -> &[Field]
         ensures { result.now ≡ self.now }
     {

@@ -1,7 +1,7 @@
 -- The policy that plain GET requests are led by: look the page up, else fetch it, store it and deliver it.
 use Rattle.std.specs.Prelude.{◌≡◌, ℕ, Option, Some, None, List, [], ◌∷◌, ◌++◌, pos, min, codes}
 use Rattle.std.specs.Fmt.{decimal}
-use Rattle.cache_law.specs.declared.object.Field.{Field}
+use Rattle.http_heads.specs.declared.fields.Field.{Field}
 use Rattle.cache_law.specs.declared.object.Object.{Object}
 use Rattle.cache_law.specs.declared.call.RequestView.{RequestView}
 use Rattle.cache_law.specs.declared.call.Call.TheVariants.{Begin, Lookup, Pick, Insert, End}

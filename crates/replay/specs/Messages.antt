@@ -2,7 +2,7 @@
 use Rattle.std.specs.Prelude.{ℕ, ℤ, List, [], ◌∷◌, ◌++◌, ◌/◌, ◌-ℤ◌, pos, negsuc, codes, length}
 use Rattle.std.specs.List.{flat_map}
 use Rattle.std.specs.Fmt.{decimal}
-use Rattle.cache_law.specs.declared.object.Field.{Field}
+use Rattle.http_heads.specs.declared.fields.Field.{Field}
 use Rattle.cache_law.specs.declared.object.Object.{Object}
 
 abbrev pub crlf : List ℕ

@@ -9,7 +9,8 @@ ghost use Rattle.replay.specs.declared.policy.Given.{Given as Gift};
 
 use crate::messages::{age_at, deliver, make_field, write_message};
 use crate::{Arrival, Given, Policy, Request, Want};
-use cache_law::{Call, Fields, Object, ObjectView, Reply, RequestView, Timing};
+use cache_law::{Call, Object, ObjectView, Reply, RequestView, Timing};
+use http_heads::Fields;
 use std::alloc::{AllocError, Global};
 use units::{Copied, Sequence, Text, push_number, write_number};
 
@@ -50,10 +51,10 @@ fn make_fields(alloc: Global, request: &Request) -> Result<Fields, AllocError>
     ensures { IfOk result (λ fields. fields ≡ request_fields request.now) }
 {
     let address = write_address(alloc, request.client)?;
-    let mut fields = Sequence::new(alloc);
+    let mut fields = Vec::new(alloc);
     fields.push(make_field(alloc, b"Host", request.host.bytes())?)?;
     fields.push(make_field(alloc, b"X-Forwarded-For", address.bytes())?)?;
-    Ok(fields)
+    Ok(Fields::from_vec(fields))
 }
 
 fn make_key(alloc: Global, request: &Request) -> Result<Sequence<Text>, AllocError>
@@ -88,9 +89,9 @@ fn backend_fields(alloc: Global, request: &Request, number: u64) -> Result<Field
     ensures { IfOk result (λ fields. fields ≡ request_fields request.now ++ field_of (codes "X-Varnish") (decimal number) ∷ []) }
 {
     let number = write_number(alloc, number)?;
-    let mut fields = make_fields(alloc, request)?;
+    let mut fields = make_fields(alloc, request)?.into_vec();
     fields.push(make_field(alloc, b"X-Varnish", number.bytes())?)?;
-    Ok(fields)
+    Ok(Fields::from_vec(fields))
 }
 
 #[tactic(auto, unfolding(crate::specs::FixedPolicy::backend_request))]
@@ -117,7 +118,7 @@ fn make_timing(moment: u64) -> Timing
 fn make_object(alloc: Global, request: &Request, arrival: &Arrival) -> Result<Object, AllocError>
     ensures { IfOk result (λ object. object ≡ fetched request.now arrival.now) }
 {
-    let mut fields = Sequence::new(alloc);
+    let mut fields = Vec::new(alloc);
     fields.push(make_field(
         alloc,
         b"Cache-Control",
@@ -127,7 +128,7 @@ fn make_object(alloc: Global, request: &Request, arrival: &Arrival) -> Result<Ob
         key: make_key(alloc, request)?,
         status: 200,
         reason: Text::of(alloc, b"OK")?,
-        fields,
+        fields: Fields::from_vec(fields),
         body: arrival.body.copy()?,
         timing: make_timing(arrival.moment),
     })

@@ -4,7 +4,8 @@ ghost use Rattle.std.specs.Fmt.{decimal};
 ghost use Rattle.std.specs.List.{flat_map};
 ghost use Rattle.replay.specs.Messages.{field_of, field_line, message, delivered, delivery_fields_of, age_of};
 
-use cache_law::{Field, Fields, Object};
+use cache_law::Object;
+use http_heads::{Field, Fields};
 use std::alloc::{AllocError, Global};
 use units::{Copied, Sequence, Text, push_number, write_number};
 
@@ -89,11 +90,11 @@ fn delivery_fields(
 {
     let age = write_number(alloc, age)?;
     let len = write_number(alloc, object.body.bytes().len() as u64)?;
-    let mut fields = object.fields.copied(alloc)?;
+    let mut fields = object.fields.copied(alloc)?.into_vec();
     fields.push(make_field(alloc, b"X-Varnish", numbers)?)?;
     fields.push(make_field(alloc, b"Age", age.bytes())?)?;
     fields.push(make_field(alloc, b"Content-Length", len.bytes())?)?;
-    Ok(fields)
+    Ok(Fields::from_vec(fields))
 }
 
 /// The response with an object.

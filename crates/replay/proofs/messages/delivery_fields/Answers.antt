@@ -1,7 +1,7 @@
 use Rattle.std.proofs.Common.{◌≡◌, ℕ, List, [], ◌∷◌, ◌++◌, ◌∙◌, ap, length}
 use Rattle.std.specs.Prelude.{codes}
 use Rattle.std.specs.Fmt.{decimal}
-use Rattle.cache_law.specs.declared.object.Field.{Field}
+use Rattle.http_heads.specs.declared.fields.Field.{Field}
 use Rattle.replay.specs.Messages.{field_of}
 use Rattle.std.proofs.lemmas.List.{append_assoc}
 use Rattle.replay.proofs.messages.delivery_fields.Goals as goal
