@@ -16,11 +16,11 @@ pub enum TokenKind {
     /// A word of the language, and its bytes.
     Word(Word, Text),
     /// An integer, at most 9,223,372,036,854,775,807.
-    Integer(u64),
+    Integer(i64),
     /// A decimal, as it is written.
     Decimal(Text),
     /// A duration in milliseconds, at most 10,000,000,000,000.
-    Duration(u64),
+    Duration(i64),
     /// A string, without its quotes.
     String(Text),
     Sign(Sign),
