@@ -6,14 +6,18 @@
 //! has one.
 #![tactic(auto)]
 
+mod copied;
+mod durations;
 mod folding;
 mod numbers;
 mod quotes;
 mod sequence;
 mod text;
 
+pub use copied::Copied;
+pub use durations::{one_duration, read_millis};
 pub use folding::fold_eq;
 pub use numbers::{one_number, push_number, read_number, value_of_digits, write_number};
 pub use quotes::{one_quoted, quote, quote_reads_back, quoted};
 pub use sequence::Sequence;
-pub use text::Text;
+pub use text::{Text, same_text};

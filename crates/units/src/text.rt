@@ -1,5 +1,6 @@
 // Bytes that don't change once they are made.
 ghost use Rattle.std.specs.Prelude.{◌≡◌, ◌↔◌, IsTrue, IfOk};
+ghost use Rattle.std.specs.Str.{bytes_eq};
 
 use std::alloc::{AllocError, Global};
 use std::marker::Model;
@@ -47,7 +48,8 @@ impl Text {
 
 /// Whether two texts have the same bytes.
 pub fn same_text(a: &Text, b: &Text) -> bool
-    ensures { IsTrue result ↔ (a.now ≡ b.now) }
+    ensures same { IsTrue result ↔ (a.now ≡ b.now) }
+    ensures value { result ≡ bytes_eq a.now b.now }
 {
     a.bytes() == b.bytes()
 }

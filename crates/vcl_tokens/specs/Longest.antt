@@ -1,5 +1,6 @@
 -- The longest front of the bytes that makes a piece behind a state.
-use Rattle.std.specs.Prelude.{ℕ, suc, ◌+◌, List, [], ◌∷◌, Option, Some, None}
+use Rattle.std.specs.Prelude.{ℕ, ◌+◌, List, [], ◌∷◌, Option, Some, None}
+use Rattle.std.specs.Option.{option_and_then}
 use Rattle.vcl_tokens.specs.declared.spelling.Form.{Form}
 use Rattle.vcl_tokens.specs.declared.spelling.State.{State}
 use Rattle.vcl_tokens.specs.Spelling.{form_at, next_state}
@@ -13,11 +14,6 @@ abbrev pub best_of : ℕ → Option (ℕ × Form) → Option (ℕ × Form) → O
 best_of n None best = best
 best_of n (Some piece) best = Some (n + piece.0, piece.1)
 
-abbrev mutual
-  pub longest_behind : State → List ℕ → Option (ℕ × Form)
-  longest_behind s [] = better (form_at s) 0 None
-  longest_behind s (b ∷ bs) = longest_after s (next_state s b) bs
-
-  pub longest_after : State → Option State → List ℕ → Option (ℕ × Form)
-  longest_after s None bs = better (form_at s) 0 None
-  longest_after s (Some t) bs = best_of 1 (longest_behind t bs) (better (form_at s) 0 None)
+abbrev pub longest_behind : State → List ℕ → Option (ℕ × Form)
+longest_behind s [] = better (form_at s) 0 None
+longest_behind s (b ∷ bs) = best_of 1 (option_and_then (λ t. longest_behind t bs) (next_state s b)) (better (form_at s) 0 None)

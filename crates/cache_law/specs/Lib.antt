@@ -1,0 +1,5 @@
+pub mod Object
+pub mod State
+pub mod Law
+pub mod History
+pub mod Core

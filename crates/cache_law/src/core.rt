@@ -1,0 +1,64 @@
+// A cache as the layers above know it.
+ghost use Rattle.std.specs.Prelude.{◌≡◌, ◌↔◌, [], List, IfOk, IfErr, OnErr, IsTrue, true, IsErrOf};
+ghost use Rattle.cache_law.specs.declared.call.Entry.{Entry as HistoryEntry};
+ghost use Rattle.cache_law.specs.declared.setting.Params.{Params as Limits};
+ghost use Rattle.cache_law.specs.declared.setting.Boot.{Boot as Opening};
+ghost use Rattle.cache_law.specs.Core.{Entered, FitsBehind, moment_of, is_kept};
+ghost use Rattle.cache_law.specs.History.{reached};
+
+use crate::{Boot, Call, Entry, Params, Reply};
+use std::alloc::{AllocError, Global};
+use units::Sequence;
+
+/// What a call is told: the moment and the reply of its entry, and the place of the entry in the history.
+#[derive(Drop)]
+pub struct Told {
+    pub moment: u64,
+    pub place: u64,
+    pub reply: Reply,
+}
+
+/// Why a call made no entry.
+#[derive(Clone, Copy, Debug)]
+pub enum StepError {
+    /// The call doesn't fit the history's limit.
+    HistoryFull,
+    NoMemory,
+}
+
+/// A cache: it answers calls one after another and keeps the history of them.
+pub trait CacheCore: Sized {
+    /// The entries so far, in order.
+    ghost history: { Self → List HistoryEntry };
+
+    ghost limits: { Self → Limits };
+
+    ghost opened: { Self → Opening };
+
+    /// A cache without an object or an entry.
+    fn make(alloc: Global, params: &Params, boot: Boot) -> Result<Self, AllocError>
+        ensures history { IfOk result (λ core. history core ≡ []) }
+        ensures params { IfOk result (λ core. limits core ≡ params.now) }
+        ensures boot { IfOk result (λ core. opened core ≡ boot) };
+
+    /// Answers one call of the caller, at the reading of the clock in milliseconds since 1970 or at the
+    /// moment of the entry before, where that is greater. After an error all is as before.
+    fn step(
+        &mut self,
+        alloc: Global,
+        caller: u32,
+        reading: u64,
+        call: Call,
+    ) -> Result<Told, StepError>
+        ensures told { IfOk result (Entered (limits self.old) (opened self.old) (history self.old) (history self.new) caller reading call) }
+        ensures full { IsErrOf result StepError.HistoryFull
+            ↔ ¬ FitsBehind (limits self.old) (opened self.old) (history self.old) caller (moment_of (history self.old) reading) call }
+        ensures kept { is_kept (reached (history self.old)) caller call ≡ true → IsErrOf result StepError.NoMemory → ⊥ }
+        ensures err { OnErr result (history self.new ≡ history self.old) }
+        ensures same { limits self.new ≡ limits self.old }
+        ensures same_boot { opened self.new ≡ opened self.old };
+
+    /// The history.
+    fn into_history(self) -> Sequence<Entry>
+        ensures { result ≡ history self };
+}

@@ -1,0 +1,24 @@
+// What is fixed for a run.
+use std::alloc::{AllocError, Global};
+use units::{Copied, Sequence, Text};
+
+/// The two limits of a run, in bytes.
+#[derive(Clone, Copy, Debug)]
+pub struct Params {
+    /// The most that the sizes of the objects in time may sum up to.
+    pub room: u64,
+    /// The most that the history may hold, with what is reserved for the closing of rounds and fetches.
+    pub history: u64,
+}
+
+impl Params {
+    pub const DEFAULT_ROOM: u64 = 268_435_456;
+    pub const DEFAULT_HISTORY: u64 = 268_435_456;
+}
+
+/// The opening VCL: its text, and the names of the backends that it declares.
+#[derive(Drop)]
+pub struct Boot {
+    pub text: Text,
+    pub backends: Sequence<Text>,
+}

@@ -1,0 +1,28 @@
+// A second value that is equal to the first.
+ghost use Rattle.std.specs.Prelude.{◌≡◌, ◌++◌, IfOk, OnOk, OnErr};
+
+use crate::{Sequence, Text};
+use std::alloc::{AllocError, Global};
+
+/// A value that can be copied, for want of memory or not at all.
+pub trait Copied {
+    /// An equal value. What it shares with this one can't be told.
+    fn copied(&self, alloc: Global) -> Result<Self, AllocError>
+        ensures { IfOk result (λ copy. copy ≡ self.now) };
+}
+
+impl Copied for Text {
+    fn copied(&self, alloc: Global) -> Result<Self, AllocError> {
+        self.copy()
+    }
+}
+
+impl<T: Copied + Drop> Copied for Sequence<T> {
+    fn copied(&self, alloc: Global) -> Result<Self, AllocError> {
+        let mut copy = Sequence::new(alloc);
+        for item in self.as_slice() {
+            copy.push(item.copied(alloc)?)?;
+        }
+        Ok(copy)
+    }
+}
