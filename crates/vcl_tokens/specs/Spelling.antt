@@ -1,6 +1,6 @@
 -- How the tokens of VCL are spelled (Varnish Reference Manual, VCL, "Strings", "Durations", "Operators",
 -- "Comments"): which byte may follow which, by cases on what stands before it.
-use Rattle.std.specs.Prelude.{ℕ, Bool, true, false, ◌==◌, ◌||◌, List, [], ◌∷◌, Option, Some, None, if◌then◌else◌}
+use Rattle.std.specs.Prelude.{ℕ, Bool, ◌==◌, ◌||◌, List, [], ◌∷◌, Option, Some, None, if◌then◌else◌}
 use Rattle.std.specs.Option.{option_and_then}
 use Rattle.std.specs.Char.{is_ascii_digit, is_ascii_alphabetic, is_ascii_alphanumeric}
 use Rattle.vcl_tree.specs.declared.token.Sign.{Sign}

@@ -32,7 +32,11 @@ fn scan(text: &[u8]) -> Option<(usize, Form)>
 }
 
 // A piece that ends at this length, or else the best before it.
-fn better_of(form: Option<Form>, length: usize, best: Option<(usize, Form)>) -> Option<(usize, Form)>
+fn better_of(
+    form: Option<Form>,
+    length: usize,
+    best: Option<(usize, Form)>,
+) -> Option<(usize, Form)>
     ensures { result ≡ better form length best }
 {
     match form {

@@ -256,7 +256,11 @@ fn within_line(byte: u8, quoted: State) -> Option<State>
 fn within_long(byte: u8) -> Option<State>
     ensures { result ≡ next_state State.Long byte }
 {
-    Some(if byte == b'"' { State::LongQuote } else { State::Long })
+    Some(if byte == b'"' {
+        State::LongQuote
+    } else {
+        State::Long
+    })
 }
 
 fn within_triple(byte: u8, quoted: State) -> Option<State>
