@@ -1,8 +1,8 @@
 // Why a text isn't taken.
-use std::alloc::{AllocError, AllocFailed};
-
 ghost use Rattle.std.specs.Prelude.{◌≡◌, ℕ};
 ghost use Rattle.vcl_tree.specs.declared.error.VclError.TheVariants.{NoMemory};
+
+use std::alloc::{AllocError, AllocFailed};
 
 /// What is wrong with a VCL text.
 #[derive(Clone, Copy, Debug, PartialEq, Eq)]
@@ -79,5 +79,16 @@ impl<T: Drop> From<AllocFailed<T>> for VclError {
 
     fn from(_e: AllocFailed<T>) -> VclError {
         VclError::NoMemory
+    }
+}
+
+#[cfg(test)]
+mod tests {
+    use super::*;
+
+    #[test]
+    fn numbers_of_refusals(rt: HostRuntime) {
+        assert_eq!(rt; Refusal::Token.number(), 1);
+        assert_eq!(rt; Refusal::TooLong.number(), 12);
     }
 }
