@@ -55,161 +55,143 @@ fn shown(alloc: Global, text: &[u8]) -> Result<String, AllocError> {
     Ok(out)
 }
 
-const TABLE: [(&str, &str); 122] = [
-    ("", ""),
-    (" \t\r\n", ""),
-    ("a", " n0:a"),
-    ("vcl 4.1;", " Vcl0:vcl f4:4.1 Semicolon7"),
-    ("import std;", " Import0:import n7:std Semicolon10"),
-    (
-        "backend acl probe sub",
-        " Backend0:backend Acl8:acl Probe12:probe Sub18:sub",
-    ),
-    (
-        "set unset call new",
-        " Set0:set Unset4:unset Call10:call New15:new",
-    ),
-    (
-        "if else return none",
-        " If0:if Else3:else Return8:return None15:none",
-    ),
-    (
-        "elseif elsif elif",
-        " ElseIf0:elseif ElseIf7:elsif ElseIf13:elif",
-    ),
-    ("true false", " True0:true False5:false"),
-    ("Set SET sets set-", " n0:Set n4:SET n8:sets n13:set-"),
-    ("req.http.X-Y_z9", " n0:req.http.X-Y_z9"),
-    ("a-", " n0:a-"),
-    ("a.", " n0:a."),
-    ("a-b.c", " n0:a-b.c"),
-    ("a--b", " n0:a--b"),
-    ("a -b", " n0:a Minus2 n3:b"),
-    ("_a", "1 at 0"),
-    (".a", " Dot0 n1:a"),
-    ("-a", " Minus0 n1:a"),
-    ("a+b", " n0:a Plus1 n2:b"),
-    ("a/b", " n0:a Slash1 n2:b"),
-    ("9a", " i0:9 n1:a"),
-    ("0", " i0:0"),
-    ("007", " i0:7"),
-    ("9223372036854775807", " i0:9223372036854775807"),
-    ("9223372036854775808", "1 at 0"),
-    (" 99999999999999999999999999", "1 at 1"),
-    ("1 9223372036854775808 $", "1 at 2"),
-    ("1.5", " f0:1.5"),
-    ("1.234", " f0:1.234"),
-    ("1.2345", " f0:1.234 i5:5"),
-    ("1.2345s", " f0:1.234 d5:5000"),
-    ("1.", " i0:1 Dot1"),
-    ("1.s", " i0:1 Dot1 n2:s"),
-    ("1.5s", " d0:1500"),
-    ("1s", " d0:1000"),
-    ("1.5.5", " f0:1.5 Dot3 i4:5"),
-    ("99999999999999999999999.5", " f0:99999999999999999999999.5"),
-    ("10ms", " d0:10"),
-    ("10m", " d0:600000"),
-    ("10mm", " d0:600000 n3:m"),
-    ("10msx", " d0:10 n4:x"),
-    ("10mx", " d0:600000 n3:x"),
-    ("1 s", " i0:1 n2:s"),
-    (
-        "1h1d1w1y",
-        " d0:3600000 d2:86400000 d4:604800000 d6:31536000000",
-    ),
-    ("1.9ms", " d0:1"),
-    ("0.0005s", " f0:0.000 d5:5000"),
-    ("0.5h", " d0:1800000"),
-    ("1k", " i0:1 n1:k"),
-    ("10000000000000ms", " d0:10000000000000"),
-    ("10000000000001ms", "1 at 0"),
-    ("10000000000s", " d0:10000000000000"),
-    ("10000000000.001s", "1 at 0"),
-    ("166666666m", " d0:9999999960000"),
-    ("166666667m", "1 at 0"),
-    ("2777777h", " d0:9999997200000"),
-    ("2777778h", "1 at 0"),
-    ("115740d", " d0:9999936000000"),
-    ("115741d", "1 at 0"),
-    ("16534w", " d0:9999763200000"),
-    ("16535w", "1 at 0"),
-    ("317y", " d0:9996912000000"),
-    ("318y", "1 at 0"),
-    ("99999999999999999999999s", "1 at 0"),
-    ("\"\"", " s0:"),
-    ("\"a b\"", " s0:a b"),
-    ("\"a\"\"b\"", " s0:a s3:b"),
-    ("\"", "1 at 0"),
-    ("\"a", "1 at 0"),
-    ("\"a\n\"", "1 at 0"),
-    ("a \"b\nc", "1 at 2"),
-    ("\"a\\\"", " s0:a\\"),
-    ("\"a\r\"", " s0:a\r"),
-    ("\"\0\"", "1 at 0"),
-    ("{\"\0\"}", "1 at 0"),
-    ("\"\"\"\0\"\"\"", "1 at 0"),
-    ("{\"\"}", " s0:"),
-    ("{\"a\"b}\"}", " s0:a\"b}"),
-    ("{\"\"\"}", " s0:\""),
-    ("{\"a\nb\"}x", " s0:a\nb n7:x"),
-    ("{\"a\"", "1 at 0"),
-    ("{ \"a\"}", " OpenBrace0 s2:a CloseBrace5"),
-    ("{a", " OpenBrace0 n1:a"),
-    ("\"\"\"\"\"\"", " s0:"),
-    ("\"\"\"a\"b\"\"c\"\"\"", " s0:a\"b\"\"c"),
-    ("\"\"\"a\nb\"\"\"", " s0:a\nb"),
-    ("\"\"\"a\"\"", "1 at 0"),
-    ("\"\"\"", "1 at 0"),
-    ("\"\" \"\"", " s0: s3:"),
-    ("\"\"\"a\"\"\"\"", "1 at 7"),
-    (
-        "{ } ( ) ; , .",
-        " OpenBrace0 CloseBrace2 OpenParenthesis4 CloseParenthesis6 Semicolon8 Comma10 Dot12",
-    ),
-    (
-        "= == != ~ !~",
-        " Assign0 Equal2 NotEqual5 Match8 NotMatch10",
-    ),
-    (
-        "< <= > >= !",
-        " Less0 LessOrEqual2 Greater5 GreaterOrEqual7 Not10",
-    ),
-    ("&& || + += -", " And0 Or3 Plus6 AddAssign8 Minus11"),
-    ("===", " Equal0 Assign2"),
-    ("!!=", " Not0 NotEqual1"),
-    ("=~", " Assign0 Match1"),
-    ("+==", " AddAssign0 Assign2"),
-    ("<>", " Less0 Greater1"),
-    ("&", "1 at 0"),
-    ("a & b", "1 at 2"),
-    ("&&&", "1 at 2"),
-    ("|", "1 at 0"),
-    ("|||", "1 at 2"),
-    ("# a", ""),
-    ("#", ""),
-    ("// a", ""),
-    ("# a\nb", " n4:b"),
-    ("//a\r\nb", " n5:b"),
-    ("a#b", " n0:a"),
-    ("/ /", " Slash0 Slash2"),
-    ("/* a */b", " n7:b"),
-    ("/**/", ""),
-    ("/***/x", " n5:x"),
-    ("/*/", "1 at 0"),
-    ("a /* *", "1 at 2"),
-    ("a $ \"", "1 at 2"),
-    ("a*", "1 at 1"),
-    ("vcl 4.1; sub x { $ }", "1 at 17"),
-    ("{", " OpenBrace0"),
-    ("/* /* */ */", "1 at 9"),
-];
+// Each text, a byte 1, its tokens or refusal, and a byte 2.
+const TABLE: &str = "\
+    \x01\x02\
+    \x20\t\r\n\x01\x02\
+    a\x01 n0:a\x02\
+    vcl 4.1;\x01 Vcl0:vcl f4:4.1 Semicolon7\x02\
+    import std;\x01 Import0:import n7:std Semicolon10\x02\
+    backend acl probe sub\x01 Backend0:backend Acl8:acl Probe12:probe Sub18:sub\x02\
+    set unset call new\x01 Set0:set Unset4:unset Call10:call New15:new\x02\
+    if else return none\x01 If0:if Else3:else Return8:return None15:none\x02\
+    elseif elsif elif\x01 ElseIf0:elseif ElseIf7:elsif ElseIf13:elif\x02\
+    true false\x01 True0:true False5:false\x02\
+    Set SET sets set-\x01 n0:Set n4:SET n8:sets n13:set-\x02\
+    req.http.X-Y_z9\x01 n0:req.http.X-Y_z9\x02\
+    a-\x01 n0:a-\x02\
+    a.\x01 n0:a.\x02\
+    a-b.c\x01 n0:a-b.c\x02\
+    a--b\x01 n0:a--b\x02\
+    a -b\x01 n0:a Minus2 n3:b\x02\
+    _a\x011 at 0\x02\
+    .a\x01 Dot0 n1:a\x02\
+    -a\x01 Minus0 n1:a\x02\
+    a+b\x01 n0:a Plus1 n2:b\x02\
+    a/b\x01 n0:a Slash1 n2:b\x02\
+    9a\x01 i0:9 n1:a\x02\
+    0\x01 i0:0\x02\
+    007\x01 i0:7\x02\
+    9223372036854775807\x01 i0:9223372036854775807\x02\
+    9223372036854775808\x011 at 0\x02\
+    \x2099999999999999999999999999\x011 at 1\x02\
+    1 9223372036854775808 $\x011 at 2\x02\
+    1.5\x01 f0:1.5\x02\
+    1.234\x01 f0:1.234\x02\
+    1.2345\x01 f0:1.234 i5:5\x02\
+    1.2345s\x01 f0:1.234 d5:5000\x02\
+    1.\x01 i0:1 Dot1\x02\
+    1.s\x01 i0:1 Dot1 n2:s\x02\
+    1.5s\x01 d0:1500\x02\
+    1s\x01 d0:1000\x02\
+    1.5.5\x01 f0:1.5 Dot3 i4:5\x02\
+    99999999999999999999999.5\x01 f0:99999999999999999999999.5\x02\
+    10ms\x01 d0:10\x02\
+    10m\x01 d0:600000\x02\
+    10mm\x01 d0:600000 n3:m\x02\
+    10msx\x01 d0:10 n4:x\x02\
+    10mx\x01 d0:600000 n3:x\x02\
+    1 s\x01 i0:1 n2:s\x02\
+    1h1d1w1y\x01 d0:3600000 d2:86400000 d4:604800000 d6:31536000000\x02\
+    1.9ms\x01 d0:1\x02\
+    0.0005s\x01 f0:0.000 d5:5000\x02\
+    0.5h\x01 d0:1800000\x02\
+    1k\x01 i0:1 n1:k\x02\
+    10000000000000ms\x01 d0:10000000000000\x02\
+    10000000000001ms\x011 at 0\x02\
+    10000000000s\x01 d0:10000000000000\x02\
+    10000000000.001s\x011 at 0\x02\
+    166666666m\x01 d0:9999999960000\x02\
+    166666667m\x011 at 0\x02\
+    2777777h\x01 d0:9999997200000\x02\
+    2777778h\x011 at 0\x02\
+    115740d\x01 d0:9999936000000\x02\
+    115741d\x011 at 0\x02\
+    16534w\x01 d0:9999763200000\x02\
+    16535w\x011 at 0\x02\
+    317y\x01 d0:9996912000000\x02\
+    318y\x011 at 0\x02\
+    99999999999999999999999s\x011 at 0\x02\
+    \"\"\x01 s0:\x02\
+    \"a b\"\x01 s0:a b\x02\
+    \"a\"\"b\"\x01 s0:a s3:b\x02\
+    \"\x011 at 0\x02\
+    \"a\x011 at 0\x02\
+    \"a\n\"\x011 at 0\x02\
+    a \"b\nc\x011 at 2\x02\
+    \"a\\\"\x01 s0:a\\\x02\
+    \"a\r\"\x01 s0:a\r\x02\
+    \"\0\"\x011 at 0\x02\
+    {\"\0\"}\x011 at 0\x02\
+    \"\"\"\0\"\"\"\x011 at 0\x02\
+    {\"\"}\x01 s0:\x02\
+    {\"a\"b}\"}\x01 s0:a\"b}\x02\
+    {\"\"\"}\x01 s0:\"\x02\
+    {\"a\nb\"}x\x01 s0:a\nb n7:x\x02\
+    {\"a\"\x011 at 0\x02\
+    { \"a\"}\x01 OpenBrace0 s2:a CloseBrace5\x02\
+    {a\x01 OpenBrace0 n1:a\x02\
+    \"\"\"\"\"\"\x01 s0:\x02\
+    \"\"\"a\"b\"\"c\"\"\"\x01 s0:a\"b\"\"c\x02\
+    \"\"\"a\nb\"\"\"\x01 s0:a\nb\x02\
+    \"\"\"a\"\"\x011 at 0\x02\
+    \"\"\"\x011 at 0\x02\
+    \"\" \"\"\x01 s0: s3:\x02\
+    \"\"\"a\"\"\"\"\x011 at 7\x02\
+    { } ( ) ; , .\x01 OpenBrace0 CloseBrace2 OpenParenthesis4 CloseParenthesis6 Semicolon8 Comma10 Dot12\x02\
+    = == != ~ !~\x01 Assign0 Equal2 NotEqual5 Match8 NotMatch10\x02\
+    < <= > >= !\x01 Less0 LessOrEqual2 Greater5 GreaterOrEqual7 Not10\x02\
+    && || + += -\x01 And0 Or3 Plus6 AddAssign8 Minus11\x02\
+    ===\x01 Equal0 Assign2\x02\
+    !!=\x01 Not0 NotEqual1\x02\
+    =~\x01 Assign0 Match1\x02\
+    +==\x01 AddAssign0 Assign2\x02\
+    <>\x01 Less0 Greater1\x02\
+    &\x011 at 0\x02\
+    a & b\x011 at 2\x02\
+    &&&\x011 at 2\x02\
+    |\x011 at 0\x02\
+    |||\x011 at 2\x02\
+    # a\x01\x02\
+    #\x01\x02\
+    // a\x01\x02\
+    # a\nb\x01 n4:b\x02\
+    //a\r\nb\x01 n5:b\x02\
+    a#b\x01 n0:a\x02\
+    / /\x01 Slash0 Slash2\x02\
+    /* a */b\x01 n7:b\x02\
+    /**/\x01\x02\
+    /***/x\x01 n5:x\x02\
+    /*/\x011 at 0\x02\
+    a /* *\x011 at 2\x02\
+    a $ \"\x011 at 2\x02\
+    a*\x011 at 1\x02\
+    vcl 4.1; sub x { $ }\x011 at 17\x02\
+    {\x01 OpenBrace0\x02\
+    /* /* */ */\x011 at 9\x02\
+";
 
 #[test]
 fn texts_and_their_tokens(rt: HostRuntime) -> Result<(), Fail> {
-    for (text, want) in TABLE {
-        let got = shown(rt.alloc(), text.as_bytes())?;
-        assert_eq!(rt; got.as_str(), want, "of {text}");
+    let mut count = 0u32;
+    for row in TABLE.split('\x02') {
+        if let Some((text, want)) = row.split_once('\x01') {
+            let got = shown(rt.alloc(), text.as_bytes())?;
+            assert_eq!(rt; got.as_str(), want, "of {text}");
+            count = count.saturating_add(1);
+        }
     }
+    assert_eq!(rt; count, 122);
     one_reading();
     Ok(())
 }
