@@ -1,0 +1,12 @@
+use Rattle.std.proofs.Common.{◌≡◌, ◌∷◌, List, length}
+use Rattle.std.specs.Prelude.{map}
+use Rattle.vcl_tree.specs.Phrase.{Phrase, Nothing, list_of}
+use Rattle.vcl_tree.specs.TreeView.{item_of}
+use Rattle.vcl_parse.specs.Machine.{Want, Go, MoreItems, watch}
+use Rattle.vcl_parse.proofs.items.all_items.Given as goal
+
+abbrev pub invariant-loop-items : goal.invariant-loop-items
+invariant-loop-items l = (s : List Want) (vs : List Phrase) → watch 0 (Go MoreItems ∷ s) (Nothing ∷ vs) l.tokens ≡ watch 0 (Go MoreItems ∷ s) (list_of (map item_of l.items.items) ∷ vs) l.rest
+
+abbrev pub decreases-loop-items : goal.decreases-loop-items
+decreases-loop-items l = length l.rest

@@ -1,0 +1,7 @@
+use Rattle.std.proofs.Common.{refl}
+use Rattle.vcl_parse.proofs.Trees.{same_tree}
+use Rattle.vcl_tokens.proofs.ReadingLemmas.{one}
+use Rattle.vcl_parse.proofs.parsing.one_tree.Goals as goal
+
+pub returns : goal.returns
+returns c = λ text tokens others a b r s h k. same_tree text tokens others a b (one r s refl refl) h k

@@ -1,0 +1,5 @@
+pub mod Elses
+pub mod Machine
+pub mod Parsing
+pub mod Starts
+pub mod Steps

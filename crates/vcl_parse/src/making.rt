@@ -1,0 +1,181 @@
+// Expressions from their parts.
+ghost use Rattle.std.specs.Prelude.{◌≡◌, ◌∷◌, [], IfOk};
+ghost use Rattle.vcl_tree.specs.Phrase.{Either, Both, Not, Group, Negative, Called, Compared, Node, At, Named, chain, list_of};
+ghost use Rattle.std.specs.Prelude.{Option};
+ghost use Rattle.vcl_tree.specs.Phrase.{Bound, New, Return, Jump, Unset, If};
+ghost use Rattle.vcl_tree.specs.ExpressionView.{sum_of};
+ghost use Rattle.vcl_tree.specs.StatementView.{name_of, branch_of, branches_of};
+ghost use Rattle.vcl_parse.specs.Steps.{set_label};
+ghost use Rattle.vcl_parse.specs.Elses.{with_else};
+
+use std::alloc::{AllocError, Global};
+use units::Text;
+use vcl_tree::{Action, Addend, Branch, Comparison, Expression, Name, Operation, Statement};
+
+pub fn any_of(
+    alloc: Global,
+    first: Expression,
+    mut others: Vec<Expression>,
+) -> Result<Expression, AllocError>
+    ensures { IfOk result (λ e. e ≡ chain Either first others.items) }
+{
+    if others.is_empty() {
+        return Ok(first);
+    }
+    let second = others.remove(0);
+    let operation = Operation::Any(Box::new(alloc, first)?, Box::new(alloc, second)?, others);
+    Ok(Expression { operation })
+}
+
+pub fn all_of(
+    alloc: Global,
+    first: Expression,
+    mut others: Vec<Expression>,
+) -> Result<Expression, AllocError>
+    ensures { IfOk result (λ e. e ≡ chain Both first others.items) }
+{
+    if others.is_empty() {
+        return Ok(first);
+    }
+    let second = others.remove(0);
+    let operation = Operation::All(Box::new(alloc, first)?, Box::new(alloc, second)?, others);
+    Ok(Expression { operation })
+}
+
+pub fn sum_from(
+    alloc: Global,
+    first: Expression,
+    mut others: Vec<Addend>,
+) -> Result<Expression, AllocError>
+    ensures { IfOk result (λ e. e ≡ sum_of first others.items) }
+{
+    if others.is_empty() {
+        return Ok(first);
+    }
+    let second = others.remove(0);
+    let operation = Operation::Sum(Box::new(alloc, first)?, Box::new(alloc, second)?, others);
+    Ok(Expression { operation })
+}
+
+pub fn not_of(alloc: Global, place: u32, operand: Expression) -> Result<Expression, AllocError>
+    ensures { IfOk result (λ e. e ≡ Node Not (At place) operand) }
+{
+    let operation = Operation::Not(place, Box::new(alloc, operand)?);
+    Ok(Expression { operation })
+}
+
+pub fn group_of(alloc: Global, place: u32, operand: Expression) -> Result<Expression, AllocError>
+    ensures { IfOk result (λ e. e ≡ Node Group (At place) operand) }
+{
+    let operation = Operation::Group(place, Box::new(alloc, operand)?);
+    Ok(Expression { operation })
+}
+
+pub fn negative_of(alloc: Global, place: u32, operand: Expression) -> Result<Expression, AllocError>
+    ensures { IfOk result (λ e. e ≡ Node Negative (At place) operand) }
+{
+    let operation = Operation::Negative(place, Box::new(alloc, operand)?);
+    Ok(Expression { operation })
+}
+
+pub fn compared(
+    alloc: Global,
+    how: Comparison,
+    left: Expression,
+    right: Expression,
+) -> Result<Expression, AllocError>
+    ensures { IfOk result (λ e. e ≡ Node (Compared how) left right) }
+{
+    let operation = Operation::Compare(how, Box::new(alloc, left)?, Box::new(alloc, right)?);
+    Ok(Expression { operation })
+}
+
+pub fn call_of(place: u32, name: Text, arguments: Vec<Expression>) -> Expression
+    ensures { result ≡ Node Called (Named place name) (list_of arguments.items) }
+{
+    Expression {
+        operation: Operation::Call(place, name, arguments),
+    }
+}
+
+pub fn called_statement(place: u32, text: Text, arguments: Vec<Expression>) -> Statement
+    ensures { result ≡ Node Called (Named place text) (list_of arguments.items) }
+{
+    Statement {
+        action: Action::Run(Name { place, text }, arguments),
+    }
+}
+
+pub fn set_of(appends: bool, place: u32, name: Name, value: Expression) -> Statement
+    ensures { result ≡ Node (set_label appends) (At place) (Node Bound (name_of name) value) }
+{
+    if appends {
+        Statement {
+            action: Action::Append(place, name, value),
+        }
+    } else {
+        Statement {
+            action: Action::Set(place, name, value),
+        }
+    }
+}
+
+pub fn unset_of(place: u32, name: Name) -> Statement
+    ensures { result ≡ Node Unset (At place) (name_of name) }
+{
+    Statement {
+        action: Action::Unset(place, name),
+    }
+}
+
+pub fn jump_of(place: u32, name: Name) -> Statement
+    ensures { result ≡ Node Jump (At place) (name_of name) }
+{
+    Statement {
+        action: Action::Call(place, name),
+    }
+}
+
+pub fn new_of(place: u32, name: Name, maker: Name, arguments: Vec<Expression>) -> Statement
+    ensures { result ≡ Node New (At place) (Node Bound (name_of name) (Node Called (name_of maker) (list_of arguments.items))) }
+{
+    Statement {
+        action: Action::New(place, name, maker, arguments),
+    }
+}
+
+pub fn return_of(place: u32, word: Name) -> Statement
+    ensures { result ≡ Node Return (At place) (name_of word) }
+{
+    Statement {
+        action: Action::Return(place, word),
+    }
+}
+
+pub fn return_with(place: u32, word: Name, arguments: Vec<Expression>) -> Statement
+    ensures { result ≡ Node Return (At place) (Node Called (name_of word) (list_of arguments.items)) }
+{
+    Statement {
+        action: Action::ReturnWith(place, word, arguments),
+    }
+}
+
+pub fn if_of(
+    alloc: Global,
+    place: u32,
+    first: Branch,
+    others: Vec<Branch>,
+    otherwise: Option<Vec<Statement>>,
+) -> Result<Statement, AllocError>
+    ensures { IfOk result (λ e. e ≡ with_else (branches_of (Node If (At place) (branch_of first)) others.items) otherwise) }
+{
+    let first = Box::new(alloc, first)?;
+    match otherwise {
+        Some(block) => Ok(Statement {
+            action: Action::If(place, first, others, Some(block)),
+        }),
+        None => Ok(Statement {
+            action: Action::If(place, first, others, None),
+        }),
+    }
+}

@@ -1,0 +1,321 @@
+// Statements and blocks.
+#![tactic(auto, using(crate::proofs::Reading::reading))]
+
+ghost use Rattle.std.specs.Prelude.{◌≡◌, ◌∷◌, ◌++◌, [], ◌≤◌, ℕ, List, false, MatchOption, MatchResult, length};
+ghost use Rattle.vcl_tree.specs.Phrase.{Phrase, Named, At, list_of};
+ghost use Rattle.vcl_tree.specs.StatementView.{branch_of, branches_of};
+ghost use Rattle.vcl_tree.specs.declared.token.Sign.TheVariants as sign;
+ghost use Rattle.vcl_parse.specs.Machine.{Want, Read, Go, Join, Take, AnyName, NewName, Assignment, Arguments, Ending, Condition, Block, AfterElse, MoreElse, MoreStatements, adds_backend, watch};
+ghost use Rattle.vcl_parse.specs.Machine as machine;
+ghost use Rattle.vcl_tree.specs.Phrase.{Called, Bound, New, Unset, Jump, Return, If};
+ghost use Rattle.vcl_parse.specs.Steps.{IsRead, IsReadOn, IsReadAll, ReadsAll, IsStopped, IsStoppedAll, StopsOne, Ends, CarriesOn, Assigns, else_wants};
+
+use crate::expressions::{any, arguments};
+use crate::making::{
+    called_statement, if_of, jump_of, new_of, return_of, return_with, set_of, unset_of,
+};
+use crate::names::takes_weight;
+use crate::signs::{any_name, begins, behind_sign, enter, expect, new_name, split};
+use crate::starts::{ElseWord, StatementWord, else_word, statement_word};
+use crate::stop::Stop;
+use std::alloc::Global;
+use units::Text;
+use vcl_tree::{Branch, Sign, Statement, Token, TokenKind};
+
+/// Statements in braces.
+#[cycle(statement)]
+pub fn block(
+    alloc: Global,
+    depth: u32,
+    tokens: &[Token],
+) -> Result<(Vec<Statement>, &[Token]), Stop>
+    ensures { MatchResult result
+        (λ x. IsRead (Read Block) depth tokens.now (list_of x.0.items) x.1.now)
+        (λ why. IsStopped (Read Block) depth tokens.now why) }
+{
+    let Some((_, behind)) = behind_sign(tokens, Sign::OpenBrace) else {
+        return Err(Stop::Syntax(tokens.len()));
+    };
+    let deeper = enter(depth, tokens.len())?;
+    let mut statements = Vec::new(alloc);
+    let mut rest = behind;
+    while let Some((statement, later)) = statement_at(alloc, deeper, rest)? {
+        statements.push(statement)?;
+        rest = later;
+    }
+    Ok((statements, expect(rest, Sign::CloseBrace)?))
+}
+
+// The statement at the front, if one begins there.
+#[cycle(statement)]
+fn statement_at(
+    alloc: Global,
+    depth: u32,
+    tokens: &[Token],
+) -> Result<Option<(Statement, &[Token])>, Stop>
+    ensures { MatchResult result
+        (λ found. MatchOption found
+        (Ends MoreStatements tokens.now)
+        (λ x. CarriesOn MoreStatements depth tokens.now x.0 x.1.now))
+        (λ why. IsStopped (Go MoreStatements) depth tokens.now why) }
+{
+    let Some((first, rest)) = split(tokens) else {
+        return Ok(None);
+    };
+    match &first.kind {
+        TokenKind::Name(name) => {
+            let (statement, rest) = run(alloc, depth, first.place, name, rest)?;
+            Ok(Some((statement, rest)))
+        }
+        TokenKind::Word(word, _) => match statement_word(*word) {
+            StatementWord::Set => {
+                let (statement, rest) = set(alloc, depth, first.place, rest)?;
+                Ok(Some((statement, rest)))
+            }
+            StatementWord::Unset => {
+                let (statement, rest) = unset(first.place, rest)?;
+                Ok(Some((statement, rest)))
+            }
+            StatementWord::Call => {
+                let (statement, rest) = jump(first.place, rest)?;
+                Ok(Some((statement, rest)))
+            }
+            StatementWord::New => {
+                let (statement, rest) = new(alloc, depth, first.place, rest)?;
+                Ok(Some((statement, rest)))
+            }
+            StatementWord::If => {
+                let (statement, rest) = conditional(alloc, depth, first.place, rest)?;
+                Ok(Some((statement, rest)))
+            }
+            StatementWord::Return => {
+                let (statement, rest) = leave(alloc, depth, first.place, rest)?;
+                Ok(Some((statement, rest)))
+            }
+            StatementWord::Nothing => Ok(None),
+        },
+        TokenKind::Integer(_) => Ok(None),
+        TokenKind::Decimal(_) => Ok(None),
+        TokenKind::Duration(_) => Ok(None),
+        TokenKind::String(_) => Ok(None),
+        TokenKind::Sign(_) => Ok(None),
+    }
+}
+
+// What stands behind `if`, with its other branches.
+#[cycle(statement)]
+fn conditional(
+    alloc: Global,
+    depth: u32,
+    place: u32,
+    tokens: &[Token],
+) -> Result<(Statement, &[Token]), Stop>
+    ensures { MatchResult result
+        (λ x. IsReadAll (Read Condition ∷ Join If ∷ Go MoreElse ∷ []) depth (At place) tokens.now x.0 x.1.now)
+        (λ why. IsStoppedAll (Read Condition ∷ Join If ∷ Go MoreElse ∷ []) depth (At place) tokens.now why) }
+{
+    let (first, mut rest) = branch(alloc, depth, tokens)?;
+    let mut others = Vec::new(alloc);
+    'branches: loop {
+        let (word, behind) = else_at(rest);
+        match word {
+            ElseWord::ElseIf => {
+                let (further, later) = branch(alloc, depth, behind)?;
+                others.push(further)?;
+                rest = later;
+            }
+            ElseWord::Else => {
+                let (block, later) = block(alloc, depth, behind)?;
+                return Ok((if_of(alloc, place, first, others, Some(block))?, later));
+            }
+            ElseWord::Nothing => return Ok((if_of(alloc, place, first, others, None)?, behind)),
+        }
+    }
+}
+
+// A condition in parentheses, and a block.
+#[cycle(statement)]
+fn branch(alloc: Global, depth: u32, tokens: &[Token]) -> Result<(Branch, &[Token]), Stop>
+    ensures { MatchResult result
+        (λ x. IsRead (Read Condition) depth tokens.now (branch_of x.0) x.1.now)
+        (λ why. IsStopped (Read Condition) depth tokens.now why) }
+{
+    let Some((_, behind)) = behind_sign(tokens, Sign::OpenParenthesis) else {
+        return Err(Stop::Syntax(tokens.len()));
+    };
+    let deeper = enter(depth, tokens.len())?;
+    let (condition, rest) = any(alloc, deeper, behind)?;
+    let rest = expect(rest, Sign::CloseParenthesis)?;
+    let (block, rest) = block(alloc, depth, rest)?;
+    Ok((Branch { condition, block }, rest))
+}
+
+// How a conditional statement goes on, and what stands behind the words that say so.
+fn else_at(tokens: &[Token]) -> (ElseWord, &[Token])
+    ensures shorter { length result.1.now ≤ length tokens.now }
+    ensures watched { (depth : ℕ) (s : List Want) (vs : List Phrase) →
+        watch depth (Go MoreElse ∷ s) vs tokens.now ≡ watch depth (else_wants result.0 ++ s) vs result.1.now }
+{
+    let Some((first, rest)) = split(tokens) else {
+        return (ElseWord::Nothing, tokens);
+    };
+    match &first.kind {
+        TokenKind::Word(word, _) => match else_word(*word) {
+            ElseWord::ElseIf => (ElseWord::ElseIf, rest),
+            ElseWord::Else => behind_else(rest),
+            ElseWord::Nothing => (ElseWord::Nothing, tokens),
+        },
+        TokenKind::Name(_) => (ElseWord::Nothing, tokens),
+        TokenKind::Integer(_) => (ElseWord::Nothing, tokens),
+        TokenKind::Decimal(_) => (ElseWord::Nothing, tokens),
+        TokenKind::Duration(_) => (ElseWord::Nothing, tokens),
+        TokenKind::String(_) => (ElseWord::Nothing, tokens),
+        TokenKind::Sign(_) => (ElseWord::Nothing, tokens),
+    }
+}
+
+// What stands behind `else`: an `if`, or else a block.
+fn behind_else(tokens: &[Token]) -> (ElseWord, &[Token])
+    ensures shorter { length result.1.now ≤ length tokens.now }
+    ensures watched { (depth : ℕ) (s : List Want) (vs : List Phrase) →
+        watch depth (Read AfterElse ∷ s) vs tokens.now ≡ watch depth (else_wants result.0 ++ s) vs result.1.now }
+{
+    let Some((first, rest)) = split(tokens) else {
+        return (ElseWord::Else, tokens);
+    };
+    match &first.kind {
+        TokenKind::Word(word, _) => {
+            if is_if(statement_word(*word)) {
+                (ElseWord::ElseIf, rest)
+            } else {
+                (ElseWord::Else, tokens)
+            }
+        }
+        TokenKind::Name(_) => (ElseWord::Else, tokens),
+        TokenKind::Integer(_) => (ElseWord::Else, tokens),
+        TokenKind::Decimal(_) => (ElseWord::Else, tokens),
+        TokenKind::Duration(_) => (ElseWord::Else, tokens),
+        TokenKind::String(_) => (ElseWord::Else, tokens),
+        TokenKind::Sign(_) => (ElseWord::Else, tokens),
+    }
+}
+
+fn is_if(word: StatementWord) -> bool
+    ensures { result ≡ machine.is_if word }
+{
+    matches!(word, StatementWord::If)
+}
+
+// A call of a function that stands as a statement, behind its name.
+fn run<'a>(
+    alloc: Global,
+    depth: u32,
+    place: u32,
+    name: &Text,
+    tokens: &'a [Token],
+) -> Result<(Statement, &'a [Token]), Stop>
+    ensures { MatchResult result
+        (λ x. IsReadAll (Read (Arguments (adds_backend name.now)) ∷ Join Called ∷ Take sign.Semicolon ∷ []) depth (Named place name.now) tokens.now x.0 x.1.now)
+        (λ why. IsStoppedAll (Read (Arguments (adds_backend name.now)) ∷ Join Called ∷ Take sign.Semicolon ∷ []) depth (Named place name.now) tokens.now why) }
+{
+    let (arguments, rest) = arguments(alloc, depth, takes_weight(name.bytes()), tokens)?;
+    let rest = expect(rest, Sign::Semicolon)?;
+    Ok((called_statement(place, name.copy()?, arguments), rest))
+}
+
+fn set(
+    alloc: Global,
+    depth: u32,
+    place: u32,
+    tokens: &[Token],
+) -> Result<(Statement, &[Token]), Stop>
+    ensures { MatchResult result
+        (λ x. IsReadAll (AnyName ∷ Read Assignment ∷ []) depth (At place) tokens.now x.0 x.1.now)
+        (λ why. IsStoppedAll (AnyName ∷ Read Assignment ∷ []) depth (At place) tokens.now why) }
+{
+    let (name, rest) = any_name(tokens)?;
+    let (appends, rest) = assignment(rest)?;
+    let (value, rest) = any(alloc, depth, rest)?;
+    let rest = expect(rest, Sign::Semicolon)?;
+    Ok((set_of(appends, place, name, value), rest))
+}
+
+// The sign of an assignment: whether it appends.
+fn assignment(tokens: &[Token]) -> Result<(bool, &[Token]), Stop>
+    ensures { MatchResult result
+        (λ x. Assigns tokens.now x.0 x.1.now)
+        (λ why. StopsOne (Read Assignment) tokens.now why) }
+{
+    if let Some((_, rest)) = behind_sign(tokens, Sign::Assign) {
+        return Ok((false, rest));
+    }
+    match behind_sign(tokens, Sign::AddAssign) {
+        Some((_, rest)) => Ok((true, rest)),
+        None => Err(Stop::Syntax(tokens.len())),
+    }
+}
+
+fn unset(place: u32, tokens: &[Token]) -> Result<(Statement, &[Token]), Stop>
+    ensures { MatchResult result
+        (λ x. ReadsAll (AnyName ∷ Take sign.Semicolon ∷ Join Unset ∷ []) (At place) tokens.now x.0 x.1.now)
+        (λ why. (depth : ℕ) → IsStoppedAll (AnyName ∷ Take sign.Semicolon ∷ Join Unset ∷ []) depth (At place) tokens.now why) }
+{
+    let (name, rest) = any_name(tokens)?;
+    let rest = expect(rest, Sign::Semicolon)?;
+    Ok((unset_of(place, name), rest))
+}
+
+fn jump(place: u32, tokens: &[Token]) -> Result<(Statement, &[Token]), Stop>
+    ensures { MatchResult result
+        (λ x. ReadsAll (AnyName ∷ Take sign.Semicolon ∷ Join Jump ∷ []) (At place) tokens.now x.0 x.1.now)
+        (λ why. (depth : ℕ) → IsStoppedAll (AnyName ∷ Take sign.Semicolon ∷ Join Jump ∷ []) depth (At place) tokens.now why) }
+{
+    let (name, rest) = any_name(tokens)?;
+    let rest = expect(rest, Sign::Semicolon)?;
+    Ok((jump_of(place, name), rest))
+}
+
+fn new(
+    alloc: Global,
+    depth: u32,
+    place: u32,
+    tokens: &[Token],
+) -> Result<(Statement, &[Token]), Stop>
+    ensures { MatchResult result
+        (λ x. IsReadAll (NewName ∷ Take sign.Assign ∷ AnyName ∷ Read (Arguments false) ∷ Join Called ∷ Take sign.Semicolon ∷ Join Bound ∷ Join New ∷ []) depth (At place) tokens.now x.0 x.1.now)
+        (λ why. IsStoppedAll (NewName ∷ Take sign.Assign ∷ AnyName ∷ Read (Arguments false) ∷ Join Called ∷ Take sign.Semicolon ∷ Join Bound ∷ Join New ∷ []) depth (At place) tokens.now why) }
+{
+    let (name, rest) = new_name(tokens)?;
+    let rest = expect(rest, Sign::Assign)?;
+    let (maker, rest) = any_name(rest)?;
+    let (arguments, rest) = arguments(alloc, depth, false, rest)?;
+    let rest = expect(rest, Sign::Semicolon)?;
+    Ok((new_of(place, name, maker, arguments), rest))
+}
+
+// What stands behind `return`.
+fn leave(
+    alloc: Global,
+    depth: u32,
+    place: u32,
+    tokens: &[Token],
+) -> Result<(Statement, &[Token]), Stop>
+    ensures { MatchResult result
+        (λ x. IsReadAll (Take sign.OpenParenthesis ∷ AnyName ∷ Read Ending ∷ Join Return ∷ []) depth (At place) tokens.now x.0 x.1.now)
+        (λ why. IsStoppedAll (Take sign.OpenParenthesis ∷ AnyName ∷ Read Ending ∷ Join Return ∷ []) depth (At place) tokens.now why) }
+{
+    let Some((_, behind)) = behind_sign(tokens, Sign::OpenParenthesis) else {
+        return Err(Stop::Syntax(tokens.len()));
+    };
+    let deeper = enter(depth, tokens.len())?;
+    let (word, rest) = any_name(behind)?;
+    if !begins(rest, Sign::OpenParenthesis) {
+        let rest = expect(rest, Sign::CloseParenthesis)?;
+        let rest = expect(rest, Sign::Semicolon)?;
+        return Ok((return_of(place, word), rest));
+    }
+    let (arguments, rest) = arguments(alloc, deeper, false, rest)?;
+    let rest = expect(rest, Sign::CloseParenthesis)?;
+    let rest = expect(rest, Sign::Semicolon)?;
+    Ok((return_with(place, word, arguments), rest))
+}

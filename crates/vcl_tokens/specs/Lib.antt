@@ -1,0 +1,3 @@
+pub mod Longest
+pub mod Reading
+pub mod Spelling

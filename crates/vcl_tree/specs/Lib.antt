@@ -1,0 +1,10 @@
+pub mod AttributeFalls
+pub mod AttributeView
+pub mod ExpressionFalls
+pub mod ExpressionView
+pub mod Numbers
+pub mod Phrase
+pub mod PhraseCode
+pub mod StatementFalls
+pub mod StatementView
+pub mod TreeView

@@ -1,0 +1,21 @@
+//! The syntax tree of VCL, the tokens that it is read from, and the grammar that ties the two.
+//!
+//! `Phrase` of `specs/Phrase.antt`, which has the node's shape, its texts and numbers, and the place of each of
+//! its first tokens, and not where the parts lie in memory.
+#![tactic(auto)]
+
+mod attribute;
+mod error;
+mod expression;
+mod item;
+mod name;
+mod statement;
+mod token;
+
+pub use attribute::{Attribute, AttributeValue};
+pub use error::{Refusal, VclError};
+pub use expression::{Addend, Addition, Comparison, Expression, Operation};
+pub use item::{AclEntry, Item, Mask, Tree, Version};
+pub use name::Name;
+pub use statement::{Action, Branch, Statement};
+pub use token::{Sign, Token, TokenKind, Word};
