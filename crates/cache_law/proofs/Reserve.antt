@@ -1,11 +1,9 @@
 -- What is reserved serves the closing of what is open.
-use Rattle.std.proofs.Common.{◌≡◌, ℕ, Bool, true, false, not, cond, List, [], ◌∷◌, ◌++◌, ◌+◌, ◌*◌, ◌≤◌, ◌⊎◌, inl, inr, ◌||◌, ◌&&◌, ◌==◌, length, filter, refl, arith, sym, ap, ◌∙◌, subst, nat_lt}
+use Rattle.std.proofs.Common.{◌≡◌, ℕ, Bool, true, false, not, cond, List, [], ◌∷◌, ◌+◌, ◌≤◌, inl, inr, ◌||◌, ◌&&◌, ◌==◌, length, filter, refl, arith, sym, ap}
 use Rattle.std.specs.List.{list_any}
 use Rattle.std.proofs.lemmas.Bool.{cases_Bool, cond-false, true≢false, false≢true, and_parts}
 use Rattle.cache_law.specs.declared.setting.Params.{Params}
 use Rattle.cache_law.specs.declared.setting.Boot.{Boot}
-use Rattle.cache_law.specs.declared.object.Object.{Object}
-use Rattle.cache_law.specs.declared.object.ObjectView.{ObjectView}
 use Rattle.cache_law.specs.declared.call.Call.{Call}
 use Rattle.cache_law.specs.declared.call.Call.TheVariants.{Begin, Lookup, Pick, Insert, End}
 use Rattle.cache_law.specs.declared.call.Reply.{Reply}
@@ -13,10 +11,9 @@ use Rattle.cache_law.specs.declared.call.Reply.TheVariants.{Began, NoRound, Hit,
 use Rattle.cache_law.specs.declared.call.Entry.{Entry}
 use Rattle.cache_law.specs.declared.state.OpenRound.{OpenRound}
 use Rattle.cache_law.specs.declared.state.OpenFetch.{OpenFetch}
-use Rattle.cache_law.specs.Object.{in_time}
-use Rattle.cache_law.specs.State.{State, opening, reserve, has_round, has_fetch, without_fetch, without_round_of, without_fetches_of}
-use Rattle.cache_law.specs.Law.{reply_to, after, allowed, closes_fetch, insertion, room_wanted, hit_or_miss}
-use Rattle.cache_law.specs.History.{bytes_of, bytes_of_all, Fits, Follows, next_state, reached_from, reached, LegalFrom, Legal}
+use Rattle.cache_law.specs.State.{State, opening, reserve, has_round, has_fetch, without_fetch, without_round_of}
+use Rattle.cache_law.specs.Law.{reply_to, after, allowed, closes_fetch}
+use Rattle.cache_law.specs.History.{bytes_of, bytes_of_all, next_state, reached_from, reached, LegalFrom, Legal}
 use Rattle.cache_law.specs.Core.{FitsBehind}
 use Rattle.cache_law.proofs.Histories.{bytes_of_all-cons}
 

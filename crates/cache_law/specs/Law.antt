@@ -1,5 +1,5 @@
 -- What each call answers, and the state that it leaves.
-use Rattle.std.specs.Prelude.{ℕ, Bool, true, false, List, [], ◌∷◌, ◌+◌, ◌-◌, ◌^◌, ◌<◌, ◌&&◌, Option, Some, None, min, nat_lt, sum_by, find, slice_set, if◌then◌else◌}
+use Rattle.std.specs.Prelude.{ℕ, Bool, true, false, List, ◌∷◌, ◌+◌, ◌-◌, ◌^◌, ◌&&◌, Option, Some, None, min, nat_lt, sum_by, find, slice_set, if◌then◌else◌}
 use Rattle.std.specs.List.{position_or_len}
 use Rattle.cache_law.specs.declared.setting.Params.{Params}
 use Rattle.cache_law.specs.declared.setting.Boot.{Boot}

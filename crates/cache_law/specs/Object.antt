@@ -1,10 +1,9 @@
 -- Objects, how long they serve, and how much room they take (Varnish Users Guide, "Grace mode and keep").
-use Rattle.std.specs.Prelude.{ℕ, ℤ, Bool, List, ◌+◌, ◌*◌, ◌+ℤ◌, pos, length, sum_by, filter}
+use Rattle.std.specs.Prelude.{ℕ, Bool, List, ◌+◌, ◌*◌, ◌+ℤ◌, pos, length, sum_by, filter}
 use Rattle.std.specs.Int.Signed.{lt_z}
 use Rattle.std.specs.Str.{bytes_eq}
 use Rattle.std.specs.Cmp.Lexicographic.{pointwise}
 use Rattle.http_heads.specs.declared.fields.Field.{Field}
-use Rattle.cache_law.specs.declared.object.Timing.{Timing}
 use Rattle.cache_law.specs.declared.object.Object.{Object}
 use Rattle.cache_law.specs.declared.object.ObjectView.{ObjectView}
 

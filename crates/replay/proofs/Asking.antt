@@ -1,12 +1,12 @@
 -- What the answer to a call does to a scene.
-use Rattle.std.proofs.Common.{◌≡◌, ℕ, List, [], ◌∷◌, ◌++◌, ◌+◌, ◌≤◌, max, refl, sym, ◌∙◌, ap, subst, arith}
+use Rattle.std.proofs.Common.{◌≡◌, ℕ, List, [], ◌∷◌, ◌+◌, ◌≤◌, refl, sym, ◌∙◌, ap, arith}
 use Rattle.cache_law.specs.declared.setting.Params.{Params}
 use Rattle.cache_law.specs.declared.setting.Boot.{Boot}
 use Rattle.cache_law.specs.declared.call.Call.{Call}
 use Rattle.cache_law.specs.declared.call.Entry.{Entry}
 use Rattle.cache_law.specs.declared.cache.Told.{Told as Answer}
-use Rattle.cache_law.specs.Core.{Entered, entry_of, moment_of}
-use Rattle.cache_law.specs.History.{reached, next_state, bytes_of, bytes_of_all}
+use Rattle.cache_law.specs.Core.{Entered, entry_of}
+use Rattle.cache_law.specs.History.{reached, bytes_of, bytes_of_all}
 use Rattle.cache_law.specs.State.{State}
 use Rattle.cache_law.proofs.Histories.{reached-push, bytes_of_all-push}
 use Rattle.replay.specs.declared.policy.Request.{Request}
@@ -14,7 +14,7 @@ use Rattle.replay.specs.declared.policy.Given.{Given}
 use Rattle.replay.specs.declared.policy.Given.TheVariants.{Told}
 use Rattle.replay.specs.declared.policy.Want.{Want}
 use Rattle.replay.specs.declared.policy.Want.TheVariants.{Ask}
-use Rattle.replay.specs.Scene.{Scene, Round, calls, gave, with_running, Next}
+use Rattle.replay.specs.Scene.{Scene, calls, gave, with_running}
 use Rattle.replay.specs.Went.{Went, Leads, IsInStep, spare}
 use Rattle.replay.proofs.Runs.{went-one}
 

@@ -1,7 +1,6 @@
 -- How a session ends.
-use Rattle.std.proofs.Common.{◌≡◌, ℕ, suc, Bool, true, false, cond, ◌==◌, List, [], ◌∷◌, ◌++◌, Option, Some, None, Result, Ok, Err, length, refl, sym, ◌∙◌, ap, subst}
-use Rattle.std.specs.Io.KnownBytes.{Appends}
-use Rattle.std.proofs.lemmas.Bool.{eqb-true, eqb-false, true≢false, false≢true}
+use Rattle.std.proofs.Common.{◌≡◌, ℕ, Bool, true, false, ◌==◌, List, [], ◌∷◌, Option, Some, Result, Ok, Err, length, refl, sym, ap, subst}
+use Rattle.std.proofs.lemmas.Bool.{eqb-true, eqb-false}
 use Rattle.std.proofs.lemmas.List.{nil_from_length}
 use Rattle.cache_law.specs.declared.setting.Params.{Params}
 use Rattle.cache_law.specs.declared.setting.Boot.{Boot}
@@ -16,9 +15,9 @@ use Rattle.replay.specs.declared.schedule.Break.TheVariants as breaks
 use Rattle.replay.specs.declared.schedule.Halt.{Halt}
 use Rattle.replay.specs.declared.schedule.Halt.TheVariants as halts
 use Rattle.replay.specs.declared.session.ReplayError.{ReplayError}
-use Rattle.replay.specs.declared.session.ReplayError.TheVariants.{Idle, Unanswered, WriteFault, HistoryFull, NoMemory}
+use Rattle.replay.specs.declared.session.ReplayError.TheVariants.{NoMemory}
 use Rattle.replay.specs.Scene.{Scene, Waiting, opening_scene}
-use Rattle.replay.specs.Went.{Went, ArePending, IsStage, PlaysAll, events_in}
+use Rattle.replay.specs.Went.{Went, ArePending, PlaysAll, events_in}
 use Rattle.replay.specs.Replayed.{EndsSo, refusal_of, CameTo}
 use Rattle.replay.proofs.Runs.{went-map, went-here}
 use Rattle.replay.proofs.Sending.{Appends-nil}

@@ -1,22 +1,20 @@
 -- What an event that is heard does to a scene.
-use Rattle.std.proofs.Common.{◌≡◌, ℕ, zero, suc, nat_lt, Bool, true, false, not, cond, List, [], ◌∷◌, ◌++◌, ◌+◌, ◌<◌, ◌≤◌, ◌==◌, ◌||◌, max, Option, Some, None, length, take, drop, get_or, refl, sym, ◌∙◌, ap, subst, arith, inl, inr, ltb}
+use Rattle.std.proofs.Common.{◌≡◌, ℕ, zero, suc, nat_lt, Bool, true, false, not, cond, List, [], ◌∷◌, ◌++◌, ◌+◌, ◌<◌, ◌≤◌, ◌==◌, ◌||◌, Some, None, length, get_or, refl, sym, ◌∙◌, ap, subst, arith, inl, inr}
 use Rattle.std.proofs.lemmas.List.{append-nil}
-use Rattle.std.proofs.lemmas.Bool.{cases_Bool, cond-true, cond-false, ltb-true, ltb-false, true≢false, false≢true}
+use Rattle.std.proofs.lemmas.Bool.{ltb-true, ltb-false}
 use Rattle.std.proofs.lemmas.List.Folds.{find_at}
 use Rattle.std.proofs.lemmas.Option.{slice_get_cases, slice_get_past}
 use Rattle.std.specs.Prelude.{find, position, remove, slice_get}
 use Rattle.std.specs.List.{list_any, position_or_len}
-use Rattle.std.specs.Io.KnownBytes.{Appends}
 use Rattle.cache_law.specs.declared.call.Entry.{Entry}
 use Rattle.replay.specs.declared.policy.Request.{Request}
 use Rattle.replay.specs.declared.policy.Given.{Given}
-use Rattle.replay.specs.declared.policy.Given.TheVariants.{Start, Came}
+use Rattle.replay.specs.declared.policy.Given.TheVariants.{Came}
 use Rattle.replay.specs.declared.policy.Want.{Want}
-use Rattle.replay.specs.declared.event.Event.{Event}
 use Rattle.replay.specs.declared.event.Event.TheVariants as events
 use Rattle.replay.specs.declared.schedule.Pending.{Pending}
-use Rattle.replay.specs.Scene.{Scene, Round, Waiting, hears, begun, gave, with_running, is_under_way, waits_for, without_first}
-use Rattle.replay.specs.Went.{Went, Leads, IsPending, ArePending, IsStage}
+use Rattle.replay.specs.Scene.{Scene, Waiting, hears, begun, gave, with_running, is_under_way, waits_for, without_first}
+use Rattle.replay.specs.Went.{Went, IsPending, ArePending}
 use Rattle.replay.proofs.Runs.{went-then, went-one}
 
 under_way_more : (a b : ℕ) (x y : Bool) (client : ℕ) → a ≡ b → x ≡ y → ((a == client) || x) ≡ ((b == client) || y)

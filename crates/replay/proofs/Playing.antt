@@ -1,5 +1,5 @@
 -- Events, one after another.
-use Rattle.std.proofs.Common.{◌≡◌, ℕ, List, [], ◌∷◌, ◌++◌, ◌+◌, ◌<◌, ◌≤◌, map, Option, None, Result, Ok, Err, length, take, drop, get_or, refl, sym, ◌∙◌, ap, subst, arith}
+use Rattle.std.proofs.Common.{◌≡◌, ℕ, List, [], ◌∷◌, ◌++◌, ◌+◌, ◌<◌, ◌≤◌, Option, None, Ok, Err, length, take, drop, get_or, refl, sym, ◌∙◌, ap, subst}
 use Rattle.std.proofs.lemmas.List.{append-nil, append_assoc, map_more, map-append, take-append-drop, take_all, drop_more}
 use Rattle.std.specs.Io.KnownBytes.{Appends}
 use Rattle.cache_law.specs.declared.setting.Params.{Params}
@@ -15,7 +15,6 @@ use Rattle.replay.specs.declared.schedule.Break.{Break}
 use Rattle.replay.specs.declared.schedule.Break.TheVariants.{WriteFault, HistoryFull, NoMemory}
 use Rattle.replay.specs.declared.schedule.Stop.{Stop}
 use Rattle.replay.specs.declared.schedule.Stop.TheVariants.{Idle, Broken}
-use Rattle.replay.specs.declared.schedule.Halt.{Halt}
 use Rattle.replay.specs.declared.schedule.Halt.TheVariants as halts
 use Rattle.replay.specs.Scene.{Scene, opening_scene}
 use Rattle.replay.specs.Transcript.{IsIdle}

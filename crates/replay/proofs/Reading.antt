@@ -1,16 +1,15 @@
 -- Bytes of a URL, and what ends them.
-use Rattle.std.proofs.Common.{◌≡◌, ℕ, suc, Bool, true, false, not, cond, ◌||◌, ◌&&◌, ◌==◌, List, [], ◌∷◌, ◌++◌, ◌+◌, ◌%◌, ◌^◌, ◌<◌, ◌≤◌, Option, Some, None, length, take, drop, refl, sym, ◌∙◌, ap, subst, arith, nat_lt, nat_eq, one-add}
-use Rattle.std.proofs.lemmas.List.{append-nil, append_assoc, take_at, drop_at, take-append-drop, append_cancel_left}
+use Rattle.std.proofs.Common.{◌≡◌, ℕ, suc, Bool, true, false, not, cond, ◌||◌, ◌&&◌, ◌==◌, List, [], ◌∷◌, ◌++◌, ◌+◌, ◌%◌, ◌^◌, ◌<◌, ◌≤◌, Option, Some, None, length, take, drop, refl, sym, ◌∙◌, ap, arith, nat_eq, one-add}
+use Rattle.std.proofs.lemmas.List.{take_at, drop_at, take-append-drop, append_cancel_left}
 use Rattle.std.proofs.lemmas.Fmt.{decimal_by_steps}
 use Rattle.std.proofs.lemmas.List.Folds.{list_all-append}
 use Rattle.std.specs.Fmt.{decimal}
-use Rattle.std.proofs.lemmas.Bool.{agree_below_at, and_parts, or_left, true≢false, false≢true, ltb-true, ltb-false}
-use Rattle.std.proofs.lemmas.List.Sums.{prefix_len-le-length}
-use Rattle.std.specs.Prelude.{MatchOption, IsSomeAnd, IfSome}
+use Rattle.std.proofs.lemmas.Bool.{agree_below_at, and_parts, or_left, true≢false, false≢true}
+use Rattle.std.specs.Prelude.{MatchOption}
 use Rattle.std.specs.Borrow.{Bor}
 use Rattle.std.specs.List.{list_all, position_or_len}
 use Rattle.std.specs.Cmp.Lexicographic.{pointwise, same_text, other_text}
-use Rattle.replay.specs.Forms.{is_host_byte, is_url_byte, IsUrl, IsHost, IsRequestText, IsReplyText, before_host, before_length, line_ends}
+use Rattle.replay.specs.Forms.{is_host_byte, is_url_byte, IsUrl}
 use Rattle.replay.specs.Letters.{StartsOtherwise}
 
 -- what a prefix leaves, or why it isn't there

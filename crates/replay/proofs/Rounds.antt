@@ -1,6 +1,6 @@
 -- How a round goes on from what it wants, and how it breaks off.
-use Rattle.std.proofs.Common.{◌≡◌, ℕ, List, [], ◌∷◌, ◌++◌, ◌+◌, ◌<◌, ◌≤◌, Option, None, Result, Ok, Err, length, take, drop, refl, sym, ◌∙◌, ap, subst, arith}
-use Rattle.std.proofs.lemmas.List.{append-nil, append_assoc, take-append-drop, length-drop}
+use Rattle.std.proofs.Common.{◌≡◌, ℕ, List, [], ◌∷◌, ◌++◌, Option, None, Result, Ok, Err, length, take, drop, refl, sym, ◌∙◌, ap, subst, arith}
+use Rattle.std.proofs.lemmas.List.{append-nil, take-append-drop, length-drop}
 use Rattle.std.specs.Prelude.{IsErrOf, MatchResult, OnOk}
 use Rattle.std.specs.Io.KnownBytes.{Appends}
 use Rattle.wire.specs.Content.{AppendsPart}
@@ -9,7 +9,6 @@ use Rattle.cache_law.specs.declared.setting.Boot.{Boot}
 use Rattle.cache_law.specs.declared.call.Call.{Call}
 use Rattle.cache_law.specs.declared.call.Entry.{Entry}
 use Rattle.cache_law.specs.Core.{FitsBehind}
-use Rattle.cache_law.specs.History.{Legal}
 use Rattle.replay.specs.declared.policy.Request.{Request}
 use Rattle.replay.specs.declared.policy.Given.{Given}
 use Rattle.replay.specs.declared.policy.Want.{Want}
@@ -17,7 +16,7 @@ use Rattle.replay.specs.declared.policy.Want.TheVariants.{Ask, Exchange, Respond
 use Rattle.replay.specs.declared.schedule.Pending.{Pending}
 use Rattle.replay.specs.declared.schedule.Break.{Break}
 use Rattle.replay.specs.declared.schedule.Break.TheVariants.{WriteFault, HistoryFull, NoMemory}
-use Rattle.replay.specs.Scene.{Scene, Round, Waiting, Runs, fetch_line, response_line}
+use Rattle.replay.specs.Scene.{Scene, Waiting, fetch_line, response_line}
 use Rattle.replay.specs.Transcript.{WantsTooMuch, IsCutShort, line_of}
 use Rattle.replay.specs.Went.{Went, Leads, IsPending, ArePending, IsStage, KeepsCore, Breaks}
 use Rattle.replay.proofs.Runs.{went-then, went-map, went-still}

@@ -8,7 +8,7 @@ use Rattle.replay.specs.declared.policy.Given.{Given}
 use Rattle.replay.specs.declared.policy.Given.TheVariants.{Sent}
 use Rattle.replay.specs.declared.policy.Want.{Want}
 use Rattle.replay.specs.declared.policy.Want.TheVariants.{Respond, Exchange, Done}
-use Rattle.replay.specs.Scene.{Scene, Waiting, sends, fetches, ends, gave, with_running, at_rest, fetch_line, response_line}
+use Rattle.replay.specs.Scene.{Scene, sends, fetches, ends, gave, with_running, at_rest, fetch_line, response_line}
 use Rattle.replay.specs.Went.{Went, Leads}
 use Rattle.replay.proofs.Runs.{went-one}
 

@@ -1,5 +1,5 @@
 -- Which events the lines of a session stand for, as far as that is built.
-use Rattle.std.specs.Prelude.{◌≡◌, ℕ, List, [], ◌∷◌, ◌++◌}
+use Rattle.std.specs.Prelude.{◌≡◌, List, [], ◌∷◌, ◌++◌}
 use Rattle.session_text.specs.declared.session.Line.{Line}
 use Rattle.session_text.specs.declared.session.Line.TheVariants as lines
 use Rattle.session_text.specs.declared.session.NumberedLine.{NumberedLine}

@@ -11,7 +11,6 @@ use Rattle.replay.specs.declared.policy.Want.{Want}
 use Rattle.replay.specs.declared.event.Event.{Event}
 use Rattle.replay.specs.declared.event.NumberedEvent.{NumberedEvent}
 use Rattle.replay.specs.declared.event.Script.{Script}
-use Rattle.replay.specs.declared.schedule.Break.{Break}
 use Rattle.replay.specs.declared.schedule.Break.TheVariants as breaks
 use Rattle.replay.specs.declared.schedule.Halt.{Halt}
 use Rattle.replay.specs.declared.schedule.Halt.TheVariants as halts

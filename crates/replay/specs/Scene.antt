@@ -1,11 +1,10 @@
 -- Where a session stands, and the moves that lead on from there.
-use Rattle.std.specs.Prelude.{◌≡◌, ℕ, Bool, true, false, Option, Some, None, List, [], ◌∷◌, ◌++◌, ◌==◌, max, find, codes, remove}
+use Rattle.std.specs.Prelude.{◌≡◌, ℕ, Bool, false, Option, Some, None, List, [], ◌∷◌, ◌++◌, ◌==◌, max, find, codes, remove}
 use Rattle.std.specs.List.{list_any, position_or_len, flat_map}
 use Rattle.std.specs.Fmt.{decimal}
 use Rattle.units.specs.Quoted.{quote_of}
 use Rattle.cache_law.specs.declared.call.Entry.{Entry}
 use Rattle.replay.specs.declared.policy.Request.{Request}
-use Rattle.replay.specs.declared.policy.Arrival.{Arrival}
 use Rattle.replay.specs.declared.policy.Given.{Given}
 use Rattle.replay.specs.declared.policy.Given.TheVariants.{Start, Told, Came, Sent}
 use Rattle.replay.specs.declared.policy.Want.{Want}

@@ -1,18 +1,17 @@
 -- The transcript of a session, and how a session may end before its last line.
-use Rattle.std.specs.Prelude.{◌≡◌, ◌⊎◌, ℕ, Bool, true, Option, Some, None, List, [], ◌∷◌, ◌++◌, max, find, map}
+use Rattle.std.specs.Prelude.{◌≡◌, ℕ, true, None, List, [], ◌++◌, find}
 use Rattle.cache_law.specs.declared.setting.Params.{Params}
 use Rattle.cache_law.specs.declared.setting.Boot.{Boot}
 use Rattle.cache_law.specs.declared.call.Call.{Call}
 use Rattle.cache_law.specs.declared.call.Entry.{Entry}
-use Rattle.cache_law.specs.History.{Legal}
-use Rattle.cache_law.specs.Core.{FitsBehind, moment_of}
+use Rattle.cache_law.specs.Core.{FitsBehind}
 use Rattle.replay.specs.declared.policy.Request.{Request}
 use Rattle.replay.specs.declared.policy.Given.{Given}
 use Rattle.replay.specs.declared.policy.Want.{Want}
 use Rattle.replay.specs.declared.policy.Want.TheVariants.{Ask, Exchange, Respond, Done}
 use Rattle.replay.specs.declared.event.Event.{Event}
 use Rattle.replay.specs.declared.event.Event.TheVariants as events
-use Rattle.replay.specs.Scene.{Round, Waiting, Scene, Runs, Run, opening_scene, is_under_way, waits_for, fetch_line, response_line}
+use Rattle.replay.specs.Scene.{Round, Scene, Runs, Run, opening_scene, is_under_way, waits_for, fetch_line, response_line}
 
 -- These entries and this text are what the events of a session lead to, up to this scene.
 abbrev pub Leads : (Request → List Given → Want → Type 0) → List Event → List Entry → List ℕ → Scene → Type 0

@@ -1,5 +1,5 @@
 -- How far a part of a session has come, as the functions that play it tell.
-use Rattle.std.specs.Prelude.{◌≡◌, ℕ, Option, Some, None, List, [], ◌∷◌, ◌++◌, ◌≤◌, ◌-◌, map, Result, Ok, Err}
+use Rattle.std.specs.Prelude.{◌≡◌, ℕ, Option, None, List, [], ◌∷◌, ◌++◌, ◌≤◌, ◌-◌, map, Result, Ok, Err}
 use Rattle.std.specs.Io.KnownBytes.{Appends}
 use Rattle.cache_law.specs.declared.setting.Params.{Params}
 use Rattle.cache_law.specs.declared.setting.Boot.{Boot}

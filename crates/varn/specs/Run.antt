@@ -1,5 +1,5 @@
 -- What a run leaves, for each way in which it may end.
-use Rattle.std.specs.Prelude.{◌≡◌, ◌≢◌, ◌⊎◌, ℕ, Option, Some, None, List, [], ◌∷◌, codes}
+use Rattle.std.specs.Prelude.{◌≡◌, ◌⊎◌, ℕ, Option, Some, None, List, [], ◌∷◌, codes}
 use Rattle.wire.specs.Content.{ReadsUpTo}
 use Rattle.session_text.specs.declared.session.Session.{Session as TheSession}
 use Rattle.session_text.specs.declared.session.FaultKind.{FaultKind}
@@ -12,7 +12,6 @@ use Rattle.replay.specs.declared.event.Script.{Script}
 use Rattle.replay.specs.declared.script.BuildError.TheVariants.{NotBuilt}
 use Rattle.replay.specs.declared.session.ReplayError.{ReplayError}
 use Rattle.replay.specs.declared.session.ReplayError.TheVariants as refusals
-use Rattle.replay.specs.declared.session.Replayed.{Replayed}
 use Rattle.replay.specs.Build.{IsBuilt, IsBuildError}
 use Rattle.replay.specs.FixedPolicy.{Wants}
 use Rattle.replay.specs.Replayed.{EndsSo}

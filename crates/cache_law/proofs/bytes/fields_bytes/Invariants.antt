@@ -1,4 +1,4 @@
-use Rattle.std.proofs.Common.{◌≡◌, ◌+◌, ◌-◌, ◌^◌, ◌≤◌, min, take}
+use Rattle.std.proofs.Common.{◌≡◌, ◌+◌, ◌-◌, ◌^◌, min, take}
 use Rattle.cache_law.specs.Object.{fields_len}
 use Rattle.cache_law.proofs.bytes.fields_bytes.Given as goal
 

@@ -1,5 +1,4 @@
-use Rattle.std.proofs.Common.{◌≡◌, ◌≤◌, ℕ, length, not, Some, None, refl, sym, ◌∙◌, arith}
-use Rattle.std.specs.Prelude.{position}
+use Rattle.std.proofs.Common.{ℕ, length, not, refl, sym, ◌∙◌, arith}
 use Rattle.std.specs.List.{position_or_len}
 use Rattle.std.proofs.lemmas.List.Sums.{prefix_len-le-length}
 use Rattle.replay.specs.Forms.{is_url_byte}

@@ -1,4 +1,4 @@
-use Rattle.std.proofs.Common.{◌≤◌, ◌∙◌, ℕ, List, sym, length, not, arith}
+use Rattle.std.proofs.Common.{◌∙◌, ℕ, sym, not, arith}
 use Rattle.std.proofs.lemmas.List.{append_cancel_left}
 use Rattle.std.proofs.lemmas.List.Sums.{prefix_len-le-length}
 use Rattle.replay.specs.Forms.{is_url_byte}

@@ -1,4 +1,4 @@
-use Rattle.std.proofs.Common.{◌≡◌, ◌==◌, ◌∙◌, ◌++◌, ℕ, Bool, true, List, [], length, sym, subst, ap}
+use Rattle.std.proofs.Common.{◌≡◌, ◌==◌, ◌∙◌, ◌++◌, ℕ, true, List, [], length, sym, subst, ap}
 use Rattle.std.specs.Prelude.{IsTrue}
 use Rattle.replay.specs.Forms.{IsUrl, IsHost, line_ends}
 use Rattle.replay.proofs.Reading.{url_letters, host_in_url}

@@ -1,6 +1,5 @@
-use Rattle.std.proofs.Common.{◌≡◌, ◌==◌, ℕ, List, [], ◌∷◌, None, Some, refl, sym, ap, ◌∙◌, subst}
+use Rattle.std.proofs.Common.{◌≡◌, ◌==◌, ℕ, List, [], ◌∷◌, None, Some, refl, sym, subst}
 use Rattle.std.specs.Prelude.{position}
-use Rattle.replay.specs.declared.event.Event.{Event}
 use Rattle.replay.specs.declared.event.Event.TheVariants as events
 use Rattle.replay.specs.declared.policy.Given.TheVariants.{Came}
 use Rattle.replay.specs.declared.schedule.Pending.{Pending}

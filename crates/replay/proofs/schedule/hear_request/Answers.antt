@@ -1,6 +1,4 @@
-use Rattle.std.proofs.Common.{◌≡◌, ◌==◌, List, [], ◌∷◌, true, false, refl, sym, ap, ◌∙◌}
-use Rattle.std.specs.List.{list_any}
-use Rattle.replay.specs.declared.event.Event.{Event}
+use Rattle.std.proofs.Common.{◌≡◌, [], ◌∷◌, true, false, refl}
 use Rattle.replay.specs.declared.event.Event.TheVariants as events
 use Rattle.replay.specs.Scene.{begun, is_under_way, with_running}
 use Rattle.replay.proofs.Hearing.{under_way, request_heard}

@@ -1,6 +1,5 @@
-use Rattle.std.proofs.Common.{◌≡◌, ℕ, List, [], ◌∷◌, max, None, refl, sym, ap, ◌∙◌}
+use Rattle.std.proofs.Common.{ℕ, max, None, refl, sym, ap, ◌∙◌}
 use Rattle.std.proofs.lemmas.List.{append-nil}
-use Rattle.replay.specs.declared.event.Event.{Event}
 use Rattle.replay.specs.declared.event.Event.TheVariants as events
 use Rattle.replay.specs.Scene.{hears}
 use Rattle.replay.proofs.Runs.{went-one}

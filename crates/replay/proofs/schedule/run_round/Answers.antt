@@ -1,4 +1,4 @@
-use Rattle.std.proofs.Common.{refl, ◌∙◌, arith}
+use Rattle.std.proofs.Common.{refl, arith}
 use Rattle.replay.proofs.Runs.{went-here}
 use Rattle.replay.proofs.Sending.{Appends-nil}
 use Rattle.replay.proofs.Rounds.{KeepsCore-then, goes_on, ask_breaks, respond_breaks, exchange_rests, done_rests, asked_met}

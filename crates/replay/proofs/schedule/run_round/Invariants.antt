@@ -1,4 +1,4 @@
-use Rattle.std.proofs.Common.{◌≡◌, ◌*◌, ◌+◌, ◌≤◌, [], ℕ, List, cond}
+use Rattle.std.proofs.Common.{◌≡◌, ◌*◌, ◌+◌, ◌≤◌, [], cond}
 use Rattle.std.specs.Io.KnownBytes.{Appends}
 use Rattle.replay.specs.Policy.{is_response}
 use Rattle.replay.specs.Scene.{Scene}

@@ -1,4 +1,4 @@
-use Rattle.std.proofs.Common.{◌≡◌, ◌<◌, ℕ, List, sym, ◌∙◌, ap, subst, refl, length, get_or, take}
+use Rattle.std.proofs.Common.{◌≡◌, ◌<◌, List, subst, refl, length, get_or, take}
 use Rattle.session_text.specs.declared.session.NumberedLine.{NumberedLine}
 use Rattle.replay.specs.Build.{IsBuiltAs}
 use Rattle.replay.proofs.Building.{built_more, not_built, all_built}

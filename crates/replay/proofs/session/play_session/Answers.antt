@@ -1,6 +1,4 @@
-use Rattle.std.proofs.Common.{◌≡◌, ◌==◌, [], ℕ, List, refl, sym, ◌∙◌, ap, subst, length}
-use Rattle.cache_law.specs.declared.setting.Params.{Params}
-use Rattle.cache_law.specs.declared.setting.Boot.{Boot}
+use Rattle.std.proofs.Common.{◌==◌, [], List, refl, sym, ◌∙◌, ap, subst, length}
 use Rattle.cache_law.specs.declared.call.Entry.{Entry}
 use Rattle.cache_law.specs.History.{Legal}
 use Rattle.replay.specs.declared.event.NumberedEvent.{NumberedEvent}

@@ -1,4 +1,4 @@
-use Rattle.std.proofs.Common.{ℕ, List, ◌∙◌, ap, sym, nat_eq}
+use Rattle.std.proofs.Common.{ℕ, List, ◌∙◌, ap, nat_eq}
 use Rattle.std.specs.Cmp.Lexicographic.{pointwise}
 use Rattle.varn.proofs.Outcomes.{one_word}
 use Rattle.varn.proofs.run.is_replay.Goals as goal
