@@ -19,14 +19,22 @@ use wire::{StreamSink, StreamSource};
 
 const USAGE: &str = "usage: varn replay < SESSION > TRANSCRIPT";
 
-// The words of the command line behind the program's name; none where they can't be had as text.
-fn read_words(rt: &HostRuntime) -> Option<Vec<Text>> {
+// The words of the command line behind the program's name; or how the run ends where they can't be had: words
+// that aren't text are no words of a command.
+fn read_words(rt: &HostRuntime) -> Result<Vec<Text>, Status> {
+    let Ok(line) = env::args(rt) else {
+        return Err(Status::Words);
+    };
     let mut words = Vec::new(rt.alloc());
-    for word in env::args(rt).ok()?.skip(1) {
-        let text = Text::of(rt.alloc(), word.as_bytes()).ok()?;
-        words.push(text).ok()?;
+    for word in line.skip(1) {
+        let Ok(text) = Text::of(rt.alloc(), word.as_bytes()) else {
+            return Err(Status::NoMemory);
+        };
+        if words.push(text).is_err() {
+            return Err(Status::NoMemory);
+        }
     }
-    Some(words)
+    Ok(words)
 }
 
 fn tell(rt: &HostRuntime, status: Status, note: Option<Note>) {
@@ -41,9 +49,12 @@ fn tell(rt: &HostRuntime, status: Status, note: Option<Note>) {
 }
 
 fn main(rt: HostRuntime) -> ExitCode {
-    let Some(words) = read_words(&rt) else {
-        tell(&rt, Status::Words, None);
-        return ExitCode::from(Status::Words.code());
+    let words = match read_words(&rt) {
+        Ok(words) => words,
+        Err(status) => {
+            tell(&rt, status, None);
+            return ExitCode::from(status.code());
+        }
     };
     let mut source = StreamSource::new(rt.stdin());
     let mut sink = StreamSink::new(rt.stdout());
