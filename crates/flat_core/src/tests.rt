@@ -2,6 +2,7 @@ use super::*;
 use cache_law::{
     Boot, CacheCore, Call, Object, Params, Reply, RequestView, StepError, Timing, Told,
 };
+use http_heads::Fields;
 use std::alloc::{AllocError, Global};
 use std::test::Fail;
 use units::{Sequence, Text};
@@ -28,7 +29,7 @@ fn object_of(alloc: Global, name: &[u8], body: &[u8], ttl: i64) -> Result<Object
         key: key_of(alloc, name)?,
         status: 200,
         reason: Text::of(alloc, b"")?,
-        fields: Sequence::new(alloc),
+        fields: Fields::new(alloc),
         body: Text::of(alloc, body)?,
         timing: Timing {
             origin: 0,
@@ -46,7 +47,7 @@ fn call_of(alloc: Global, ask: Ask) -> Result<Call, AllocError> {
             key: key_of(alloc, name)?,
             request: RequestView {
                 url: Text::of(alloc, b"")?,
-                fields: Sequence::new(alloc),
+                fields: Fields::new(alloc),
             },
         },
         Ask::Pick(target) => Call::Pick {
