@@ -13,6 +13,7 @@ use outcome::{Note, Status};
 use run::run;
 use std::alloc::{AllocError, Global};
 use std::env;
+use std::io::ErrorKind;
 use std::process::ExitCode;
 use units::{Sequence, Text};
 use wire::{StreamSink, StreamSource};
@@ -22,8 +23,14 @@ const USAGE: &str = "usage: varn replay < SESSION > TRANSCRIPT";
 // The words of the command line behind the program's name; or how the run ends where they can't be had: words
 // that aren't text are no words of a command.
 fn read_words(rt: &HostRuntime) -> Result<Vec<Text>, Status> {
-    let Ok(line) = env::args(rt) else {
-        return Err(Status::Words);
+    let line = match env::args(rt) {
+        Ok(line) => line,
+        Err(error) => {
+            return Err(match error.kind() {
+                ErrorKind::OutOfMemory => Status::NoMemory,
+                _ => Status::Words,
+            });
+        }
     };
     let mut words = Vec::new(rt.alloc());
     for word in line.skip(1) {
