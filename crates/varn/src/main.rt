@@ -44,15 +44,22 @@ fn read_words(rt: &HostRuntime) -> Result<Vec<Text>, Status> {
     Ok(words)
 }
 
+// Says on standard error how a run ended that wasn't whole.
 fn tell(rt: &HostRuntime, status: Status, note: Option<Note>) {
     if let Some(note) = note {
         let line = note.line;
         let kind = note.kind;
         let _ = eprintln!(rt; "line {line} kind {kind}");
     }
-    if status == Status::Words {
-        let _ = eprintln!(rt; "{USAGE}");
-    }
+    let message = match status {
+        Status::Done | Status::Session => return,
+        Status::Words => USAGE,
+        Status::ReadFault => "reading the session failed",
+        Status::WriteFault => "writing the transcript failed",
+        Status::NoMemory => "out of memory",
+        Status::HistoryFull => "the history is full",
+    };
+    let _ = eprintln!(rt; "{message}");
 }
 
 fn main(rt: HostRuntime) -> ExitCode {
