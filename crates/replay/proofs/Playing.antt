@@ -17,7 +17,7 @@ use Rattle.replay.specs.declared.schedule.Stop.{Stop}
 use Rattle.replay.specs.declared.schedule.Stop.TheVariants.{Idle, Broken}
 use Rattle.replay.specs.declared.schedule.Halt.TheVariants as halts
 use Rattle.replay.specs.Scene.{Scene, opening_scene}
-use Rattle.replay.specs.Transcript.{IsIdle}
+use Rattle.replay.specs.Endings.{IsIdle}
 use Rattle.replay.specs.Went.{Went, IsStage, Breaks, Plays, PlaysAll, events_in}
 use Rattle.replay.proofs.Runs.{went-at, went-map, went-still}
 use Rattle.replay.proofs.Sending.{Appends-then, Appends-at}

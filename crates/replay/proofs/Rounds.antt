@@ -17,7 +17,7 @@ use Rattle.replay.specs.declared.schedule.Pending.{Pending}
 use Rattle.replay.specs.declared.schedule.Break.{Break}
 use Rattle.replay.specs.declared.schedule.Break.TheVariants.{WriteFault, HistoryFull, NoMemory}
 use Rattle.replay.specs.Scene.{Scene, Waiting, fetch_line, response_line}
-use Rattle.replay.specs.Transcript.{WantsTooMuch, IsCutShort, line_of}
+use Rattle.replay.specs.Endings.{WantsTooMuch, IsCutShort, line_of}
 use Rattle.replay.specs.Went.{Went, Leads, IsPending, ArePending, IsStage, KeepsCore, Breaks}
 use Rattle.replay.proofs.Runs.{went-then, went-map, went-still}
 use Rattle.replay.proofs.Sending.{Appends-nil, Appends-same, Appends-then, Appends-at, exchanged, ended}

@@ -3,7 +3,7 @@ pub mod Messages
 pub mod FixedPolicy
 pub mod Visit
 pub mod Scene
-pub mod Transcript
+pub mod Endings
 pub mod Forms
 pub mod Letters
 pub mod Build

@@ -18,7 +18,7 @@ use Rattle.replay.specs.declared.session.ReplayError.{ReplayError}
 use Rattle.replay.specs.declared.session.ReplayError.TheVariants.{Idle, Unanswered, WriteFault, HistoryFull, NoMemory}
 use Rattle.replay.specs.declared.session.Replayed.{Replayed}
 use Rattle.replay.specs.Scene.{Scene, opening_scene}
-use Rattle.replay.specs.Transcript.{IsIdle, WantsTooMuch, IsCutShort}
+use Rattle.replay.specs.Endings.{IsIdle, WantsTooMuch, IsCutShort}
 use Rattle.replay.specs.Went.{Went, events_in}
 
 -- the refusal for a halt

@@ -18,7 +18,7 @@ use Rattle.replay.specs.declared.schedule.Halt.{Halt}
 use Rattle.replay.specs.declared.schedule.Halt.TheVariants as halts
 use Rattle.replay.specs.declared.event.NumberedEvent.{NumberedEvent}
 use Rattle.replay.specs.Scene.{Round, Waiting, Scene, Runs, Run, opening_scene}
-use Rattle.replay.specs.Transcript.{WantsTooMuch, IsCutShort, IsIdle}
+use Rattle.replay.specs.Endings.{WantsTooMuch, IsCutShort, IsIdle}
 
 -- From a scene on, some moves read these events, led from one history to another and to a scene and a text of
 -- which this holds.

@@ -12,7 +12,7 @@ use crate::{Arrival, Given, Policy, Request, Want};
 use cache_law::{Call, Object, ObjectView, Reply, RequestView, Timing};
 use http_heads::Fields;
 use std::alloc::{AllocError, Global};
-use units::{Copied, Sequence, Text, push_number, write_number};
+use units::{Sequence, Text, push_number, write_number};
 
 /// The greatest moment that an object's time is counted from: the end of the year 9999.
 const LAST_MOMENT: u64 = 253_402_300_799_999;
@@ -26,15 +26,6 @@ pub struct Visit {
     vcl: u32,
     token: u64,
     arrival: Option<Arrival>,
-}
-
-impl Copied for Arrival {
-    fn copied(&self, alloc: Global) -> Result<Self, AllocError> {
-        Ok(Arrival {
-            moment: self.moment,
-            body: self.body.copy()?,
-        })
-    }
 }
 
 // The address of a client.

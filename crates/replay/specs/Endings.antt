@@ -1,4 +1,4 @@
--- The transcript of a session, and how a session may end before its last line.
+-- What ends a session before its last line.
 use Rattle.std.specs.Prelude.{◌≡◌, ℕ, true, None, List, [], ◌++◌, find}
 use Rattle.cache_law.specs.declared.setting.Params.{Params}
 use Rattle.cache_law.specs.declared.setting.Boot.{Boot}
@@ -11,18 +11,7 @@ use Rattle.replay.specs.declared.policy.Want.{Want}
 use Rattle.replay.specs.declared.policy.Want.TheVariants.{Ask, Exchange, Respond, Done}
 use Rattle.replay.specs.declared.event.Event.{Event}
 use Rattle.replay.specs.declared.event.Event.TheVariants as events
-use Rattle.replay.specs.Scene.{Round, Scene, Runs, Run, opening_scene, is_under_way, waits_for, fetch_line, response_line}
-
--- These entries and this text are what the events of a session lead to, up to this scene.
-abbrev pub Leads : (Request → List Given → Want → Type 0) → List Event → List Entry → List ℕ → Scene → Type 0
-Leads wants events_read entries text scene = Run wants opening_scene scene events_read entries text
-
--- the whole session is played: nobody runs and nobody waits
-pub record IsTranscript (wants : Request → List Given → Want → Type 0) (events_read : List Event) (entries : List Entry) (text : List ℕ) : Type 0 where
-  pub scene : Scene
-  pub leads : Leads wants events_read entries text scene
-  pub nobody_runs : scene.running ≡ None
-  pub nobody_waits : scene.waiting ≡ []
+use Rattle.replay.specs.Scene.{Round, Scene, Runs, is_under_way, waits_for, fetch_line, response_line}
 
 -- the event can't be played here: a request of a client that is under way, or a reply that no round waits for
 abbrev pub IsIdle : Scene → Event → Type 0
