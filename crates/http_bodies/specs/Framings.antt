@@ -1,14 +1,15 @@
 -- Which fields say where a body ends (RFC 9112, section 6.3).
-use Rattle.std.specs.Prelude.{ℕ, ◌^◌, Bool, not, ◌&&◌, ◌||◌, ◌==◌, nat_lt, List, length, codes, Option, Some, None, false, if◌then◌else◌}
+use Rattle.std.specs.Prelude.{◌≡◌, ◌<◌, IsTrue, IsSomeAnd, ℕ, ◌^◌, Bool, not, ◌&&◌, ◌||◌, ◌==◌, nat_lt, List, length, codes, Option, Some, None, false, if◌then◌else◌}
 use Rattle.std.specs.List.{list_all}
 use Rattle.std.specs.Char.{is_digit}
 use Rattle.std.specs.Str.Parse.{digits_value}
 use Rattle.http_heads.specs.declared.fields.Field.{Field}
-use Rattle.http_heads.specs.Fields.{is_named}
+use Rattle.units.specs.Folding.{folded}
+use Rattle.http_heads.specs.Fields.{is_named, count_of, first_value}
 use Rattle.http_bodies.specs.declared.framing.Kind.{Kind}
 use Rattle.http_bodies.specs.declared.framing.Kind.TheVariants.{Request, Reply, NoBody}
 use Rattle.http_bodies.specs.declared.framing.Framing.{Framing}
-use Rattle.http_bodies.specs.declared.framing.Framing.TheVariants.{Nothing, UntilEnd}
+use Rattle.http_bodies.specs.declared.framing.Framing.TheVariants.{Nothing, Length, Chunked, UntilEnd}
 
 abbrev pub length_name : List ℕ
 length_name = codes "content-length"
@@ -38,3 +39,19 @@ abbrev pub unsaid : Kind → Framing
 unsaid Request = Nothing
 unsaid Reply = UntilEnd
 unsaid NoBody = Nothing
+
+-- These fields say so where the body of such a message ends: one `chunked` as the only coding; or lengths, which agree;
+-- a message with both says nothing.
+abbrev pub Says : Kind → List Field → Framing → Type 0
+Says kind fields Nothing = (count_of length_name fields ≡ 0) × (count_of coding_name fields ≡ 0) × (unsaid kind ≡ Nothing)
+Says kind fields UntilEnd = (count_of length_name fields ≡ 0) × (count_of coding_name fields ≡ 0) × (unsaid kind ≡ UntilEnd)
+Says kind fields Chunked =
+    (count_of length_name fields ≡ 0) × (count_of coding_name fields ≡ 1)
+    × IsSomeAnd (first_value coding_name fields) (λ coding. folded coding ≡ codes "chunked")
+Says kind fields (Length n) = (0 < count_of length_name fields) × (count_of coding_name fields ≡ 0) × IsTrue (says_length n fields)
+
+-- the framing of a message of this kind with these fields
+abbrev pub Frames : Kind → List Field → Framing → Type 0
+Frames NoBody fields framing = framing ≡ Nothing
+Frames Request fields framing = Says Request fields framing
+Frames Reply fields framing = Says Reply fields framing

@@ -1,8 +1,9 @@
 // Where a body ends.
-ghost use Rattle.std.specs.Prelude.{◌≡◌, ◌≢◌, ◌<◌, ℕ, codes, not, ◌||◌, true, false, IsTrue, Ok, Err, IfSome, MatchOption};
+ghost use Rattle.std.specs.Prelude.{◌≡◌, ◌≢◌, ◌↔◌, ◌<◌, ℕ, codes, not, ◌||◌, true, false, IsTrue, Ok, Err, IfOk, IfSome, IsSomeAnd, MatchOption};
 ghost use Rattle.units.specs.Folding.{folded};
 ghost use Rattle.http_heads.specs.Fields.{is_named, count_of, first_value};
-ghost use Rattle.http_bodies.specs.Framings.{length_name, coding_name, length_number, is_length, says_length, unsaid};
+ghost use Rattle.http_bodies.specs.Framings.{length_name, coding_name, length_number, is_length, says_length, Frames};
+ghost use Rattle.http_bodies.specs.declared.framing.Framing.{Framing as Way};
 
 use http_heads::{Field, Fields};
 use units::{fold_eq, value_of_digits};
@@ -48,18 +49,13 @@ pub enum BodyError {
 /// Where the body of a message with these fields ends (RFC 9112, section 6.3). `NoBody` looks at no
 /// field. It takes no memory.
 pub fn frame(fields: &Fields, kind: Kind) -> Result<Framing, BodyError>
-    ensures no_body { kind ≡ Kind.NoBody → result ≡ Ok Framing.Nothing }
-    ensures unsaid { kind ≢ Kind.NoBody → count_of length_name fields.now ≡ 0 → count_of coding_name fields.now ≡ 0
-        → result ≡ Ok (unsaid kind) }
+    ensures framed { IfOk result (Frames kind fields.now) }
+    ensures only { (framing : Way) → Frames kind fields.now framing → result ≡ Ok framing }
     ensures both { kind ≢ Kind.NoBody → 0 < count_of length_name fields.now → 0 < count_of coding_name fields.now
         → result ≡ Err BodyError.TwoFramings }
-    ensures chunked { kind ≢ Kind.NoBody → count_of length_name fields.now ≡ 0 → count_of coding_name fields.now ≡ 1
-        → IfSome (first_value coding_name fields.now) (λ coding. folded coding ≡ codes "chunked" → result ≡ Ok Framing.Chunked) }
     ensures other_coding { kind ≢ Kind.NoBody → count_of length_name fields.now ≡ 0 → count_of coding_name fields.now ≡ 1
         → IfSome (first_value coding_name fields.now) (λ coding. folded coding ≢ codes "chunked" → result ≡ Err BodyError.TwoFramings) }
     ensures codings { kind ≢ Kind.NoBody → 1 < count_of coding_name fields.now → result ≡ Err BodyError.TwoFramings }
-    ensures length { kind ≢ Kind.NoBody → 0 < count_of length_name fields.now → count_of coding_name fields.now ≡ 0
-        → (n : ℕ) → IsTrue (says_length n fields.now) → result ≡ Ok (Framing.Length n) }
     ensures no_length { kind ≢ Kind.NoBody → 0 < count_of length_name fields.now → count_of coding_name fields.now ≡ 0
         → ((n : ℕ) → ¬ (IsTrue (says_length n fields.now))) → result ≡ Err BodyError.BadLength }
 {
@@ -88,8 +84,7 @@ pub fn frame(fields: &Fields, kind: Kind) -> Result<Framing, BodyError>
 
 // Whether the first Transfer-Encoding is `chunked`.
 fn is_chunked(fields: &Fields) -> bool
-    ensures { IfSome (first_value coding_name fields.now) (λ coding. (folded coding ≡ codes "chunked" → result ≡ true)
-        × (folded coding ≢ codes "chunked" → result ≡ false)) }
+    ensures { IsTrue result ↔ IsSomeAnd (first_value coding_name fields.now) (λ coding. folded coding ≡ codes "chunked") }
 {
     match fields.first(b"transfer-encoding") {
         Some(coding) => fold_eq(coding.bytes(), b"chunked"),

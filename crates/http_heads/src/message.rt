@@ -1,6 +1,7 @@
 // The head of a message, as a value.
 use crate::Fields;
-use units::Text;
+use std::alloc::{AllocError, Global};
+use units::{Copied, Text};
 
 /// The head of a request.
 #[derive(Drop)]
@@ -22,6 +23,28 @@ pub struct ResponseHead {
     /// The reason phrase, which may be empty.
     pub reason: Text,
     pub fields: Fields,
+}
+
+impl Copied for RequestHead {
+    fn copied(&self, alloc: Global) -> Result<Self, AllocError> {
+        Ok(RequestHead {
+            method: self.method.copy()?,
+            url: self.url.copy()?,
+            version: self.version,
+            fields: self.fields.copied(alloc)?,
+        })
+    }
+}
+
+impl Copied for ResponseHead {
+    fn copied(&self, alloc: Global) -> Result<Self, AllocError> {
+        Ok(ResponseHead {
+            version: self.version,
+            status: self.status,
+            reason: self.reason.copy()?,
+            fields: self.fields.copied(alloc)?,
+        })
+    }
 }
 
 /// Why bytes are refused as a head.
