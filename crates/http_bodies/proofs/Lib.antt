@@ -1,5 +1,10 @@
 mod LengthFacts
 mod Prefixes
+mod ByteFacts
+mod PlaceFacts
 mod LineFacts
+mod LivingFacts
 mod TrailerFacts
 mod StepFacts
+mod AnswerFacts
+mod LawFacts

@@ -6,12 +6,16 @@
 #![tactic(auto)]
 
 mod framing;
+mod laws;
+mod line;
 mod place;
 mod reader;
 mod steps;
 #[cfg(test)]
 mod tests;
+mod trailer;
 
 pub use framing::{BodyError, Framing, Kind, frame};
-pub use place::Place;
+pub use laws::{any_cut, one_answer};
+pub use place::{LinePart, Place};
 pub use reader::BodyReader;
