@@ -1,5 +1,5 @@
 -- What readers answer, one piece after another.
-use Rattle.std.proofs.Common.{◌≡◌, ℕ, ◌+◌, ◌-◌, ◌≤◌, ◌⊎◌, inl, inr, ◌↔◌, List, [], ◌∷◌, ◌++◌, length, take, drop, refl, sym, ◌∙◌, ap, subst, arith, append_assoc, append-nil, length-append, length-drop}
+use Rattle.std.proofs.Common.{◌≡◌, ◌≢◌, ℕ, zero, suc, ◌+◌, ◌-◌, ◌≤◌, ◌⊎◌, inl, inr, ◌↔◌, List, [], ◌∷◌, ◌++◌, length, take, drop, refl, sym, ◌∙◌, ap, subst, arith, append_assoc, append-nil, length-append, length-drop}
 use Rattle.std.proofs.Math.Seq.{take-add}
 use Rattle.httparse.specs.Grammar.{print_extension}
 use Rattle.http_bodies.specs.declared.framing.BodyError.{BodyError}
@@ -11,8 +11,10 @@ use Rattle.http_bodies.specs.declared.place.LinePart.TheVariants.{Size, Blanks, 
 use Rattle.http_bodies.specs.Reading.{ReaderState, LineLeft, Left, Ends, Makes, Follows, state}
 use Rattle.http_bodies.specs.Places.{IsSound, due}
 use Rattle.http_bodies.specs.Answers.{HasEnd, HasEndWithin, GoesOn, IsKind, Takes, Refuses}
+use Rattle.http_bodies.specs.Bodies.{IsChunked}
+use Rattle.http_bodies.proofs.LineFacts.{chunks_left}
 use Rattle.http_bodies.proofs.TrailerFacts.{section_some, value_some, name_some}
-use Rattle.http_bodies.proofs.LivingFacts.{zeros, zeros_length, data_lives, line_lives}
+use Rattle.http_bodies.proofs.LivingFacts.{zeros, zeros_length, last_chunk, data_lives, line_lives}
 
 -- ---- each place but a refused one has an end
 
@@ -50,6 +52,29 @@ has_end place kept limit sound fits =
 
 pub over : (kept : List ℕ) (limit : ℕ) → ¬ (GoesOn (state Whole kept limit) [])
 over kept limit goes = let never : goes.0 ∷ goes.1 ≡ [] = goes.3.left.0 in cc
+
+-- each but the whole body's goes on
+pub goes_on : (place : Place) (kept : List ℕ) (limit room : ℕ) → IsSound place room → place ≢ Whole → GoesOn (state place kept limit) []
+goes_on Whole kept limit room sound other = absurd (other refl)
+goes_on (Sized zero) kept limit room sound other = absurd (omega (arith, sound.waits))
+goes_on (Sized (suc n)) kept limit room sound other =
+    (0, zeros n, kept ++ 0 ∷ zeros n, record { added = 0 ∷ zeros n; left = (refl, omega (arith, zeros_length n)); whole = refl })
+goes_on Open kept limit room sound other = (0, [], kept ++ 0 ∷ [], record { added = 0 ∷ []; left = refl; whole = refl })
+goes_on (Data zero) kept limit room sound other = absurd (omega (arith, sound.waits))
+goes_on (Data (suc n)) kept limit room sound other = (
+  0,
+  zeros n ++ 13 ∷ 10 ∷ 48 ∷ 13 ∷ 10 ∷ 10 ∷ [],
+  kept ++ (0 ∷ zeros n ++ []),
+  record {
+    added = 0 ∷ zeros n ++ [];
+    left = (0 ∷ zeros n, 48 ∷ 13 ∷ 10 ∷ 10 ∷ [], [], refl, omega (arith, zeros_length n), last_chunk, refl);
+    whole = refl;
+  },
+)
+goes_on (Line part) kept limit room sound other =
+    let lives = line_lives part sound.waits in
+    (lives.byte, lives.text, kept ++ lives.added, record { added = lives.added; left = lives.left; whole = refl })
+goes_on (Refused e) kept limit room sound other = absurd sound.waits
 
 -- ---- one after another
 
@@ -189,3 +214,12 @@ takes_body a b piece at within whole follows sound fits = record {
       (subst (λ (p : Place). GoesOn (state p b.kept b.limit) []) whole
       ((goes_on_after a b (take at piece) [] follows).1 (subst (GoesOn a) (sym (append-nil (take at piece))) goes)));
 }
+
+-- ---- at the start of the bytes
+
+-- before the first chunk
+pub chunks_end : (limit : ℕ) (text body : List ℕ) → Ends (state (Line (Size 0 0)) [] limit) text body ↔ IsChunked text body
+chunks_end limit text body = (
+  λ e. subst (λ (b : List ℕ). IsChunked text b) (sym e.whole) ((chunks_left text e.added).0 e.left),
+  λ b. record { added = body; left = (chunks_left text body).1 b; whole = refl },
+)

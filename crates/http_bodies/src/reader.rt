@@ -3,7 +3,7 @@ ghost use Rattle.std.specs.Prelude.{◌≡◌, ◌≢◌, ◌-◌, ◌≤◌, �
 ghost use Rattle.http_bodies.specs.Bodies.{IsBody};
 ghost use Rattle.http_bodies.specs.Reading.{ReaderState, Ends, Makes, Follows, state};
 ghost use Rattle.http_bodies.specs.Places.{IsSound, IsReader};
-ghost use Rattle.http_bodies.specs.Answers.{HasEndWithin, Takes, Refuses};
+ghost use Rattle.http_bodies.specs.Answers.{HasEndWithin, GoesOn, Takes, Refuses};
 ghost use Rattle.http_bodies.specs.declared.place.Place.{Place};
 ghost use Rattle.http_bodies.specs.declared.framing.BodyError.{BodyError};
 ghost use Rattle.http_bodies.specs.declared.framing.Framing.{Framing};
@@ -40,6 +40,7 @@ fn first_place(framing: Framing, limit: u64) -> Place
     ensures sound { IsReader result [] limit }
     ensures ends { ((error : BodyError) → result ≢ Place.Refused error)
         → (text body : List ℕ) → Ends (state result [] limit) text body ↔ IsBody framing text body }
+    ensures makes { (text body : List ℕ) → Makes (state result [] limit) text body ↔ (IsBody framing text body × (length body ≤ limit)) }
     ensures large { (n : ℕ) → framing ≡ Framing.Length n → limit < n → result ≡ Place.Refused BodyError.TooLarge }
     ensures refused { (error : BodyError) → result ≡ Place.Refused error
         → (error ≡ BodyError.TooLarge) × (n : ℕ) × (framing ≡ Framing.Length n) × (limit < n) }
@@ -67,6 +68,7 @@ impl BodyReader {
         ensures limit { result.limit ≡ limit }
         ensures ends { ((error : BodyError) → result.place ≢ Place.Refused error)
             → (text body : List ℕ) → Ends result text body ↔ IsBody framing text body }
+        ensures makes { (text body : List ℕ) → Makes result text body ↔ (IsBody framing text body × (length body ≤ limit)) }
         ensures large { (n : ℕ) → framing ≡ Framing.Length n → limit < n → result.place ≡ Place.Refused BodyError.TooLarge }
         ensures refused { (error : BodyError) → result.place ≡ Place.Refused error
             → (error ≡ BodyError.TooLarge) × (n : ℕ) × (framing ≡ Framing.Length n) × (limit < n) }
@@ -83,6 +85,7 @@ impl BodyReader {
     /// of memory it is as before.
     pub fn feed(&mut self, piece: &[u8]) -> Result<usize, BodyError>
         ensures taken { IfOk result (λ n. Takes self.old piece.now n × Follows self.old self.new (take n piece.now)) }
+        ensures end { IfOk result (λ n. n < length piece.now → self.new.place ≡ Place.Whole) }
         ensures refused { IfErr result (λ e. e ≢ BodyError.NoMemory → (self.new.place ≡ Place.Refused e)
             × ((self.old.place ≡ Place.Refused e) ⊎ Refuses self.old piece.now e)) }
         ensures again { (e : BodyError) → self.old.place ≡ Place.Refused e → (result ≡ Err e) × (self.new ≡ self.old) }
@@ -109,9 +112,11 @@ impl BodyReader {
         Ok(at)
     }
 
-    /// Whether the body is whole. One that goes on to the end of the connection never is.
+    /// Whether the body is whole, so that no byte more belongs to it. One that goes on to the end of the
+    /// connection never is.
     pub fn done(&self) -> bool
-        ensures { IsTrue result ↔ (self.now.place ≡ Place.Whole) }
+        ensures whole { IsTrue result ↔ (self.now.place ≡ Place.Whole) }
+        ensures over { ((error : BodyError) → self.now.place ≢ Place.Refused error) → IsTrue result ↔ ¬ (GoesOn self.now []) }
     {
         matches!(self.place, Place::Whole)
     }

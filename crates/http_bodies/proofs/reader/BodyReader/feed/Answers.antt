@@ -37,7 +37,7 @@ returns-else-eq-clause-again c e place = absurd (c.in_default.not-Refused e (ap 
 pub returns-else-not-done-clause-taken : goal.returns-else-not-done-clause-taken
 returns-else-not-done-clause-taken c =
     let i = c.loop-at.invariant in
-    (takes_body c.args.self.now c.loop-at.self c.args.piece.now c.loop-at.at i.within (c.done.ensures.0 c.if-not-done.false) i.follows i.sound i.fits, i.follows)
+    (takes_body c.args.self.now c.loop-at.self c.args.piece.now c.loop-at.at i.within (c.done.ensures.whole.0 c.if-not-done.false) i.follows i.sound i.fits, i.follows)
 
 pub returns-else-not-done-clause-again : goal.returns-else-not-done-clause-again
 returns-else-not-done-clause-again c e place = absurd (c.in_default.not-Refused e (ap (λ (s : ReaderState). s.place) c.self.view_is ∙ place))
