@@ -6,5 +6,5 @@ mod LineFacts
 mod LivingFacts
 mod TrailerFacts
 mod StepFacts
-mod AnswerFacts
-mod LawFacts
+pub mod AnswerFacts
+pub mod LawFacts
