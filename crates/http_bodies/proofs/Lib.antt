@@ -1,5 +1,10 @@
 mod LengthFacts
 mod Prefixes
+mod ByteFacts
+mod PlaceFacts
 mod LineFacts
+mod LivingFacts
 mod TrailerFacts
 mod StepFacts
+pub mod AnswerFacts
+pub mod LawFacts

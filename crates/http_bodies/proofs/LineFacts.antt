@@ -1,108 +1,365 @@
--- The line of a chunk, and what it leaves.
-use Rattle.std.proofs.Common.{◌≡◌, ℕ, ◌<◌, ◌≤◌, inl, inr, ◌↔◌, List, [], ◌∷◌, ◌++◌, length, take, refl, sym, ◌∙◌, ap, subst, arith, length-append}
+-- A byte of a chunk's line, and what it leaves.
+use Rattle.std.proofs.Common.{◌≡◌, ◌≢◌, ℕ, ◌+◌, ◌-◌, ◌*◌, ◌<◌, ◌≤◌, ◌⊎◌, inl, inr, ◌↔◌, true, false, List, [], ◌∷◌, ◌++◌, length, refl, sym, ◌∙◌, ap, subst, arith, append_assoc, length-append, Option, Some, None}
 use Rattle.std.specs.List.{flat_map}
-use Rattle.std.proofs.lemmas.Bool.{cases_lt}
-use Rattle.httparse.specs.Grammar.{ChunkLine, IsChunkLine, ReadsChunkLine, print_chunk_line, chunk_size, HasNoChunkLine, NeverHasChunkLine}
-use Rattle.httparse.proofs.ChunkLemmas.{chunk_line_unique}
-use Rattle.http_bodies.specs.declared.place.Place.TheVariants.{Data, Trailer}
-use Rattle.http_bodies.specs.Bodies.{ReadsLine, IsTrailer, ReadsChunks, IsChunked}
-use Rattle.http_bodies.specs.Reading.{Left}
-use Rattle.http_bodies.proofs.Prefixes.{prefix_split, Joined, join}
+use Rattle.std.specs.Char.{is_ascii_hexdigit, digit_value}
+use Rattle.std.specs.Str.Parse.{digits_value_after}
+use Rattle.httparse.specs.Grammar.{AllPass, is_ows, is_extension_byte, IsExtension, print_extension, ChunkLine, IsChunkLine, print_chunk_line, chunk_size}
+use Rattle.http_bodies.specs.declared.place.LinePart.TheVariants.{Size, Blanks, Extension, LineFeed}
+use Rattle.http_bodies.specs.declared.place.Place.TheVariants.{Line}
+use Rattle.http_bodies.specs.Bodies.{ReadsLine, ReadsChunks, IsChunked}
+use Rattle.http_bodies.specs.Rests.{BehindLine, ExtensionRest, BlanksRest}
+use Rattle.http_bodies.specs.Reading.{LineLeft}
+use Rattle.http_bodies.specs.Places.{IsNext}
+use Rattle.http_bodies.proofs.ByteFacts.{other_byte, hex_is_no_blank, pass_nil, pass_cons, pass_head, pass_tail}
 
--- a line at the front isn't in the buffer alone
-pub line_joined : (b p r : List ℕ) (k len : ℕ) (l : ChunkLine) → HasNoChunkLine b → ReadsChunkLine (b ++ take k p) l r → len ≡ length (print_chunk_line l)
-    → (length b < len) × Joined b p (print_chunk_line l) len
-line_joined b p r k len l none reads is = elim (cases_lt (length b) (length (print_chunk_line l))) [
-  | inl past ↦ (omega arith, join b p (print_chunk_line l) r k len reads.1 (omega arith) is)
-  | inr within ↦
-      let split = prefix_split (print_chunk_line l) r b (take k p) (sym reads.1) within in
-      absurd (none l split.0 (reads.0, split.1))
-]
+-- ---- the extension
 
--- the first line of chunks
-pub first_of : (text body : List ℕ) → IsChunked text body → (line : ChunkLine) × (rest : List ℕ) × ReadsLine text line rest
-first_of text body (datas, chunks, is) = by_datas datas chunks
+pub extension_return : (size left : ℕ) → 2 ≤ left → IsNext (Extension size left) 13 (Line (LineFeed size))
+extension_return size left wide text added = (
+  λ feed. record { more = []; rest = feed.0; reads = ap (λ (l : List ℕ). 13 ∷ l) feed.1; plain = pass_nil is_extension_byte; short = omega arith; behind = feed.2 },
+  λ e. by_more e.more e.rest e.reads e.plain e.behind,
+)
   where
-    by_datas : (datas : List (List ℕ)) → ReadsChunks datas text → (line : ChunkLine) × (rest : List ℕ) × ReadsLine text line rest
-    by_datas [] chunks = (chunks.0, chunks.1, chunks.2)
-    by_datas (d ∷ others) chunks = (chunks.0, chunks.1, chunks.3)
+    by_more : (more rest : List ℕ) → 13 ∷ text ≡ more ++ 13 ∷ 10 ∷ rest → AllPass is_extension_byte more → BehindLine size rest added
+        → LineLeft (LineFeed size) text added
+    by_more [] rest reads plain behind = let same : text ≡ 10 ∷ rest = cc in (rest, same, behind)
+    by_more (c ∷ more) rest reads plain behind =
+        let same : c ≡ 13 = cc in
+        absurd (other_byte is_extension_byte c 13 (pass_head is_extension_byte c more plain) refl same)
 
--- behind the line of the last chunk
-pub left_zero : (text whole added : List ℕ) (l : ChunkLine) → IsChunkLine l → whole ≡ print_chunk_line l ++ text → length (print_chunk_line l) ≤ 32768
-    → chunk_size l ≡ 0 → Left Trailer [] text added ↔ IsChunked whole added
-left_zero text whole added l is reads short zero = (there, back)
+pub extension_more : (size left b : ℕ) → is_extension_byte b ≡ true → 0 < left → IsNext (Extension size left) b (Line (Extension size (left - 1)))
+extension_more size left b passes some text added = (
+  λ e. record {
+    more = b ∷ e.more;
+    rest = e.rest;
+    reads = ap (λ (l : List ℕ). b ∷ l) e.reads;
+    plain = pass_cons is_extension_byte b e.more passes e.plain;
+    short = omega (arith, e.short);
+    behind = e.behind;
+  },
+  λ e. by_more e.more e.rest e.reads e.plain e.short e.behind,
+)
   where
-    there : Left Trailer [] text added → IsChunked whole added
-    there left = ([], (l, text, record { reads = (is, reads); short = short }, zero, left.0), left.1)
+    by_more : (more rest : List ℕ) → b ∷ text ≡ more ++ 13 ∷ 10 ∷ rest → AllPass is_extension_byte more → length more + 2 ≤ left → BehindLine size rest added
+        → LineLeft (Extension size (left - 1)) text added
+    by_more [] rest reads plain short behind = let same : b ≡ 13 = cc in absurd (other_byte is_extension_byte b 13 passes refl same)
+    by_more (c ∷ more) rest reads plain short behind =
+        let same : text ≡ more ++ 13 ∷ 10 ∷ rest = cc in
+        record { more = more; rest = rest; reads = same; plain = pass_tail is_extension_byte c more plain; short = omega (arith, short); behind = behind }
 
-    by_datas : (datas : List (List ℕ)) → ReadsChunks datas whole → added ≡ flat_map (λ d. d) datas → Left Trailer [] text added
-    by_datas [] chunks body =
-        let one = chunk_line_unique whole l chunks.0 text chunks.1 (is, reads) chunks.2.reads in
-        (subst IsTrailer (sym one.1) chunks.4, body)
-    by_datas (d ∷ others) chunks body =
-        let one = chunk_line_unique whole l chunks.0 text chunks.1 (is, reads) chunks.3.reads in
-        absurd (omega (arith, ap chunk_size one.0, zero, chunks.4, chunks.5))
-
-    back : IsChunked whole added → Left Trailer [] text added
-    back chunked = by_datas chunked.0 chunked.1 chunked.2
-
--- behind the line of another chunk
-pub left_data : (text whole added : List ℕ) (l : ChunkLine) → IsChunkLine l → whole ≡ print_chunk_line l ++ text → length (print_chunk_line l) ≤ 32768
-    → 0 < chunk_size l → Left (Data (chunk_size l)) [] text added ↔ IsChunked whole added
-left_data text whole added l is reads short some = (there, back)
+-- a line feed, or a byte too many
+pub extension_none : (size left b : ℕ) → b ≢ 13 → (b ≡ 10) ⊎ (left ≤ 2) → (text added : List ℕ) → ¬ (LineLeft (Extension size left) (b ∷ text) added)
+extension_none size left b other why text added e = by_more e.more e.rest e.reads e.plain e.short
   where
-    there : Left (Data (chunk_size l)) [] text added → IsChunked whole added
-    there left =
-        let d = left.0 in
-        let next = left.1 in
-        let chunks = left.5 in
-        let size : 0 < length d = omega (arith, left.4) in (
-          d ∷ chunks.0,
-          (l, text, next, record { reads = (is, reads); short = short }, sym left.4, size, left.3, chunks.1),
-          left.6 ∙ ap (λ (m : List ℕ). d ++ m) chunks.2,
+    by_more : (more rest : List ℕ) → b ∷ text ≡ more ++ 13 ∷ 10 ∷ rest → AllPass is_extension_byte more → length more + 2 ≤ left → ⊥
+    by_more [] rest reads plain short = let same : b ≡ 13 = cc in other same
+    by_more (c ∷ more) rest reads plain short =
+        let same : c ≡ b = cc in
+        elim why [
+          | inl feed ↦ other_byte is_extension_byte c 10 (pass_head is_extension_byte c more plain) refl (same ∙ feed)
+          | inr narrow ↦ omega (arith, short, narrow)
+        ]
+
+-- ---- the blanks
+
+-- what the first byte of the rest may be
+first_blank : (b size left : ℕ) (text added : List ℕ) → BlanksRest size left (b ∷ text) added
+    → ((is_ows b ≡ true) × (3 ≤ left) × BlanksRest size (left - 1) text added)
+    ⊎ ((b ≡ 59) × (3 ≤ left) × ExtensionRest size (left - 1) text added)
+    ⊎ ((b ≡ 13) × LineLeft (LineFeed size) text added)
+first_blank b size left text added e = by_pad e.pad e.extension e.rest e.reads e.blanks e.plain e.short e.behind
+  where
+    by_extension : (extension : Option (List ℕ)) (rest : List ℕ) → b ∷ text ≡ print_extension extension ++ 13 ∷ 10 ∷ rest → IsExtension extension
+        → length (print_extension extension) + 2 ≤ left → BehindLine size rest added
+        → ((b ≡ 59) × (3 ≤ left) × ExtensionRest size (left - 1) text added) ⊎ ((b ≡ 13) × LineLeft (LineFeed size) text added)
+    by_extension None rest reads plain short behind =
+        let byte : b ≡ 13 = cc in
+        let same : text ≡ 10 ∷ rest = cc in
+        inr (byte, (rest, same, behind))
+    by_extension (Some more) rest reads plain short behind =
+        let byte : b ≡ 59 = cc in
+        let same : text ≡ more ++ 13 ∷ 10 ∷ rest = cc in
+        inl (byte, omega (arith, short), record { more = more; rest = rest; reads = same; plain = plain; short = omega (arith, short); behind = behind })
+
+    by_pad : (pad : List ℕ) (extension : Option (List ℕ)) (rest : List ℕ) → b ∷ text ≡ pad ++ print_extension extension ++ 13 ∷ 10 ∷ rest
+        → AllPass is_ows pad → IsExtension extension → length pad + length (print_extension extension) + 2 ≤ left → BehindLine size rest added
+        → ((is_ows b ≡ true) × (3 ≤ left) × BlanksRest size (left - 1) text added)
+        ⊎ ((b ≡ 59) × (3 ≤ left) × ExtensionRest size (left - 1) text added)
+        ⊎ ((b ≡ 13) × LineLeft (LineFeed size) text added)
+    by_pad [] extension rest reads blanks plain short behind = inr (by_extension extension rest reads plain (omega (arith, short)) behind)
+    by_pad (c ∷ pad) extension rest reads blanks plain short behind =
+        let byte : c ≡ b = cc in
+        let same : text ≡ pad ++ print_extension extension ++ 13 ∷ 10 ∷ rest = cc in
+        inl (
+          ap is_ows (sym byte) ∙ pass_head is_ows c pad blanks,
+          omega (arith, short),
+          record { pad = pad; extension = extension; rest = rest; reads = same; blanks = pass_tail is_ows c pad blanks; plain = plain; short = omega (arith, short); behind = behind },
         )
 
-    by_datas : (datas : List (List ℕ)) → ReadsChunks datas whole → added ≡ flat_map (λ d. d) datas → Left (Data (chunk_size l)) [] text added
-    by_datas [] chunks body =
-        let one = chunk_line_unique whole l chunks.0 text chunks.1 (is, reads) chunks.2.reads in
-        absurd (omega (arith, ap chunk_size one.0, some, chunks.3))
-    by_datas (d ∷ others) chunks body =
-        let one = chunk_line_unique whole l chunks.0 text chunks.1 (is, reads) chunks.3.reads in
-        (d, chunks.2, flat_map (λ e. e) others, one.1 ∙ chunks.6, sym chunks.4 ∙ ap chunk_size (sym one.0), (others, chunks.7, refl), body)
+pub blanks_return : (size left : ℕ) → 2 ≤ left → IsNext (Blanks size left) 13 (Line (LineFeed size))
+blanks_return size left wide text added = (
+  λ feed. record {
+    pad = [];
+    extension = None;
+    rest = feed.0;
+    reads = ap (λ (l : List ℕ). 13 ∷ l) feed.1;
+    blanks = pass_nil is_ows;
+    plain = tt;
+    short = omega arith;
+    behind = feed.2;
+  },
+  λ e. elim (first_blank 13 size left text added e) [
+    | inl blank ↦ let never : false ≡ true = blank.0 in absurd (let no : ⊥ = cc in no)
+    | inr rest ↦ elim rest [
+      | inl semicolon ↦ absurd (omega (arith, semicolon.0))
+      | inr feed ↦ feed.1
+    ]
+  ],
+)
 
-    back : IsChunked whole added → Left (Data (chunk_size l)) [] text added
-    back chunked = by_datas chunked.0 chunked.1 chunked.2
+pub blanks_more : (size left b : ℕ) → is_ows b ≡ true → 0 < left → IsNext (Blanks size left) b (Line (Blanks size (left - 1)))
+blanks_more size left b passes some text added = (
+  λ e. record {
+    pad = b ∷ e.pad;
+    extension = e.extension;
+    rest = e.rest;
+    reads = ap (λ (l : List ℕ). b ∷ l) e.reads;
+    blanks = pass_cons is_ows b e.pad passes e.blanks;
+    plain = e.plain;
+    short = omega (arith, e.short);
+    behind = e.behind;
+  },
+  λ e. elim (first_blank b size left text added e) [
+    | inl blank ↦ blank.2
+    | inr rest ↦ elim rest [
+      | inl semicolon ↦ absurd (other_byte is_ows b 59 passes refl semicolon.0)
+      | inr feed ↦ absurd (other_byte is_ows b 13 passes refl feed.0)
+    ]
+  ],
+)
 
--- a line that is too long begins no body
-pub long_line : (whole rest added : List ℕ) (l : ChunkLine) → ReadsChunkLine whole l rest → 32768 < length (print_chunk_line l) → ¬ (IsChunked whole added)
-long_line whole rest added l reads long chunked =
-    let first = first_of whole added chunked in
-    let one = chunk_line_unique whole l first.0 rest first.1 reads first.2.reads in
-    omega (arith, ap (λ m. length (print_chunk_line m)) one.0, first.2.short, long)
+pub blanks_semicolon : (size left : ℕ) → 0 < left → IsNext (Blanks size left) 59 (Line (Extension size (left - 1)))
+blanks_semicolon size left some text added = (
+  λ e. record {
+    pad = [];
+    extension = Some e.more;
+    rest = e.rest;
+    reads = ap (λ (l : List ℕ). 59 ∷ l) e.reads;
+    blanks = pass_nil is_ows;
+    plain = e.plain;
+    short = omega (arith, e.short);
+    behind = e.behind;
+  },
+  λ e. elim (first_blank 59 size left text added e) [
+    | inl blank ↦ let never : false ≡ true = blank.0 in absurd (let no : ⊥ = cc in no)
+    | inr rest ↦ elim rest [
+      | inl semicolon ↦ semicolon.2
+      | inr feed ↦ absurd (omega (arith, feed.0))
+    ]
+  ],
+)
 
--- a chunk that is larger than the room makes a body that is
-pub large_chunk : (whole rest added : List ℕ) (room : ℕ) (l : ChunkLine) → ReadsChunkLine whole l rest → room < chunk_size l
-    → IsChunked whole added → room < length added
-large_chunk whole rest added room l reads large chunked = by_datas chunked.0 chunked.1 chunked.2
+-- a byte too many, or one that can't stand there
+pub blanks_none : (size left b : ℕ) → b ≢ 13 → (left ≤ 2) ⊎ ((is_ows b ≡ false) × (b ≢ 59)) → (text added : List ℕ) → ¬ (LineLeft (Blanks size left) (b ∷ text) added)
+blanks_none size left b other why text added e = elim (first_blank b size left text added e) [
+  | inl blank ↦ elim why [
+    | inl narrow ↦ omega (arith, narrow, blank.1)
+    | inr none ↦ other_byte is_ows b b blank.0 none.0 refl
+  ]
+  | inr rest ↦ elim rest [
+    | inl semicolon ↦ elim why [
+      | inl narrow ↦ omega (arith, narrow, semicolon.1)
+      | inr none ↦ none.1 semicolon.0
+    ]
+    | inr feed ↦ other feed.0
+  ]
+]
+
+-- ---- the size
+
+pub size_digit : (digits size b : ℕ) → is_ascii_hexdigit b ≡ true
+    → IsNext (Size digits size) b (Line (Size (digits + 1) (size * 16 + digit_value b)))
+size_digit digits size b hex text added = (
+  λ e. record {
+    more = b ∷ e.more;
+    rest = e.rest;
+    reads = ap (λ (l : List ℕ). b ∷ l) e.reads;
+    hex = pass_cons is_ascii_hexdigit b e.more hex e.hex;
+    some = omega arith;
+    few = omega (arith, e.few);
+    left = e.left;
+    total = omega (arith, e.total);
+    line = e.line;
+  },
+  λ e. by_more e.more e.rest e.reads e.hex e.few e.left e.total e.line,
+)
   where
-    by_datas : (datas : List (List ℕ)) → ReadsChunks datas whole → added ≡ flat_map (λ d. d) datas → room < length added
-    by_datas [] chunks body =
-        let one = chunk_line_unique whole l chunks.0 rest chunks.1 reads chunks.2.reads in
-        absurd (omega (arith, ap chunk_size one.0, large, chunks.3))
+    by_more : (more rest : List ℕ) → b ∷ text ≡ more ++ rest → AllPass is_ascii_hexdigit more → digits + length more ≤ 16
+        → (left : ℕ) → digits + length more + left ≡ 32768 → BlanksRest (digits_value_after 16 size more) left rest added
+        → LineLeft (Size (digits + 1) (size * 16 + digit_value b)) text added
+    by_more [] rest reads all few left total line =
+        elim (first_blank b size left text added (subst (λ (t : List ℕ). BlanksRest size left t added) (sym reads) line)) [
+          | inl blank ↦ absurd (hex_is_no_blank b hex blank.0)
+          | inr other ↦ elim other [
+            | inl semicolon ↦ absurd (other_byte is_ascii_hexdigit b 59 hex refl semicolon.0)
+            | inr feed ↦ absurd (other_byte is_ascii_hexdigit b 13 hex refl feed.0)
+          ]
+        ]
+    by_more (c ∷ more) rest reads all few left total line =
+        let byte : c ≡ b = cc in
+        let same : text ≡ more ++ rest = cc in
+        record {
+          more = more;
+          rest = rest;
+          reads = same;
+          hex = pass_tail is_ascii_hexdigit c more all;
+          some = omega arith;
+          few = omega (arith, few);
+          left = left;
+          total = omega (arith, total);
+          line = subst (λ (d : ℕ). BlanksRest (digits_value_after 16 (size * 16 + digit_value d) more) left rest added) byte line;
+        }
+
+-- the seventeenth digit
+pub size_full : (size b : ℕ) → is_ascii_hexdigit b ≡ true → (text added : List ℕ) → ¬ (LineLeft (Size 16 size) (b ∷ text) added)
+size_full size b hex text added e =
+    let next = (size_digit 16 size b hex text added).1 e in
+    omega (arith, next.few)
+
+-- behind the digits
+pub size_other : (digits size b : ℕ) → is_ascii_hexdigit b ≡ false → 0 < digits → digits ≤ 16 → (text added : List ℕ)
+    → LineLeft (Blanks size (32768 - digits)) (b ∷ text) added ↔ LineLeft (Size digits size) (b ∷ text) added
+size_other digits size b other some few text added = (
+  λ e. record {
+    more = [];
+    rest = b ∷ text;
+    reads = refl;
+    hex = pass_nil is_ascii_hexdigit;
+    some = omega (arith, some);
+    few = omega (arith, few);
+    left = 32768 - digits;
+    total = omega (arith, few);
+    line = e;
+  },
+  λ e. by_more e.more e.rest e.reads e.hex e.left e.total e.line,
+)
+  where
+    by_more : (more rest : List ℕ) → b ∷ text ≡ more ++ rest → AllPass is_ascii_hexdigit more
+        → (left : ℕ) → digits + length more + left ≡ 32768 → BlanksRest (digits_value_after 16 size more) left rest added
+        → LineLeft (Blanks size (32768 - digits)) (b ∷ text) added
+    by_more [] rest reads all left total line =
+        let is : left ≡ 32768 - digits = omega (arith, total) in
+        subst (λ (l : ℕ). BlanksRest size l (b ∷ text) added) is (subst (λ (t : List ℕ). BlanksRest size left t added) (sym reads) line)
+    by_more (c ∷ more) rest reads all left total line =
+        let byte : c ≡ b = cc in
+        absurd (other_byte is_ascii_hexdigit c c (pass_head is_ascii_hexdigit c more all) (ap is_ascii_hexdigit byte ∙ other) refl)
+
+-- a line has a digit
+pub size_none : (size b : ℕ) → is_ascii_hexdigit b ≡ false → (text added : List ℕ) → ¬ (LineLeft (Size 0 size) (b ∷ text) added)
+size_none size b other text added e = by_more e.more e.rest e.reads e.hex e.some
+  where
+    by_more : (more rest : List ℕ) → b ∷ text ≡ more ++ rest → AllPass is_ascii_hexdigit more → 0 < 0 + length more → ⊥
+    by_more [] rest reads all some = omega (arith, some)
+    by_more (c ∷ more) rest reads all some =
+        let byte : c ≡ b = cc in
+        other_byte is_ascii_hexdigit c c (pass_head is_ascii_hexdigit c more all) (ap is_ascii_hexdigit byte ∙ other) refl
+
+-- ---- the size is how much of the body is due
+
+pub behind_least : (size : ℕ) (text added : List ℕ) → BehindLine size text added → size ≤ length added
+behind_least size text added behind = elim behind [
+  | inl none ↦ omega (arith, none.0)
+  | inr some ↦
+      let d = some.1.0 in
+      let more = some.1.2 in
+      omega (arith, some.1.4, ap length some.1.6, length-append d more)
+]
+
+grows : (n : ℕ) (more : List ℕ) → n ≤ digits_value_after 16 n more
+grows n [] = omega arith
+grows n (c ∷ more) = let rest = grows (n * 16 + digit_value c) more in omega (arith, rest)
+
+pub size_least : (digits size : ℕ) (text added : List ℕ) → LineLeft (Size digits size) text added → size ≤ length added
+size_least digits size text added e =
+    omega (arith, grows size e.more, behind_least (digits_value_after 16 size e.more) e.line.rest added e.line.behind)
+
+-- ---- a whole line
+
+line_ends : (digits pad : List ℕ) (extension : Option (List ℕ)) (rest : List ℕ)
+    → digits ++ (pad ++ print_extension extension ++ 13 ∷ 10 ∷ rest) ≡ print_chunk_line (record { digits = digits; pad = pad; extension = extension }) ++ rest
+unfolding print_chunk_line
+line_ends digits pad extension rest = simp append_assoc
+
+line_length : (digits pad : List ℕ) (extension : Option (List ℕ))
+    → length (print_chunk_line (record { digits = digits; pad = pad; extension = extension })) ≡ length digits + length pad + length (print_extension extension) + 2
+unfolding print_chunk_line
+line_length digits pad extension =
+    omega (
+      arith,
+      length-append (digits ++ pad ++ print_extension extension) (13 ∷ 10 ∷ []),
+      length-append (digits ++ pad) (print_extension extension),
+      length-append digits pad,
+    )
+
+-- the chunks behind nothing
+pub chunks_left : (text added : List ℕ) → LineLeft (Size 0 0) text added ↔ IsChunked text added
+chunks_left text added = (there, back)
+  where
+    line_of : List ℕ → List ℕ → Option (List ℕ) → ChunkLine
+    line_of digits pad extension = record { digits = digits; pad = pad; extension = extension }
+
+    there : LineLeft (Size 0 0) text added → IsChunked text added
+    there e =
+        let line = line_of e.more e.line.pad e.line.extension in
+        let rest = e.line.rest in
+        let reads : text ≡ print_chunk_line (line_of e.more e.line.pad e.line.extension) ++ e.line.rest =
+        e.reads ∙ ap (λ (l : List ℕ). e.more ++ l) e.line.reads ∙ line_ends e.more e.line.pad e.line.extension e.line.rest in
+        let size : length (print_chunk_line (line_of e.more e.line.pad e.line.extension)) ≤ 32768 =
+        omega (arith, line_length e.more e.line.pad e.line.extension, e.total, e.line.short) in
+        let is : IsChunkLine (line_of e.more e.line.pad e.line.extension) =
+        record { digits = (omega (arith, e.some), omega (arith, e.few), e.hex); pad = e.line.blanks; extension = e.line.plain } in
+        let line_reads : ReadsLine text (line_of e.more e.line.pad e.line.extension) e.line.rest = record { reads = (is, reads); short = size } in
+        elim e.line.behind [
+          | inl none ↦ ([], (line, rest, line_reads, none.0, none.1), none.2)
+          | inr some ↦
+              let d = some.1.0 in
+              let next = some.1.1 in
+              let chunks = some.1.5 in (
+                d ∷ chunks.0,
+                (line, rest, next, line_reads, sym some.1.4, omega (arith, some.0, some.1.4), some.1.3, chunks.1),
+                some.1.6 ∙ ap (λ (m : List ℕ). d ++ m) chunks.2,
+              )
+        ]
+
+    from_line : (line : ChunkLine) (rest : List ℕ) → ReadsLine text line rest → BehindLine (chunk_size line) rest added → LineLeft (Size 0 0) text added
+    from_line line rest reads behind =
+        let total = line_length line.digits line.pad line.extension in
+        record {
+          more = line.digits;
+          rest = line.pad ++ print_extension line.extension ++ 13 ∷ 10 ∷ rest;
+          reads = reads.reads.1 ∙ sym (line_ends line.digits line.pad line.extension rest);
+          hex = reads.reads.0.digits.2;
+          some = omega (arith, reads.reads.0.digits.0);
+          few = omega (arith, reads.reads.0.digits.1);
+          left = 32768 - length line.digits;
+          total = omega (arith, reads.reads.0.digits.1);
+          line = record {
+            pad = line.pad;
+            extension = line.extension;
+            rest = rest;
+            reads = refl;
+            blanks = reads.reads.0.pad;
+            plain = reads.reads.0.extension;
+            short = omega (arith, total, reads.short);
+            behind = behind;
+          };
+        }
+
+    by_datas : (datas : List (List ℕ)) → ReadsChunks datas text → added ≡ flat_map (λ d. d) datas → LineLeft (Size 0 0) text added
+    by_datas [] chunks body = from_line chunks.0 chunks.1 chunks.2 (inl (chunks.3, chunks.4, body))
     by_datas (d ∷ others) chunks body =
-        let one = chunk_line_unique whole l chunks.0 rest chunks.1 reads chunks.3.reads in
-        omega (arith, ap chunk_size one.0, large, chunks.4, ap length body, length-append d (flat_map (λ e. e) others))
+        from_line chunks.0 chunks.1 chunks.3
+        (inr (omega (arith, chunks.4, chunks.5), (d, chunks.2, flat_map (λ e. e) others, chunks.6, sym chunks.4, (others, chunks.7, refl), body)))
 
--- bytes that no line begins
-pub never_line : (all x added : List ℕ) → NeverHasChunkLine all → ¬ (IsChunked (all ++ x) added)
-never_line all x added never chunked =
-    let first = first_of (all ++ x) added chunked in
-    never x first.0 first.1 first.2.reads
-
--- a line that isn't whole in so many bytes is too long
-pub unfinished_line : (all x added : List ℕ) → HasNoChunkLine all → 32768 ≤ length all → ¬ (IsChunked (all ++ x) added)
-unfinished_line all x added none long chunked =
-    let first = first_of (all ++ x) added chunked in
-    let line = first.0 in
-    let split = prefix_split (print_chunk_line line) first.1 all x (sym first.2.reads.1) (omega (arith, first.2.short, long)) in
-    none line split.0 (first.2.reads.0, split.1)
+    back : IsChunked text added → LineLeft (Size 0 0) text added
+    back chunked = by_datas chunked.0 chunked.1 chunked.2

@@ -1,3 +1,6 @@
 pub mod Framings
 pub mod Bodies
+pub mod Rests
 pub mod Reading
+pub mod Places
+pub mod Answers

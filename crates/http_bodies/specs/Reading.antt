@@ -1,73 +1,57 @@
 -- A reader of a body: what may still come, and what body it then is.
-use Rattle.std.specs.Prelude.{◌≡◌, ℕ, ◌+◌, ◌<◌, ◌≤◌, ◌↔◌, List, [], ◌∷◌, ◌++◌, length, ⊤}
-use Rattle.httparse.specs.Grammar.{HasNoChunkLine, HasNoSection}
-use Rattle.http_bodies.specs.Bodies.{IsTrailer, IsChunked}
+use Rattle.std.specs.Prelude.{◌≡◌, ℕ, ◌≤◌, ◌↔◌, List, [], ◌∷◌, ◌++◌, length}
+use Rattle.http_bodies.specs.Bodies.{IsChunked}
+use Rattle.http_bodies.specs.Rests.{DataRest, LineFeedRest, ExtensionRest, BlanksRest, SizeRest, SectionRest, NameRest, ValueRest, FieldFeedRest}
 use Rattle.http_bodies.specs.declared.place.Place.{Place}
-use Rattle.http_bodies.specs.declared.place.Place.TheVariants.{Whole, Sized, Open, Line, Data, Return, Feed, Trailer, Refused}
+use Rattle.http_bodies.specs.declared.place.Place.TheVariants.{Whole, Sized, Open, Data, Line, Refused}
+use Rattle.http_bodies.specs.declared.place.LinePart.{LinePart}
+use Rattle.http_bodies.specs.declared.place.LinePart.TheVariants.{Size, Blanks, Extension, LineFeed, DataReturn, DataFeed, TrailerLine, FieldName, FieldValue, FieldFeed, LastFeed}
 
--- the place in the body, the bytes of an unfinished line or trailer, the body so far, and the limit
+-- the place in the body, the body so far, and the limit of its length
 pub record ReaderState : Type 0 where
   pub place : Place
-  pub buffer : List ℕ
   pub kept : List ℕ
   pub limit : ℕ
 
--- this text may still come, and adds these bytes to the body
-abbrev pub Left : Place → List ℕ → List ℕ → List ℕ → Type 0
-Left Whole buffer text added = (text ≡ []) × (added ≡ [])
-Left (Sized n) buffer text added = (text ≡ added) × (length added ≡ n)
-Left Open buffer text added = text ≡ added
-Left Line buffer text added = IsChunked (buffer ++ text) added
-Left (Data n) buffer text added =
-    (d : List ℕ) × (next : List ℕ) × (more : List ℕ) × (text ≡ d ++ 13 ∷ 10 ∷ next) × (length d ≡ n) × IsChunked next more × (added ≡ d ++ more)
-Left Return buffer text added = (next : List ℕ) × (text ≡ 13 ∷ 10 ∷ next) × IsChunked next added
-Left Feed buffer text added = (next : List ℕ) × (text ≡ 10 ∷ next) × IsChunked next added
-Left Trailer buffer text added = IsTrailer (buffer ++ text) × (added ≡ [])
-Left (Refused error) buffer text added = ⊥
+-- this text may still come behind a front of a line, and adds these bytes to the body
+abbrev pub LineLeft : LinePart → List ℕ → List ℕ → Type 0
+LineLeft (Size digits size) text added = SizeRest digits size text added
+LineLeft (Blanks size left) text added = BlanksRest size left text added
+LineLeft (Extension size left) text added = ExtensionRest size left text added
+LineLeft (LineFeed size) text added = LineFeedRest size text added
+LineLeft DataReturn text added = (next : List ℕ) × (text ≡ 13 ∷ 10 ∷ next) × IsChunked next added
+LineLeft DataFeed text added = (next : List ℕ) × (text ≡ 10 ∷ next) × IsChunked next added
+LineLeft (TrailerLine fields left) text added = SectionRest fields text × (length text ≤ left) × (added ≡ [])
+LineLeft (FieldName fields left) text added = NameRest fields text × (length text ≤ left) × (added ≡ [])
+LineLeft (FieldValue fields left) text added = ValueRest fields text × (length text ≤ left) × (added ≡ [])
+LineLeft (FieldFeed fields left) text added = FieldFeedRest fields text × (length text ≤ left) × (added ≡ [])
+LineLeft LastFeed text added = (text ≡ 10 ∷ []) × (added ≡ [])
 
--- behind this text the body is whole, and it is this one, within the limit
-pub record Makes (s : ReaderState) (text body : List ℕ) : Type 0 where
+-- the same at each place
+abbrev pub Left : Place → List ℕ → List ℕ → Type 0
+Left Whole text added = (text ≡ []) × (added ≡ [])
+Left (Sized n) text added = (text ≡ added) × (length added ≡ n)
+Left Open text added = text ≡ added
+Left (Data n) text added = DataRest n text added
+Left (Line part) text added = LineLeft part text added
+Left (Refused error) text added = ⊥
+
+-- behind this text the body is whole, and it is this one, of any length
+pub record Ends (s : ReaderState) (text body : List ℕ) : Type 0 where
   pub added : List ℕ
-  pub left : Left s.place s.buffer text added
+  pub left : Left s.place text added
   pub whole : body ≡ s.kept ++ added
+
+-- the same within the limit
+pub record Makes (s : ReaderState) (text body : List ℕ) : Type 0 where
+  pub ends : Ends s text body
   pub within : length body ≤ s.limit
 
 -- what the new state leaves is what the old one left behind these bytes
-abbrev pub Follows : ReaderState → ReaderState → List ℕ → Type 0
-Follows old new bytes = (text body : List ℕ) → Makes new text body ↔ Makes old (bytes ++ text) body
+pub record Follows (old new : ReaderState) (bytes : List ℕ) : Type 0 where
+  pub limit : new.limit ≡ old.limit
+  pub ends : (text body : List ℕ) → Ends new text body ↔ Ends old (bytes ++ text) body
 
--- whatever follows these bytes, there is no body within the limit
-abbrev pub Never : ReaderState → List ℕ → Type 0
-Never s bytes = (text body : List ℕ) → ¬ (Makes s (bytes ++ text) body)
-
--- a line or trailer that is unfinished is in fact unfinished, and something is left of a length
-abbrev pub Waits : Place → List ℕ → Type 0
-Waits Whole buffer = ⊤
-Waits (Sized n) buffer = 0 < n
-Waits Open buffer = ⊤
-Waits Line buffer = HasNoChunkLine buffer
-Waits (Data n) buffer = 0 < n
-Waits Return buffer = ⊤
-Waits Feed buffer = ⊤
-Waits Trailer buffer = HasNoSection buffer
-Waits (Refused error) buffer = ⊤
-
--- how many bytes of the body are due
-abbrev pub due : Place → ℕ
-due Whole = 0
-due (Sized n) = n
-due Open = 0
-due Line = 0
-due (Data n) = n
-due Return = 0
-due Feed = 0
-due Trailer = 0
-due (Refused error) = 0
-
--- what holds of each reader
-pub record IsSound (place : Place) (buffer kept : List ℕ) (limit : ℕ) : Type 0 where
-  pub waits : Waits place buffer
-  pub fits : length kept + due place ≤ limit
-
-abbrev pub state : Place → List ℕ → List ℕ → ℕ → ReaderState
-state place buffer kept limit = record { place = place; buffer = buffer; kept = kept; limit = limit }
+-- a state from its parts
+abbrev pub state : Place → List ℕ → ℕ → ReaderState
+state place kept limit = record { place = place; kept = kept; limit = limit }

@@ -2,16 +2,21 @@
 //!
 //! Contract for the layer above: `frame` says by the fields where a body ends. A `BodyReader` takes a
 //! body in pieces. Whatever the pieces are, what it takes next is what was left of the body before, by
-//! the grammar in `specs/Bodies.antt`, so the cut into pieces changes nothing.
+//! the grammar in `specs/Bodies.antt`, and it refuses the first byte with which no continuation is a body
+//! within the limit (`specs/Answers.antt`). So the cut into pieces changes nothing, which `any_cut` states.
 #![tactic(auto)]
 
 mod framing;
+mod laws;
+mod line;
 mod place;
 mod reader;
 mod steps;
 #[cfg(test)]
 mod tests;
+mod trailer;
 
 pub use framing::{BodyError, Framing, Kind, frame};
-pub use place::Place;
+pub use laws::{any_cut, one_answer};
+pub use place::{LinePart, Place};
 pub use reader::BodyReader;

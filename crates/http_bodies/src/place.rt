@@ -9,15 +9,36 @@ pub enum Place {
     Sized(u64),
     /// All that comes is the body.
     Open,
-    /// In a chunk's line.
-    Line,
     /// In a chunk's data, of which so many bytes are left.
     Data(u64),
-    /// The CR behind a chunk's data is due.
-    Return,
-    /// The LF behind it is due.
-    Feed,
-    /// Behind the last chunk.
-    Trailer,
+    /// Between the data of chunks.
+    Line(LinePart),
     Refused(BodyError),
+}
+
+/// Where a reader is in what stands before a chunk's data and behind it.
+#[derive(Clone, Copy, Debug, PartialEq, Eq)]
+pub enum LinePart {
+    /// In a chunk's size, of which so many digits have come, with this value.
+    Size { digits: u64, size: u64 },
+    /// Behind a chunk's size. So many bytes may still come of its line.
+    Blanks { size: u64, left: u64 },
+    /// In a chunk's extension. So many bytes may still come of its line.
+    Extension { size: u64, left: u64 },
+    /// The LF of a chunk's line is due.
+    LineFeed { size: u64 },
+    /// The CR behind a chunk's data is due.
+    DataReturn,
+    /// The LF behind it is due.
+    DataFeed,
+    /// Where a line of the trailer begins. So many fields and bytes may still come.
+    TrailerLine { fields: u64, left: u64 },
+    /// In the name of a field of the trailer. So many fields may come behind it.
+    FieldName { fields: u64, left: u64 },
+    /// In the value of a field of the trailer.
+    FieldValue { fields: u64, left: u64 },
+    /// The LF of a field's line is due.
+    FieldFeed { fields: u64, left: u64 },
+    /// The LF of the empty line is due.
+    LastFeed,
 }

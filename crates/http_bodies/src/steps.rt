@@ -1,25 +1,119 @@
-// One step of a reader: to the end of a line, or of what is there of a chunk's data.
-ghost use Rattle.std.specs.Prelude.{◌≡◌, ◌≢◌, ◌-◌, ◌+◌, ◌++◌, ◌<◌, ◌≤◌, ◌↔◌, ◌⊎◌, ℕ, List, [], min, take, length, IfOk, IfErr, IsErrOf, OnOk, OnErr};
-ghost use Rattle.httparse.specs.Grammar.{HasNoChunkLine, HasNoSection};
-ghost use Rattle.http_bodies.specs.Reading.{ReaderState, Left, Waits, due};
+// One step of a reader: a byte of a line, or what is there of a chunk's data.
+ghost use Rattle.std.specs.Prelude.{◌≡◌, ◌≢◌, ◌-◌, ◌++◌, ◌<◌, ◌≤◌, ◌⊎◌, ℕ, List, min, take, length, IfOk, IfErr, IsErrOf, OnErr};
+ghost use Rattle.http_bodies.specs.Bodies.{IsChunked};
+ghost use Rattle.http_bodies.specs.Reading.{ReaderState, Follows, state};
+ghost use Rattle.http_bodies.specs.Places.{IsNext, IsRefusal, IsSound, IsReader};
+ghost use Rattle.http_bodies.specs.Answers.{Refuses};
 ghost use Rattle.http_bodies.specs.declared.place.Place.{Place};
+ghost use Rattle.http_bodies.specs.declared.place.LinePart.{LinePart};
 
 use crate::BodyError;
-use crate::place::Place;
-use httparse::spans::{EMPTY_HEADER_SPAN, parse_headers};
-use httparse::{Status, parse_chunk_size};
+use crate::line::{
+    blanks_byte, data_feed_byte, data_return_byte, extension_byte, line_feed_byte, size_byte,
+};
+use crate::place::{LinePart, Place};
+use crate::trailer::{field_feed_byte, last_feed_byte, name_byte, trailer_byte, value_byte};
 
-// The most bytes of a chunk's line or of a trailer.
-const LONGEST: usize = 32768;
+/// One step at a place where bytes are due. The piece has a byte at least.
+pub(crate) fn step(
+    place: Place,
+    kept: &mut Vec<u8>,
+    limit: u64,
+    piece: &[u8],
+) -> Result<(usize, Place), BodyError>
+    requires some { 0 < length piece.now }
+    requires open { place ≢ Place.Whole }
+    requires sound { IsSound place (limit - length kept.old.items) }
+    requires fits { length kept.old.items ≤ limit }
+    ensures count { IfOk result (λ r. (0 < r.0) × (r.0 ≤ length piece.now)) }
+    ensures sound { IfOk result (λ r. IsSound r.1 (limit - length kept.new.items) × (length kept.new.items ≤ limit)) }
+    ensures grows { IfOk result (λ r. (more : List ℕ) × (kept.new.items ≡ kept.old.items ++ more)) }
+    ensures follows { IfOk result (λ r. Follows (state place kept.old.items limit) (state r.1 kept.new.items limit) (take r.0 piece.now)) }
+    ensures refused { IfErr result (λ e. e ≢ BodyError.NoMemory → Refuses (state place kept.old.items limit) piece.now e) }
+    ensures kept { OnErr result (kept.new.items ≡ kept.old.items) }
+{
+    let room = limit - kept.len() as u64;
+    match place {
+        Place::Whole => Ok((0, Place::Whole)),
+        Place::Sized(left) => sized_step(kept, piece, left),
+        Place::Open => open_step(kept, piece, room),
+        Place::Data(left) => data_step(kept, piece, left),
+        Place::Line(part) => match line_byte(part, piece[0], room) {
+            Ok(next) => Ok((1, next)),
+            Err(error) => Err(error),
+        },
+        Place::Refused(error) => Err(error),
+    }
+}
 
-// The most fields of a trailer.
-const MOST_FIELDS: usize = 64;
+// Takes bytes of a body of which `left` are due.
+fn sized_step(kept: &mut Vec<u8>, piece: &[u8], left: u64) -> Result<(usize, Place), BodyError>
+    requires left { 0 < left }
+    requires some { 0 < length piece.now }
+    ensures count { IfOk result (λ r. (0 < r.0) × (r.0 ≤ length piece.now)) }
+    ensures sound { IfOk result (λ r. (limit : ℕ) → left ≤ limit - length kept.old.items
+        → IsSound r.1 (limit - length kept.new.items) × (length kept.new.items ≤ limit)) }
+    ensures grows { IfOk result (λ r. kept.new.items ≡ kept.old.items ++ take r.0 piece.now) }
+    ensures follows { (limit : ℕ) → IfOk result (λ r. Follows (state (Place.Sized left) kept.old.items limit)
+        (state r.1 kept.new.items limit) (take r.0 piece.now)) }
+    ensures err { IfErr result (λ e. (e ≡ BodyError.NoMemory) × (kept.new.items ≡ kept.old.items)) }
+{
+    match keep(kept, piece, left) {
+        Ok(count) => {
+            if count as u64 == left {
+                Ok((count, Place::Whole))
+            } else {
+                Ok((count, Place::Sized(left - count as u64)))
+            }
+        }
+        Err(error) => Err(error),
+    }
+}
 
-// So many bytes are put into the buffer at once.
-const AT_ONCE: u64 = 32;
+// Takes bytes of a chunk's data, of which `left` are due.
+fn data_step(kept: &mut Vec<u8>, piece: &[u8], left: u64) -> Result<(usize, Place), BodyError>
+    requires left { 0 < left }
+    requires some { 0 < length piece.now }
+    ensures count { IfOk result (λ r. (0 < r.0) × (r.0 ≤ length piece.now)) }
+    ensures sound { IfOk result (λ r. (limit : ℕ) → left ≤ limit - length kept.old.items
+        → IsSound r.1 (limit - length kept.new.items) × (length kept.new.items ≤ limit)) }
+    ensures grows { IfOk result (λ r. kept.new.items ≡ kept.old.items ++ take r.0 piece.now) }
+    ensures follows { (limit : ℕ) → IfOk result (λ r. Follows (state (Place.Data left) kept.old.items limit)
+        (state r.1 kept.new.items limit) (take r.0 piece.now)) }
+    ensures err { IfErr result (λ e. (e ≡ BodyError.NoMemory) × (kept.new.items ≡ kept.old.items)) }
+{
+    match keep(kept, piece, left) {
+        Ok(count) => {
+            if count as u64 == left {
+                Ok((count, Place::Line(LinePart::DataReturn)))
+            } else {
+                Ok((count, Place::Data(left - count as u64)))
+            }
+        }
+        Err(error) => Err(error),
+    }
+}
+
+// Takes all, if there is room for it.
+fn open_step(kept: &mut Vec<u8>, piece: &[u8], room: u64) -> Result<(usize, Place), BodyError>
+    ensures count { IfOk result (λ r. r.0 ≡ length piece.now) }
+    ensures place { IfOk result (λ r. r.1 ≡ Place.Open) }
+    ensures kept { IfOk result (λ r. (kept.new.items ≡ kept.old.items ++ piece.now) × (length piece.now ≤ room)) }
+    ensures large { IsErrOf result BodyError.TooLarge → room < length piece.now }
+    ensures err { OnErr result (kept.new.items ≡ kept.old.items) }
+    ensures kinds { IfErr result (λ e. (e ≡ BodyError.TooLarge) ⊎ (e ≡ BodyError.NoMemory)) }
+{
+    if piece.len() as u64 > room {
+        return Err(BodyError::TooLarge);
+    }
+    match kept.extend_from_slice(piece) {
+        Ok(()) => Ok((piece.len(), Place::Open)),
+        Err(_) => Err(BodyError::NoMemory),
+    }
+}
 
 // Keeps the first bytes of the piece, at most `left`.
-pub(crate) fn keep(kept: &mut Vec<u8>, piece: &[u8], left: u64) -> Result<usize, BodyError>
+fn keep(kept: &mut Vec<u8>, piece: &[u8], left: u64) -> Result<usize, BodyError>
     ensures count { IfOk result (λ n. n ≡ min (length piece.now) left) }
     ensures ok { IfOk result (λ n. kept.new.items ≡ kept.old.items ++ take n piece.now) }
     ensures err { OnErr result (kept.new.items ≡ kept.old.items) }
@@ -32,92 +126,24 @@ pub(crate) fn keep(kept: &mut Vec<u8>, piece: &[u8], left: u64) -> Result<usize,
     }
 }
 
-// A step in a chunk's line. `room` is how many bytes the body may still have.
-pub(crate) fn line_step(
-    buffer: &mut Vec<u8>,
-    piece: &[u8],
-    room: u64,
-) -> Result<(usize, Place), BodyError>
-    requires { HasNoChunkLine buffer.old.items }
-    ensures count { IfOk result (λ r. (r.0 ≤ length piece.now) × (0 < length piece.now → 0 < r.0)) }
-    ensures waits { IfOk result (λ r. Waits r.1 buffer.new.items) }
-    ensures due { IfOk result (λ r. due r.1 ≤ room) }
-    ensures left { IfOk result (λ r. (text added : List ℕ) → Left r.1 buffer.new.items text added
-        ↔ Left Place.Line buffer.old.items (take r.0 piece.now ++ text) added) }
-    ensures bad { IsErrOf result BodyError.BadChunk → (text added : List ℕ) → ¬ (Left Place.Line buffer.old.items (piece.now ++ text) added) }
-    ensures large { IsErrOf result BodyError.TooLarge → (text added : List ℕ)
-        → Left Place.Line buffer.old.items (piece.now ++ text) added → room < length added }
-    ensures no_memory { IsErrOf result BodyError.NoMemory → buffer.new.items ≡ buffer.old.items }
-    ensures kinds { IfErr result (λ e. (e ≡ BodyError.BadChunk) ⊎ (e ≡ BodyError.TooLarge) ⊎ (e ≡ BodyError.NoMemory)) }
+// A byte of a line, where the body may have `room` bytes more.
+fn line_byte(part: LinePart, byte: u8, room: u64) -> Result<Place, BodyError>
+    requires { IsSound (Place.Line part) room }
+    ensures next { IfOk result (IsNext part byte) }
+    ensures sound { IfOk result (λ next. IsSound next room) }
+    ensures refused { IfErr result (IsRefusal part byte room) }
 {
-    let before = buffer.len();
-    let count = match keep(buffer, piece, AT_ONCE) {
-        Ok(count) => count,
-        Err(error) => return Err(error),
-    };
-    match parse_chunk_size(buffer.as_slice()) {
-        Ok(Status::Complete((len, size))) => {
-            if len > LONGEST {
-                return Err(BodyError::BadChunk);
-            }
-            if size > room {
-                return Err(BodyError::TooLarge);
-            }
-            buffer.clear();
-            Ok((len.saturating_sub(before), behind_line(size)))
-        }
-        Ok(Status::Partial) => {
-            if buffer.len() >= LONGEST {
-                return Err(BodyError::BadChunk);
-            }
-            Ok((count, Place::Line))
-        }
-        Err(_) => Err(BodyError::BadChunk),
-    }
-}
-
-fn behind_line(size: u64) -> Place
-    ensures zero { size ≡ 0 → result ≡ Place.Trailer }
-    ensures data { 0 < size → result ≡ Place.Data size }
-{
-    if size == 0 {
-        Place::Trailer
-    } else {
-        Place::Data(size)
-    }
-}
-
-// A step behind the last chunk.
-pub(crate) fn trailer_step(buffer: &mut Vec<u8>, piece: &[u8]) -> Result<(usize, Place), BodyError>
-    requires { HasNoSection buffer.old.items }
-    ensures count { IfOk result (λ r. (r.0 ≤ length piece.now) × (0 < length piece.now → 0 < r.0)) }
-    ensures waits { IfOk result (λ r. Waits r.1 buffer.new.items) }
-    ensures due { IfOk result (λ r. due r.1 ≡ 0) }
-    ensures left { IfOk result (λ r. (text added : List ℕ) → Left r.1 buffer.new.items text added
-        ↔ Left Place.Trailer buffer.old.items (take r.0 piece.now ++ text) added) }
-    ensures bad { IsErrOf result BodyError.BadChunk → (text added : List ℕ) → ¬ (Left Place.Trailer buffer.old.items (piece.now ++ text) added) }
-    ensures no_memory { IsErrOf result BodyError.NoMemory → buffer.new.items ≡ buffer.old.items }
-    ensures kinds { IfErr result (λ e. (e ≡ BodyError.BadChunk) ⊎ (e ≡ BodyError.NoMemory)) }
-{
-    let before = buffer.len();
-    let count = match keep(buffer, piece, AT_ONCE) {
-        Ok(count) => count,
-        Err(error) => return Err(error),
-    };
-    let mut room = [EMPTY_HEADER_SPAN; MOST_FIELDS];
-    match parse_headers(buffer.as_slice(), &mut room) {
-        Ok(Status::Complete((len, _))) => {
-            if len > LONGEST {
-                return Err(BodyError::BadChunk);
-            }
-            Ok((len.saturating_sub(before), Place::Whole))
-        }
-        Ok(Status::Partial) => {
-            if buffer.len() >= LONGEST {
-                return Err(BodyError::BadChunk);
-            }
-            Ok((count, Place::Trailer))
-        }
-        Err(_) => Err(BodyError::BadChunk),
+    match part {
+        LinePart::Size { digits, size } => size_byte(digits, size, byte, room),
+        LinePart::Blanks { size, left } => blanks_byte(size, left, byte, room),
+        LinePart::Extension { size, left } => extension_byte(size, left, byte, room),
+        LinePart::LineFeed { size } => line_feed_byte(size, byte, room),
+        LinePart::DataReturn => data_return_byte(byte, room),
+        LinePart::DataFeed => data_feed_byte(byte, room),
+        LinePart::TrailerLine { fields, left } => trailer_byte(fields, left, byte, room),
+        LinePart::FieldName { fields, left } => name_byte(fields, left, byte, room),
+        LinePart::FieldValue { fields, left } => value_byte(fields, left, byte, room),
+        LinePart::FieldFeed { fields, left } => field_feed_byte(fields, left, byte, room),
+        LinePart::LastFeed => last_feed_byte(byte, room),
     }
 }

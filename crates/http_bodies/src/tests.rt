@@ -48,8 +48,28 @@ fn is_refused(alloc: Global, framing: Framing, limit: u64, bytes: &[u8], error: 
     true
 }
 
+// Where the body is refused when it comes byte by byte, and how; each later byte must be refused so too.
+fn refused_at(
+    alloc: Global,
+    framing: Framing,
+    limit: u64,
+    bytes: &[u8],
+) -> Option<(usize, BodyError)> {
+    let mut reader = BodyReader::of(alloc, framing, limit);
+    let mut first = None;
+    for (at, byte) in bytes.iter().enumerate() {
+        match (reader.feed(&[*byte]), first) {
+            (Ok(1), None) => {}
+            (Err(error), None) => first = Some((at, error)),
+            (Err(error), Some((_, same))) if error == same => {}
+            _ => return None,
+        }
+    }
+    first
+}
+
 // Whole bodies in chunks, and what they are.
-const CHUNKED: [(&[u8], &[u8]); 14] = [
+const CHUNKED: [(&[u8], &[u8]); 16] = [
     (b"0\r\n\r\n", b""),
     (b"2\r\nhi\r\n0\r\n\r\n", b"hi"),
     (b"1\r\nh\r\n1\r\ni\r\n0\r\n\r\n", b"hi"),
@@ -58,29 +78,38 @@ const CHUNKED: [(&[u8], &[u8]); 14] = [
     (b"A\r\n0123456789\r\n0\r\n\r\n", b"0123456789"),
     (b"2;x\r\nhi\r\n0\r\n\r\n", b"hi"),
     (b"2;x=\"y\"\r\nhi\r\n0;z\r\n\r\n", b"hi"),
+    (b"2 \t;x\r\nhi\r\n0\r\n\r\n", b"hi"),
     (b"2 \t\r\nhi\r\n0\r\n\r\n", b"hi"),
     (b"2\r\n\r\n\r\n0\r\n\r\n", b"\r\n"),
     (b"2\r\nhi\r\n0\r\nA: b\r\n\r\n", b"hi"),
     (b"2\r\nhi\r\n0\r\nA: b\r\nC: d\r\n\r\n", b"hi"),
     (b"2\r\nhi\r\n0\r\nA: b\n\n", b"hi"),
+    (b"2\r\nhi\r\n0\r\nA:\r\n\r\n", b"hi"),
     (b"0000000000000002\r\nhi\r\n0\r\n\r\n", b"hi"),
 ];
 
-const BAD_CHUNKS: [&[u8]; 14] = [
-    b"g\r\n",
-    b"\r\n",
-    b" 2\r\nhi\r\n",
-    b"-2\r\nhi\r\n",
-    b"2\nhi\r\n",
-    b"2\rhi\r\n",
-    b"2 x\r\nhi\r\n",
-    b"2;a\nb\r\nhi\r\n",
-    b"00000000000000002\r\nhi\r\n",
-    b"2\r\nhix",
-    b"2\r\nhi\n0\r\n\r\n",
-    b"2\r\nhi\r0\r\n\r\n",
-    b"2\r\nhi\r\n0\r\nA b\r\n\r\n",
-    b"2\r\nhi\r\n0\r\n A: b\r\n\r\n",
+// Bytes that are no chunks, with the byte at which no continuation is left.
+const BAD_CHUNKS: [(&[u8], usize); 20] = [
+    (b"g\r\n", 0),
+    (b"\r\n", 0),
+    (b" 2\r\nhi\r\n", 0),
+    (b"-2\r\nhi\r\n", 0),
+    (b"2\nhi\r\n", 1),
+    (b"2\rhi\r\n", 2),
+    (b"2 x\r\nhi\r\n", 2),
+    (b"2 3\r\nhi\r\n", 2),
+    (b"2;a\nb\r\nhi\r\n", 3),
+    (b"2;a\rb\r\nhi\r\n", 4),
+    (b"00000000000000002\r\nhi\r\n", 16),
+    (b"2\r\nhix", 5),
+    (b"2\r\nhi\n0\r\n\r\n", 5),
+    (b"2\r\nhi\r0\r\n\r\n", 6),
+    (b"2\r\nhi\r\n0\r\nA b\r\n\r\n", 11),
+    (b"2\r\nhi\r\n0\r\n A: b\r\n\r\n", 10),
+    (b"2\r\nhi\r\n0\r\n: b\r\n\r\n", 10),
+    (b"2\r\nhi\r\n0\r\nA: \0\r\n\r\n", 13),
+    (b"2\r\nhi\r\n0\r\nA: b\rc\r\n\r\n", 15),
+    (b"2\r\nhi\r\n0\r\n\rx", 11),
 ];
 
 const EARLY: [&[u8]; 8] = [
@@ -94,6 +123,17 @@ const EARLY: [&[u8]; 8] = [
     b"2\r\nhi\r\n0\r\nA: b\r\n",
 ];
 
+// Bodies in chunks that are longer than the limit, with the digit at which that is known.
+const LARGE_CHUNKS: [(u64, &[u8], usize); 7] = [
+    (0, b"1\r\nh\r\n0\r\n\r\n", 0),
+    (1, b"2\r\nhi\r\n0\r\n\r\n", 0),
+    (1, b"1\r\nh\r\n1\r\ni\r\n0\r\n\r\n", 6),
+    (9, b"a\r\n0123456789\r\n0\r\n\r\n", 0),
+    (17, b"0012\r\n", 3),
+    (9, b"ffffffffffffffff\r\n", 0),
+    (u64::MAX, b"1\r\nh\r\nffffffffffffffff\r\n", 21),
+];
+
 #[test]
 fn chunks(rt: HostRuntime) {
     let alloc = rt.alloc();
@@ -103,9 +143,15 @@ fn chunks(rt: HostRuntime) {
             "{bytes:?}"
         );
     }
-    for bytes in BAD_CHUNKS {
+    for (bytes, at) in BAD_CHUNKS {
+        let bad = BodyError::BadChunk;
         assert!(rt;
-            is_refused(alloc, Framing::Chunked, 10, bytes, BodyError::BadChunk),
+            is_refused(alloc, Framing::Chunked, 10, bytes, bad),
+            "{bytes:?}"
+        );
+        assert_eq!(rt;
+            refused_at(alloc, Framing::Chunked, 10, bytes),
+            Some((at, bad)),
             "{bytes:?}"
         );
     }
@@ -115,35 +161,75 @@ fn chunks(rt: HostRuntime) {
             "{bytes:?}"
         );
     }
-    let large = BodyError::TooLarge;
-    assert!(rt; is_refused(alloc, Framing::Chunked, 1, b"2\r\nhi\r\n0\r\n\r\n", large));
-    assert!(rt;
-        is_refused(
-            alloc,
-            Framing::Chunked,
-            1,
-            b"1\r\nh\r\n1\r\ni\r\n0\r\n\r\n",
-            large
-        )
-    );
-    assert!(rt; is_refused(alloc, Framing::Chunked, 9, b"ffffffffffffffff\r\n", large));
+    for (limit, bytes, at) in LARGE_CHUNKS {
+        let large = BodyError::TooLarge;
+        assert!(rt;
+            is_refused(alloc, Framing::Chunked, limit, bytes, large),
+            "{bytes:?}"
+        );
+        assert_eq!(rt;
+            refused_at(alloc, Framing::Chunked, limit, bytes),
+            Some((at, large)),
+            "{bytes:?}"
+        );
+    }
+    assert!(rt; is_body(alloc, Framing::Chunked, 2, b"2\r\nhi\r\n0\r\n\r\n", b"hi"));
+    let mut reader = BodyReader::of(alloc, Framing::Chunked, 9);
+    assert!(rt; matches!(reader.feed(b"1\r\na\r\n0\r\n\r\nGET"), Ok(11)));
+    assert!(rt; reader.done());
+}
+
+// A line or trailer of 32,768 bytes and 64 fields stays within its limits.
+#[test]
+fn longest_lines(rt: HostRuntime) {
+    let alloc = rt.alloc();
+    let mut reader = BodyReader::of(alloc, Framing::Chunked, 9);
+    assert_eq!(rt; reader.feed(b"0;"), Ok(2));
+    for _ in 0..32764 {
+        assert_eq!(rt; reader.feed(b"x"), Ok(1));
+    }
+    assert_eq!(rt; reader.feed(b"\r\n"), Ok(2));
+    for _ in 0..64 {
+        assert_eq!(rt; reader.feed(b"A: b\r\n"), Ok(6));
+    }
+    assert_eq!(rt; reader.feed(b"\r\n"), Ok(2));
+    assert!(rt; reader.done());
+    let mut reader = BodyReader::of(alloc, Framing::Chunked, 9);
+    assert_eq!(rt; reader.feed(b"0;"), Ok(2));
+    for _ in 0..32764 {
+        assert_eq!(rt; reader.feed(b"x"), Ok(1));
+    }
+    assert_eq!(rt; reader.feed(b"x"), Err(BodyError::BadChunk));
+    let mut reader = BodyReader::of(alloc, Framing::Chunked, 9);
+    assert_eq!(rt; reader.feed(b"0\r\n"), Ok(3));
+    for _ in 0..64 {
+        assert_eq!(rt; reader.feed(b"A: b\r\n"), Ok(6));
+    }
+    assert_eq!(rt; reader.feed(b"A"), Err(BodyError::BadChunk));
 }
 
 #[test]
 fn other_framings(rt: HostRuntime) {
     let alloc = rt.alloc();
+    let large = BodyError::TooLarge;
     assert!(rt; is_body(alloc, Framing::Nothing, 9, b"", b""));
     assert!(rt; is_body(alloc, Framing::Length(0), 0, b"", b""));
     assert!(rt; is_body(alloc, Framing::Length(3), 3, b"abc", b"abc"));
     assert!(rt; is_body(alloc, Framing::UntilEnd, 3, b"abc", b"abc"));
     assert!(rt; is_refused(alloc, Framing::Length(3), 9, b"ab", BodyError::Early));
-    assert!(rt; is_refused(alloc, Framing::Length(3), 2, b"abc", BodyError::TooLarge));
-    assert!(rt; is_refused(alloc, Framing::UntilEnd, 2, b"abc", BodyError::TooLarge));
+    assert!(rt; is_refused(alloc, Framing::Length(3), 2, b"abc", large));
+    assert!(rt; is_refused(alloc, Framing::Length(3), 2, b"", large));
+    assert!(rt; is_refused(alloc, Framing::UntilEnd, 2, b"abc", large));
+    assert_eq!(rt;
+        refused_at(alloc, Framing::Length(3), 2, b"abc"),
+        Some((0, large))
+    );
+    assert_eq!(rt;
+        refused_at(alloc, Framing::UntilEnd, 2, b"abcd"),
+        Some((2, large))
+    );
     let mut reader = BodyReader::of(alloc, Framing::Length(2), 9);
     assert!(rt; matches!(reader.feed(b"abc"), Ok(2)));
-    assert!(rt; reader.done());
-    let mut reader = BodyReader::of(alloc, Framing::Chunked, 9);
-    assert!(rt; matches!(reader.feed(b"1\r\na\r\n0\r\n\r\nGET"), Ok(11)));
     assert!(rt; reader.done());
 }
 

@@ -1,15 +1,22 @@
 -- No other place is at the end of a body.
 use Rattle.std.proofs.Common.{inl, inr, sym, subst, []}
 use Rattle.http_bodies.specs.Reading.{ReaderState, Makes, state}
-use Rattle.http_bodies.proofs.StepFacts.{finished}
+use Rattle.http_bodies.specs.Answers.{HasEndWithin}
+use Rattle.http_bodies.proofs.AnswerFacts.{has_end, finished}
 use Rattle.http_bodies.proofs.reader.BodyReader.finish.Goals as goal
 
 pub returns-clause-found : goal.returns-clause-found
 returns-clause-found c body makes =
     let r = c.self.inside in
-    let there : Makes (state c.self.inside.place c.self.inside.buffer.items c.self.inside.kept.items c.self.inside.limit) [] body =
+    let there : Makes (state c.self.inside.place c.self.inside.kept.items c.self.inside.limit) [] body =
     subst (λ (s : ReaderState). Makes s [] body) (sym c.self.view_is) makes in
-    elim (finished r.place r.buffer.items r.kept.items r.limit c.self.invariant body there).0 [
+    elim (finished r.place r.kept.items r.limit _ (c.self.invariant.sound c.in_default.not-Refused) body there) [
       | inl whole ↦ absurd (c.in_default.not-Whole whole)
       | inr open_end ↦ absurd (c.in_default.not-Open open_end)
     ]
+
+pub returns-clause-early : goal.returns-clause-early
+returns-clause-early c is =
+    let r = c.self.inside in
+    subst (λ (s : ReaderState). HasEndWithin s []) c.self.view_is
+    (has_end r.place r.kept.items r.limit (c.self.invariant.sound c.in_default.not-Refused) c.self.invariant.fits)

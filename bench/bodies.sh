@@ -1,0 +1,58 @@
+#!/usr/bin/env bash
+# How the time of reading a body grows with the smallness of its pieces: a body of 8 MiB in chunks of 4,096 bytes, one in
+# chunks of 16 bytes and one of a stated length, each fed in pieces of 64 KiB, 1 KiB and 1 byte, the best of three runs,
+# and what each takes against pieces of 64 KiB. Then 1 MiB against 8 MiB in pieces of 1 byte. The time that a run takes
+# with an empty body is taken off. Run it at the top of the repository. The program is built and proved first where it
+# isn't there yet.
+set -eu
+cd "$(dirname "$0")/.."
+program=crates/measure/out/measure
+[ -x "$program" ] || (cd crates/measure && rt run -- tokens < /dev/null > /dev/null)
+work=$(mktemp -d)
+trap 'rm -rf "$work"' EXIT
+python3 - "$work" "$program" <<'PY'
+import subprocess, sys, time
+work, program = sys.argv[1:]
+MIB = 1 << 20
+
+def chunked(size, chunk):
+    """A body of so many bytes, in chunks."""
+    whole = b'%x\r\n' % chunk + b'x' * chunk + b'\r\n'
+    return whole * (size // chunk) + b'0\r\n\r\n'
+
+def best(shape, piece, path, size):
+    least = None
+    for _ in range(3):
+        with open(path, 'rb') as source:
+            began = time.perf_counter()
+            done = subprocess.run([program, 'bodies', shape, str(piece)], stdin=source, stdout=subprocess.PIPE, check=True)
+            passed = time.perf_counter() - began
+        assert done.stdout == b'%d\n' % size, done.stdout
+        least = passed if least is None else min(least, passed)
+    return least
+
+def written(name, content):
+    path = '%s/%s' % (work, name)
+    with open(path, 'wb') as out:
+        out.write(content)
+    return path
+
+start = best('sized', 1, written('empty', b''), 0)
+KINDS = (('chunked', 4096), ('chunked', 16), ('sized', 0))
+for shape, chunk in KINDS:
+    content = chunked(8 * MIB, chunk) if shape == 'chunked' else b'x' * (8 * MIB)
+    name = '%s of %d' % (shape, chunk) if chunk else shape
+    path = written('body', content)
+    base = None
+    for piece in (65536, 1024, 1):
+        taken = best(shape, piece, path, 8 * MIB) - start
+        base = taken if base is None else base
+        print('%-16s 8 MiB  pieces of %5d   %8.4f s   %6.2f times as long as pieces of 65536' % (name, piece, taken, taken / base))
+for shape, chunk in KINDS:
+    times = []
+    for size in (MIB, 8 * MIB):
+        content = chunked(size, chunk) if shape == 'chunked' else b'x' * size
+        times.append(best(shape, 1, written('body', content), size) - start)
+    name = '%s of %d' % (shape, chunk) if chunk else shape
+    print('%-16s pieces of 1   8 MiB takes %5.2f times as long as 1 MiB' % (name, times[1] / times[0]))
+PY

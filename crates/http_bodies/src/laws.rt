@@ -1,0 +1,23 @@
+// Laws of the answers of readers, as contracts of functions that do nothing.
+ghost use Rattle.std.specs.Prelude.{◌≡◌, ◌+◌, ◌↔◌, ◌++◌, ℕ, List, [], length};
+ghost use Rattle.http_bodies.specs.Reading.{ReaderState, Follows};
+ghost use Rattle.http_bodies.specs.Answers.{HasEndWithin, Takes, Refuses};
+ghost use Rattle.http_bodies.specs.declared.framing.BodyError.{BodyError as RefusalKind};
+
+/// A piece has one answer at most: so many bytes are taken, or it is refused in one way.
+pub fn one_answer()
+    ensures one_count { (s : ReaderState) (piece : List ℕ) (m n : ℕ) → Takes s piece m → Takes s piece n → m ≡ n }
+    ensures one_refusal { (s : ReaderState) (piece : List ℕ) (d e : RefusalKind) → Refuses s piece d → Refuses s piece e → d ≡ e }
+    ensures not_both { (s : ReaderState) (piece : List ℕ) (n : ℕ) (e : RefusalKind) → Takes s piece n → ¬ (Refuses s piece e) }
+{}
+
+/// Behind a piece that was taken the next has the answer that both have as one, and leaves what both
+/// leave.
+pub fn any_cut()
+    ensures joined { (first_state second_state third_state : ReaderState) (first second : List ℕ) → Follows first_state second_state first
+        → Follows second_state third_state second → Follows first_state third_state (first ++ second) }
+    ensures taken { (old new : ReaderState) (first second : List ℕ) (n : ℕ) → Follows old new first
+        → Takes new second n ↔ Takes old (first ++ second) (length first + n) }
+    ensures refused { (old new : ReaderState) (first second : List ℕ) (e : RefusalKind) → Follows old new first → HasEndWithin new []
+        → Refuses new second e ↔ Refuses old (first ++ second) e }
+{}
