@@ -43,7 +43,7 @@ deeper_with : (front more : List Token) (d : ℕ) → deepest d front ≤ deepes
 deeper_with [] more d = at_least d more
 deeper_with (x ∷ front) more d = wider d _ _ (deeper_with front more (level d x))
 
-too_deep : (front behind tokens : List Token) (x : Token) → tokens ≡ front ++ x ∷ behind → deepest 0 tokens ≤ 64 → 64 < deepest 0 (front ++ x ∷ []) → ⊥
+pub too_deep : (front behind tokens : List Token) (x : Token) → tokens ≡ front ++ x ∷ behind → deepest 0 tokens ≤ 64 → 64 < deepest 0 (front ++ x ∷ []) → ⊥
 too_deep front behind tokens x e h k =
     let whole : deepest 0 (front ++ x ∷ [] ++ behind) ≤ 64 = subst (λ r. deepest 0 r ≤ 64) (e ∙ sym (append_assoc front (x ∷ []) behind)) h in
     omega (arith, whole, k, deeper_with (front ++ x ∷ []) behind 0)

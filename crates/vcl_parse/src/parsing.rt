@@ -150,10 +150,12 @@ fn place(end: u32, tokens: &[Token], left: usize) -> u32
 }
 
 /// A text has at most one tree, as clauses see it: the version and the items are the same. Tokens that have a tree
-/// have no fault.
+/// have no fault, and tokens have at most one fault.
 pub fn one_tree()
     ensures one { (text : List ℕ) (tokens others : List Token) (a b : tree.Tree) → Reads 0 text tokens → Reads 0 text others →
         IsTree tokens a → IsTree others b → (a.version ≡ b.version) × (items_of a.items ≡ items_of b.items) }
     ensures no_fault { (end : ℕ) (tokens : List Token) (a : tree.Tree) (why : Refusal) (place : ℕ) →
         IsTree tokens a → IsWrong end tokens why place → ⊥ }
+    ensures one_fault { (end : ℕ) (tokens : List Token) (why other : Refusal) (place elsewhere : ℕ) →
+        IsWrong end tokens why place → IsWrong end tokens other elsewhere → (why ≡ other) × (place ≡ elsewhere) }
 {}
