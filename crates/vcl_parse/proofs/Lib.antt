@@ -1,2 +1,17 @@
+pub mod AcceptedExpressions
+pub mod AcceptedItems
+pub mod AcceptedStatements
+pub mod Alive
+pub mod Faults
+pub mod Files
+pub mod Keeping
+pub mod Kept
+pub mod KeptExpressions
+pub mod KeptItems
+pub mod KeptStatements
+pub mod Meaning
+pub mod Places
 pub mod Reading
+pub mod Running
+pub mod SameSign
 pub mod Trees

@@ -22,8 +22,11 @@ use Rattle.vcl_parse.specs.declared.starts.ItemWord.TheVariants as item
 use Rattle.vcl_parse.specs.declared.starts.StatementWord.TheVariants as statement
 use Rattle.vcl_parse.specs.declared.starts.ElseWord.TheVariants as otherwise
 use Rattle.vcl_parse.specs.declared.stop.Stop.{Stop}
-use Rattle.vcl_parse.specs.Machine.{Want, Take, Read, Go, Join, Any, All, Negation, Comparing, Sum, Term, Literal, Arguments, Argument, MoreAny, MoreAll, Compares, MoreSum, Calls, FirstArgument, MoreArguments, AnyName, NewName, Assignment, Ending, Condition, Block, AfterElse, MoreElse, MoreStatements, Attributes, Value, Address, Entries, MoreAttributes, Semicolon, MoreEntries, Mask, Number, BackendBody, MoreItems, is_none, is_kind_of_sign, is_if, Config, Move, first_of, moved, opens, level, go, same_sign, Outcome, Refused, Deep, watch, join, is_sign}
-use Rattle.vcl_parse.specs.Steps.{Stops, IsStopped, IsRead, first_is, BeginsWith, sign_level, is_string, first_is_string, first_at}
+use Rattle.vcl_parse.specs.Machine.{Want, Take, Read, Go, Join, Any, All, Negation, Comparing, Sum, Term, Literal, Arguments, Argument, MoreAny, MoreAll, Compares, MoreSum, Calls, FirstArgument, MoreArguments, AnyName, NewName, Assignment, Ending, Condition, Block, AfterElse, MoreElse, MoreStatements, Attributes, Value, Address, Entries, MoreAttributes, Semicolon, MoreEntries, Mask, Number, BackendBody, MoreItems, is_none, is_if, Config, Move, first_of, moved, go, Outcome, Refused, Deep, watch, join}
+use Rattle.vcl_tree.specs.Signs.{is_kind_of_sign, same_sign, is_sign}
+use Rattle.vcl_tree.specs.Nesting.{opens, level}
+use Rattle.vcl_parse.specs.Steps.{Stops, IsStopped, IsRead, BeginsWith, sign_level, is_string, first_is_string, first_at}
+use Rattle.vcl_tree.specs.Signs.{first_is}
 
 pub joins : (d : ℕ) (l : Label) (s : List Want) (vs : List Phrase) (ts : List Token) → watch d (Join l ∷ s) vs ts ≡ watch d s (join l vs) ts
 joins d l s vs [] = refl

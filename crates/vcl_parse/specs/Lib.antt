@@ -3,3 +3,4 @@ pub mod Machine
 pub mod Parsing
 pub mod Starts
 pub mod Steps
+pub mod Telling

@@ -1,6 +1,5 @@
 -- A reading of tokens one at a time, with what is wanted next on a stack, and what has been read on another.
-use Rattle.std.specs.Prelude.{ℕ, suc, pred, ◌==◌, nat_le, Bool, true, false, ◌&&◌, ◌||◌, List, [], ◌∷◌, ◌++◌, length, Option, Some, None, if◌then◌else◌, codes, drop, ◌-◌}
-use Rattle.std.specs.Str.{bytes_eq}
+use Rattle.std.specs.Prelude.{ℕ, nat_le, Bool, true, false, ◌&&◌, List, [], ◌∷◌, ◌++◌, length, Option, Some, None, if◌then◌else◌}
 use Rattle.vcl_tree.specs.Phrase.{Phrase, Label, Nothing, At, Named, String, Weight, Integer, Duration, Node, More, Either, Both, Not, Compared, Added, Subtracted, Group, Negative, Called, Bound, Set, Append, Unset, Jump, New, Return, Branch, If, ElseIf, Else, Attribute, Nested, Entry, Masked, Import, NoBackend, Backend, Probe, Acl, Sub}
 use Rattle.vcl_tree.specs.declared.token.Token.{Token}
 use Rattle.vcl_tree.specs.declared.token.TokenKind.{TokenKind}
@@ -10,7 +9,10 @@ use Rattle.vcl_tree.specs.declared.token.Sign.TheVariants as sign
 use Rattle.vcl_tree.specs.declared.token.Word.{Word}
 use Rattle.vcl_tree.specs.declared.token.Word.TheVariants as word
 use Rattle.vcl_tree.specs.declared.expression.Comparison.{Comparison}
-use Rattle.vcl_parse.specs.Starts.{term_sign_of, statement_word_of, item_word_of, comparison_of, else_word_of}
+use Rattle.vcl_parse.specs.Starts.{term_sign_of, statement_word_of, item_word_of, else_word_of}
+use Rattle.vcl_tree.specs.Signs.{is_sign, same_sign, comparison_of}
+use Rattle.vcl_tree.specs.Endings.{has_zeros, adds_backend}
+use Rattle.vcl_tree.specs.Nesting.{opens, level}
 use Rattle.vcl_parse.specs.declared.starts.TermSign.{TermSign}
 use Rattle.vcl_parse.specs.declared.starts.TermSign.TheVariants as term
 use Rattle.vcl_parse.specs.declared.starts.StatementWord.{StatementWord}
@@ -19,42 +21,6 @@ use Rattle.vcl_parse.specs.declared.starts.ItemWord.{ItemWord}
 use Rattle.vcl_parse.specs.declared.starts.ItemWord.TheVariants as item
 use Rattle.vcl_parse.specs.declared.starts.ElseWord.{ElseWord}
 use Rattle.vcl_parse.specs.declared.starts.ElseWord.TheVariants as otherwise
-
-abbrev pub sign_number : Sign → ℕ
-sign_number sign.OpenBrace = 0
-sign_number sign.CloseBrace = 1
-sign_number sign.OpenParenthesis = 2
-sign_number sign.CloseParenthesis = 3
-sign_number sign.Semicolon = 4
-sign_number sign.Comma = 5
-sign_number sign.Dot = 6
-sign_number sign.Slash = 7
-sign_number sign.Assign = 8
-sign_number sign.Equal = 9
-sign_number sign.NotEqual = 10
-sign_number sign.Match = 11
-sign_number sign.NotMatch = 12
-sign_number sign.Less = 13
-sign_number sign.LessOrEqual = 14
-sign_number sign.Greater = 15
-sign_number sign.GreaterOrEqual = 16
-sign_number sign.Not = 17
-sign_number sign.And = 18
-sign_number sign.Or = 19
-sign_number sign.Plus = 20
-sign_number sign.AddAssign = 21
-sign_number sign.Minus = 22
-
-abbrev pub same_sign : Sign → Sign → Bool
-same_sign a b = sign_number a == sign_number b
-
-abbrev pub is_kind_of_sign : Sign → TokenKind → Bool
-is_kind_of_sign s (kind.Sign t) = same_sign s t
-is_kind_of_sign s _ = false
-
--- whether the token is this sign
-abbrev pub is_sign : Sign → Token → Bool
-is_sign s x = is_kind_of_sign s x.kind
 
 -- what is wanted: a part of the grammar, or the rest of one that may end here
 pub data Part : Type 0 where
@@ -120,17 +86,6 @@ go (Some m) s vs = Some (m.1 ++ s, m.0 ++ vs)
 abbrev pub or_on : Option Move → List Want → List Phrase → Option Config → Option Config
 or_on None s vs on = on
 or_on (Some m) s vs on = Some (m.1 ++ s, m.0 ++ vs)
-
-abbrev pub ends_in : List ℕ → List ℕ → Bool
-ends_in suffix text = bytes_eq (drop (length text - length suffix) text) suffix
-
--- a decimal's fraction is zeros
-abbrev pub has_zeros : List ℕ → Bool
-has_zeros digits = ends_in (codes ".0") digits || ends_in (codes ".00") digits || ends_in (codes ".000") digits
-
--- the name of a director's method that takes a weight
-abbrev pub adds_backend : List ℕ → Bool
-adds_backend name = ends_in (codes ".add_backend") name
 
 abbrev pub name_move : TokenKind → ℕ → Option Move
 name_move (kind.Name t) p = Some (Named p t ∷ [], [])
@@ -324,8 +279,9 @@ carry Mask x s vs on = or_on (at_sign sign.Slash x [] (Number ∷ Join Masked �
 carry MoreItems x s vs on = or_on (item_move x.kind x.place) s vs on
 
 abbrev pub join : Label → List Phrase → List Phrase
+join label [] = Node label Nothing Nothing ∷ []
+join label (b ∷ []) = Node label Nothing b ∷ []
 join label (b ∷ a ∷ vs) = Node label a b ∷ vs
-join label vs = vs
 
 -- what is wanted and what has been read behind one token more; None where the token can't stand there
 abbrev pub step : List Want → List Phrase → Token → Option Config
@@ -351,16 +307,6 @@ ends [] vs = Accepted vs
 ends (Go tail ∷ s) vs = ends s vs
 ends (Join label ∷ s) vs = ends s (join label vs)
 ends (_ ∷ s) vs = Refused 0
-
-abbrev pub opens : Token → Bool
-opens x = is_sign sign.OpenBrace x || is_sign sign.OpenParenthesis x
-
-abbrev pub closes : Token → Bool
-closes x = is_sign sign.CloseBrace x || is_sign sign.CloseParenthesis x
-
--- how deep it nests behind a token
-abbrev pub level : ℕ → Token → ℕ
-level depth x = if opens x then suc depth else (if closes x then pred depth else depth)
 
 abbrev pub moved : ℕ → Bool → Option Config → (Config → Outcome) → Outcome
 moved left deep None on = Refused left

@@ -1,25 +1,21 @@
 -- What a VCL text's tree is, and why a text has none.
-use Rattle.std.specs.Prelude.{ℕ, ◌≡◌, ◌-◌, ◌⊎◌, Bool, true, false, List, [], ◌∷◌, length, drop, Option, Some, None, codes, if◌then◌else◌}
-use Rattle.std.specs.Str.{bytes_eq}
-use Rattle.vcl_tree.specs.Phrase.{Nothing}
+use Rattle.std.specs.Prelude.{ℕ, ◌≡◌, ◌≤◌, ◌<◌, ◌⊎◌, Bool, true, false, List, [], ◌∷◌, ◌++◌, length, Option, Some, None, if◌then◌else◌}
+use Rattle.vcl_tree.specs.Grammar.{version_written, IsFile}
+use Rattle.vcl_tree.specs.Nesting.{deepest}
+use Rattle.vcl_tree.specs.Phrase.{Phrase}
 use Rattle.vcl_tree.specs.TreeView.{items_of}
 use Rattle.vcl_tree.specs.declared.token.Token.{Token}
 use Rattle.vcl_tree.specs.declared.token.TokenKind.{TokenKind}
 use Rattle.vcl_tree.specs.declared.token.TokenKind.TheVariants as kind
 use Rattle.vcl_tree.specs.declared.token.Word.{Word}
 use Rattle.vcl_tree.specs.declared.token.Word.TheVariants as word
-use Rattle.vcl_tree.specs.declared.token.Sign.TheVariants as sign
 use Rattle.vcl_tree.specs.declared.item.Version.{Version}
-use Rattle.vcl_tree.specs.declared.item.Version.TheVariants.{Four, FourOne}
 use Rattle.vcl_tree.specs.declared.item.Tree.{Tree}
 use Rattle.vcl_tree.specs.declared.error.VclError.{VclError}
 use Rattle.vcl_tree.specs.declared.error.VclError.TheVariants as error
 use Rattle.vcl_tree.specs.declared.error.Refusal.{Refusal}
 use Rattle.vcl_tree.specs.declared.error.Refusal.TheVariants as refusal
 use Rattle.vcl_tokens.specs.Reading.{Reads, IsRefusal}
-use Rattle.vcl_parse.specs.declared.stop.Stop.{Stop}
-use Rattle.vcl_parse.specs.declared.stop.Stop.TheVariants as stop
-use Rattle.vcl_parse.specs.Machine.{Take, Go, MoreItems, Outcome, Accepted, Refused, Deep, watch}
 
 abbrev pub is_vcl_word : Word → Bool
 is_vcl_word word.Vcl = true
@@ -28,10 +24,6 @@ is_vcl_word _ = false
 abbrev pub is_vcl : TokenKind → Bool
 is_vcl (kind.Word w t) = is_vcl_word w
 is_vcl _ = false
-
--- the version is compared as it is written
-abbrev pub version_written : List ℕ → Option Version
-version_written digits = if bytes_eq digits (codes "4.0") then Some Four else (if bytes_eq digits (codes "4.1") then Some FourOne else None)
 
 abbrev pub version_of : TokenKind → Option Version
 version_of (kind.Decimal digits) = version_written digits
@@ -55,36 +47,57 @@ abbrev pub head_of : ℕ → List Token → Head
 head_of end [] = Bad 0
 head_of end (x ∷ rest) = if is_vcl x.kind then behind_vcl end rest else Bad 0
 
--- the reading of the tokens behind the version: a semicolon and items
-abbrev pub reading : List Token → Outcome
-reading tokens = watch 0 (Take sign.Semicolon ∷ Go MoreItems ∷ []) (Nothing ∷ []) tokens
-
 abbrev pub first_place : ℕ → List Token → ℕ
 first_place end [] = end
 first_place end (x ∷ xs) = x.place
 
--- the place of the token at which so many are left
-abbrev pub place_at : ℕ → List Token → ℕ → ℕ
-place_at end tokens left = first_place end (drop (length tokens - left) tokens)
+-- blocks, parentheses and braces nest at most so deep
+abbrev pub nesting_limit : ℕ
+nesting_limit = 64
 
-abbrev pub told : ℕ → List Token → Stop → VclError
-told end tokens stop.NoMemory = error.NoMemory
-told end tokens (stop.Syntax left) = error.Refused refusal.Syntax (place_at end tokens left)
-told end tokens (stop.TooDeep left) = error.Refused refusal.TooDeep (place_at end tokens left)
+-- By the grammar the tokens are a text of this tree, and they nest within the limit.
+abbrev pub IsTree : List Token → Tree → Type 0
+IsTree tokens tree = IsFile tree.version (items_of tree.items) tokens × (deepest 0 tokens ≤ nesting_limit)
 
--- The tokens read as this tree.
-abbrev pub IsTree : ℕ → List Token → Tree → Type 0
-IsTree end tokens tree = (rest : List Token) × (head_of end tokens ≡ Good tree.version rest) × (reading rest ≡ Accepted (items_of tree.items ∷ []))
+-- Some text of the grammar, however deep it nests, begins with these tokens.
+abbrev pub Continues : List Token → Type 0
+Continues front = (version : Version) × (items : Phrase) × (rest : List Token) × IsFile version items (front ++ rest)
 
-abbrev pub Tells : Outcome → ℕ → List Token → Refusal → ℕ → Type 0
-Tells (Accepted vs) end tokens why place = ⊥
-Tells (Refused left) end tokens why place = (why ≡ refusal.Syntax) × (place ≡ place_at end tokens left)
-Tells (Deep left) end tokens why place = (why ≡ refusal.TooDeep) × (place ≡ place_at end tokens left)
+-- No token is left and the front is no text of the grammar; or none begins with the front and the first token left.
+abbrev pub EndsHere : List Token → List Token → Type 0
+EndsHere front [] = (version : Version) (items : Phrase) → IsFile version items front → ⊥
+EndsHere front (x ∷ behind) = Continues (front ++ x ∷ []) → ⊥
 
--- Why the tokens read as no tree: for want of a version, or by the first token that can't stand or nests too deep.
+-- The tokens before this place go on to a text of the grammar, and with the token there they don't.
+pub record IsSyntaxFault (end : ℕ) (tokens : List Token) (place : ℕ) : Type 0 where
+  pub front : List Token
+  pub behind : List Token
+  pub parts : tokens ≡ front ++ behind
+  pub continued : Continues front
+  pub ended : EndsHere front behind
+  pub within : deepest 0 front ≤ nesting_limit
+  pub placed : place ≡ first_place end behind
+
+-- The tokens up to and with the one at this place go on to a text of the grammar, and there they first nest too deep.
+pub record IsNestingFault (tokens : List Token) (place : ℕ) : Type 0 where
+  pub front : List Token
+  pub token : Token
+  pub behind : List Token
+  pub parts : tokens ≡ front ++ token ∷ behind
+  pub continued : Continues (front ++ token ∷ [])
+  pub within : deepest 0 front ≤ nesting_limit
+  pub deeper : nesting_limit < deepest 0 (front ++ token ∷ [])
+  pub placed : place ≡ token.place
+
+abbrev pub HasVersion : ℕ → List Token → Type 0
+HasVersion end tokens = (version : Version) × (rest : List Token) × (head_of end tokens ≡ Good version rest)
+
+-- Why the tokens have no tree: for want of a version, or by the first token that can't stand or nests too deep.
 abbrev pub IsWrong : ℕ → List Token → Refusal → ℕ → Type 0
-IsWrong end tokens why place = ((why ≡ refusal.Version) × (head_of end tokens ≡ Bad place))
-    ⊎ ((version : Version) × (rest : List Token) × (head_of end tokens ≡ Good version rest) × Tells (reading rest) end rest why place)
+IsWrong end tokens refusal.Version place = head_of end tokens ≡ Bad place
+IsWrong end tokens refusal.Syntax place = HasVersion end tokens × IsSyntaxFault end tokens place
+IsWrong end tokens refusal.TooDeep place = HasVersion end tokens × IsNestingFault tokens place
+IsWrong end tokens _ place = ⊥
 
 -- Why a text has no tree.
 abbrev pub IsFault : List ℕ → VclError → Type 0

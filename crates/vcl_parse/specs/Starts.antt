@@ -1,11 +1,8 @@
 -- What a word or a sign begins, or ties.
-use Rattle.std.specs.Prelude.{Option, Some, None}
 use Rattle.vcl_tree.specs.declared.token.Sign.{Sign}
 use Rattle.vcl_tree.specs.declared.token.Sign.TheVariants as sign
 use Rattle.vcl_tree.specs.declared.token.Word.{Word}
 use Rattle.vcl_tree.specs.declared.token.Word.TheVariants as word
-use Rattle.vcl_tree.specs.declared.expression.Comparison.{Comparison}
-use Rattle.vcl_tree.specs.declared.expression.Comparison.TheVariants as comparison
 use Rattle.vcl_parse.specs.declared.starts.TermSign.{TermSign}
 use Rattle.vcl_parse.specs.declared.starts.TermSign.TheVariants as term
 use Rattle.vcl_parse.specs.declared.starts.StatementWord.{StatementWord}
@@ -41,14 +38,3 @@ abbrev pub else_word_of : Word → ElseWord
 else_word_of word.ElseIf = otherwise.ElseIf
 else_word_of word.Else = otherwise.Else
 else_word_of _ = otherwise.Nothing
-
-abbrev pub comparison_of : Sign → Option Comparison
-comparison_of sign.Equal = Some comparison.Equal
-comparison_of sign.NotEqual = Some comparison.NotEqual
-comparison_of sign.Less = Some comparison.Less
-comparison_of sign.LessOrEqual = Some comparison.LessOrEqual
-comparison_of sign.Greater = Some comparison.Greater
-comparison_of sign.GreaterOrEqual = Some comparison.GreaterOrEqual
-comparison_of sign.Match = Some comparison.Match
-comparison_of sign.NotMatch = Some comparison.NotMatch
-comparison_of _ = None

@@ -15,7 +15,8 @@ use Rattle.vcl_parse.specs.declared.starts.ElseWord.{ElseWord}
 use Rattle.vcl_parse.specs.declared.starts.ElseWord.TheVariants as otherwise
 use Rattle.vcl_parse.specs.declared.stop.Stop.{Stop}
 use Rattle.vcl_parse.specs.declared.stop.Stop.TheVariants as stop
-use Rattle.vcl_parse.specs.Machine.{Want, Tail, Read, Go, Take, Join, Any, Assignment, Condition, Block, MoreElse, Argument, starts_term, MoreSum, Compares, Term, Sum, Outcome, Refused, Deep, watch, is_sign, same_sign}
+use Rattle.vcl_parse.specs.Machine.{Want, Tail, Read, Go, Take, Join, Any, Assignment, Condition, Block, MoreElse, Argument, starts_term, MoreSum, Compares, Term, Sum, Outcome, Refused, Deep, watch}
+use Rattle.vcl_tree.specs.Signs.{same_sign}
 
 -- the outcome that is told by why reading stops; want of memory tells none
 abbrev pub stopped : Stop → Outcome → Outcome
@@ -56,11 +57,6 @@ pub record IsReadAll (wants : List Want) (depth : ℕ) (front : Phrase) (tokens 
 -- With these wanted and this part read before them, reading stops so.
 abbrev pub IsStoppedAll : List Want → ℕ → Phrase → List Token → Stop → Type 0
 IsStoppedAll wants depth front tokens why = (s : List Want) (vs : List Phrase) → Stops why (watch depth (wants ++ s) (front ∷ vs) tokens)
-
--- whether the first token is this sign
-abbrev pub first_is : Sign → List Token → Bool
-first_is s [] = false
-first_is s (x ∷ xs) = is_sign s x
 
 -- the tokens are a sign and a rest
 abbrev pub BeginsWith : Sign → ℕ → List Token → List Token → Type 0

@@ -8,7 +8,8 @@ ghost use Rattle.vcl_tree.specs.TreeView.{entry_of, masked};
 ghost use Rattle.vcl_tree.specs.declared.token.Sign.TheVariants as sign;
 ghost use Rattle.vcl_parse.specs.Machine.{Want, Read, Go, Take, Attributes, Value, Address, Entries, MoreEntries, Semicolon, watch};
 ghost use Rattle.vcl_parse.specs.Machine as machine;
-ghost use Rattle.vcl_parse.specs.Steps.{IsRead, IsStopped, ReadsOne, StopsOne, Ends, CarriesAny, first_is, first_is_string, address_of};
+ghost use Rattle.vcl_parse.specs.Steps.{IsRead, IsStopped, ReadsOne, StopsOne, Ends, CarriesAny, first_is_string, address_of};
+ghost use Rattle.vcl_tree.specs.Signs.{first_is};
 
 use crate::signs::{any_name, begins, behind_sign, enter, expect, first_place, mask_number, split};
 use crate::stop::Stop;

@@ -5,7 +5,8 @@ ghost use Rattle.std.specs.Prelude.{◌≡◌, ◌∷◌, [], ◌<◌, ◌≤◌
 ghost use Rattle.vcl_tree.specs.Phrase.{Named, list_of};
 ghost use Rattle.vcl_tree.specs.declared.token.Sign.TheVariants as sign;
 ghost use Rattle.vcl_parse.specs.Machine.{Read, Go, Any, All, Negation, Comparing, Sum, Term, Literal, Arguments, Argument, MoreSum, Compares, Calls};
-ghost use Rattle.vcl_parse.specs.Steps.{IsRead, IsReadOn, IsStopped, ReadsOne, StopsOne, Adds, ComparesWith, Ends, first_is, HasNoWeight, first_starts_term};
+ghost use Rattle.vcl_parse.specs.Steps.{IsRead, IsReadOn, IsStopped, ReadsOne, StopsOne, Adds, ComparesWith, Ends, HasNoWeight, first_starts_term};
+ghost use Rattle.vcl_tree.specs.Signs.{first_is};
 
 use crate::making::{all_of, any_of, call_of, compared, group_of, negative_of, not_of, sum_from};
 use crate::names::has_zero_fraction;

@@ -1,7 +1,7 @@
 //! VCL text to a tree, exactly by the grammar, with the exact place of a refusal.
 //!
-//! Contract for the layer above: `parse` gives the tree of a text, or the refusal and its place, as the reading of
-//! single tokens of `specs/Machine.antt` has them.
+//! Contract for the layer above: `parse` gives the tree that the text's tokens have by the grammar of `vcl_tree`
+//! (`specs/Grammar.antt` there), or the refusal and its place, as `specs/Parsing.antt` says them of the grammar.
 #![tactic(auto)]
 
 mod attributes;

@@ -1,6 +1,6 @@
 // Names and decimals by their ends.
 ghost use Rattle.std.specs.Prelude.{◌≡◌};
-ghost use Rattle.vcl_parse.specs.Machine.{ends_in, has_zeros, adds_backend};
+ghost use Rattle.vcl_tree.specs.Endings.{ends_in, has_zeros, adds_backend};
 
 /// Whether a decimal's fraction is zeros.
 pub fn has_zero_fraction(decimal: &[u8]) -> bool

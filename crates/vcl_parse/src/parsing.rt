@@ -3,11 +3,14 @@ ghost use Rattle.std.specs.Prelude.{◌≡◌, ◌∷◌, [], ℕ, List, length,
 ghost use Rattle.vcl_tree.specs.declared.token.Token.{Token};
 ghost use Rattle.vcl_tree.specs.TreeView.{items_of, item_of};
 ghost use Rattle.vcl_tree.specs.declared.item.Tree as tree;
+ghost use Rattle.vcl_tree.specs.declared.error.Refusal.{Refusal};
 ghost use Rattle.vcl_tree.specs.Phrase.{list_of};
 ghost use Rattle.vcl_tokens.specs.Reading.{Reads};
 ghost use Rattle.vcl_parse.specs.Machine.{Accepted};
 ghost use Rattle.vcl_parse.specs.Steps.{Stops};
-ghost use Rattle.vcl_parse.specs.Parsing.{IsTree, IsFault, Good, Bad, head_of, behind_vcl, version_written, is_vcl_word, reading, told, place_at};
+ghost use Rattle.vcl_parse.specs.Parsing.{IsTree, IsWrong, IsFault, Good, Bad, head_of, behind_vcl, is_vcl_word};
+ghost use Rattle.vcl_parse.specs.Telling.{reading, told, place_at};
+ghost use Rattle.vcl_tree.specs.Grammar.{version_written};
 
 use crate::items::all_items;
 use crate::signs::{expect, split};
@@ -20,8 +23,9 @@ use vcl_tree::{Item, Refusal, Sign, Token, TokenKind, Tree, VclError, Version, W
 /// The tree of a text. A text over its limit is refused as too long, else at its first fault of tokens, else for a
 /// version other than 4.0 and 4.1, else at the first token at which no text of the language goes on, or at which
 /// blocks and parentheses would nest more than 64 deep; where the text ends too early, at its length.
+#[tactic(auto, using(crate::proofs::Files::fault_told))]
 pub fn parse(alloc: Global, text: &Text) -> Result<Tree, VclError>
-    ensures tree { IfOk result (λ tree. (tokens : List Token) × Reads 0 text.now tokens × IsTree (length text.now) tokens tree) }
+    ensures tree { IfOk result (λ tree. (tokens : List Token) × Reads 0 text.now tokens × IsTree tokens tree) }
     ensures fault { IfErr result (IsFault text.now) }
 {
     let found = tokens(alloc, text)?;
@@ -145,8 +149,13 @@ fn place(end: u32, tokens: &[Token], left: usize) -> u32
     }
 }
 
-/// A text has at most one tree: the version and the items are the same, as clauses see them.
+/// A text has at most one tree, as clauses see it: the version and the items are the same. Tokens that have a tree
+/// have no fault, and tokens have at most one fault.
 pub fn one_tree()
-    ensures { (text : List ℕ) (tokens others : List Token) (a b : tree.Tree) → Reads 0 text tokens → Reads 0 text others →
-        IsTree (length text) tokens a → IsTree (length text) others b → (a.version ≡ b.version) × (items_of a.items ≡ items_of b.items) }
+    ensures one { (text : List ℕ) (tokens others : List Token) (a b : tree.Tree) → Reads 0 text tokens → Reads 0 text others →
+        IsTree tokens a → IsTree others b → (a.version ≡ b.version) × (items_of a.items ≡ items_of b.items) }
+    ensures no_fault { (end : ℕ) (tokens : List Token) (a : tree.Tree) (why : Refusal) (place : ℕ) →
+        IsTree tokens a → IsWrong end tokens why place → ⊥ }
+    ensures one_fault { (end : ℕ) (tokens : List Token) (why other : Refusal) (place elsewhere : ℕ) →
+        IsWrong end tokens why place → IsWrong end tokens other elsewhere → (why ≡ other) × (place ≡ elsewhere) }
 {}

@@ -5,7 +5,8 @@ ghost use Rattle.vcl_tree.specs.declared.token.Token.{Token};
 ghost use Rattle.vcl_parse.specs.Machine.{Take, AnyName, NewName, Number};
 ghost use Rattle.vcl_tree.specs.Phrase.{Integer, Named};
 ghost use Rattle.vcl_tree.specs.StatementView.{name_of};
-ghost use Rattle.vcl_parse.specs.Steps.{Passes, ReadsOne, StopsOne, BeginsWith, first_is, first_at, sign_level, opens_sign, IsEntered, IsTooDeep};
+ghost use Rattle.vcl_parse.specs.Steps.{Passes, ReadsOne, StopsOne, BeginsWith, first_at, sign_level, opens_sign, IsEntered, IsTooDeep};
+ghost use Rattle.vcl_tree.specs.Signs.{first_is};
 
 use crate::stop::Stop;
 use std::alloc::AllocError;

@@ -1,6 +1,7 @@
 // What a word or a sign begins, or ties.
 ghost use Rattle.std.specs.Prelude.{◌≡◌};
-ghost use Rattle.vcl_parse.specs.Starts.{term_sign_of, statement_word_of, item_word_of, comparison_of, else_word_of};
+ghost use Rattle.vcl_parse.specs.Starts.{term_sign_of, statement_word_of, item_word_of, else_word_of};
+ghost use Rattle.vcl_tree.specs.Signs.{comparison_of};
 
 use vcl_tree::{Comparison, Sign, Word};
 

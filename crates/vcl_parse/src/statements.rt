@@ -5,7 +5,8 @@ ghost use Rattle.std.specs.Prelude.{◌≡◌, ◌∷◌, ◌++◌, [], ◌≤�
 ghost use Rattle.vcl_tree.specs.Phrase.{Phrase, Named, At, list_of};
 ghost use Rattle.vcl_tree.specs.StatementView.{branch_of, branches_of};
 ghost use Rattle.vcl_tree.specs.declared.token.Sign.TheVariants as sign;
-ghost use Rattle.vcl_parse.specs.Machine.{Want, Read, Go, Join, Take, AnyName, NewName, Assignment, Arguments, Ending, Condition, Block, AfterElse, MoreElse, MoreStatements, adds_backend, watch};
+ghost use Rattle.vcl_parse.specs.Machine.{Want, Read, Go, Join, Take, AnyName, NewName, Assignment, Arguments, Ending, Condition, Block, AfterElse, MoreElse, MoreStatements, watch};
+ghost use Rattle.vcl_tree.specs.Endings.{adds_backend};
 ghost use Rattle.vcl_parse.specs.Machine as machine;
 ghost use Rattle.vcl_tree.specs.Phrase.{Called, Bound, New, Unset, Jump, Return, If};
 ghost use Rattle.vcl_parse.specs.Steps.{IsRead, IsReadOn, IsReadAll, ReadsAll, IsStopped, IsStoppedAll, StopsOne, Ends, CarriesOn, Assigns, else_wants};

@@ -1,7 +1,8 @@
 //! The syntax tree of VCL, the tokens that it is read from, and the grammar that ties the two.
 //!
-//! `Phrase` of `specs/Phrase.antt`, which has the node's shape, its texts and numbers, and the place of each of
-//! its first tokens, and not where the parts lie in memory.
+//! A clause sees a part of a tree as a `Phrase` of `specs/Phrase.antt`, which has the node's shape, its texts and
+//! numbers, and the place of each of its first tokens, and not where the parts lie in memory. `specs/Grammar.antt` and
+//! the grammars of items' parts beside it say which tokens are which phrase.
 #![tactic(auto)]
 
 mod attribute;
