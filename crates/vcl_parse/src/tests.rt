@@ -6,6 +6,7 @@ use vcl_tree::VclError;
 mod limits;
 mod productions;
 mod programs;
+mod trees;
 
 // That the text is read, or the number of its refusal and the place.
 fn shown(alloc: Global, text: &[u8]) -> Result<String, AllocError> {
@@ -21,8 +22,8 @@ fn shown(alloc: Global, text: &[u8]) -> Result<String, AllocError> {
     Ok(out)
 }
 
-// What is said of a text that is refused at the place of `@`, which is no part of it, or that is read if it has none;
-// and before it what is wanted.
+// What is wanted of a text, and what is said of it: that it is refused at the place of `@`, which is no part of it, or
+// that it is read where it has none.
 fn wanted_and_shown(alloc: Global, kind: &str, text: &str) -> Result<(String, String), AllocError> {
     let mut wanted = String::new(alloc);
     let Some((front, back)) = text.split_once('@') else {

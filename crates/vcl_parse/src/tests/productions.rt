@@ -8,6 +8,7 @@ const FILE: &str = r#"
 + vcl 4.0;
 + vcl 4.1;
 + vcl 4.1; import a; backend b none; acl c {} probe d {} sub e {}
++ vcl/**/4.1/**/;/* } */sub/**/x{} # y
 3 @
 3 @ # no token
 3 @ 4.1;
@@ -17,7 +18,10 @@ const FILE: &str = r#"
 3 @import a;
 3 @sub x {}
 3 vcl@
+3 vcl   @
+3 vcl /* 4.1 */@
 3 vcl @;
+3 vcl # 4.1;@
 3 vcl @x;
 3 vcl @4;
 3 vcl @4.2;
@@ -27,6 +31,8 @@ const FILE: &str = r#"
 3 vcl @"4.1";
 3 vcl @vcl 4.1;
 2 vcl 4.1@
+2 vcl 4.1  @
+2 vcl 4.1 // ;@
 2 vcl 4.1 @}
 2 vcl 4.1 @, 4.1;
 2 vcl 4.1 @4.1;
@@ -304,6 +310,9 @@ const SUB: &str = r#"
 const BLOCK: &str = r#"
 + vcl 4.1; sub x { a(); set b = 1; c(); }
 2 vcl 4.1; sub x {@
+2 vcl 4.1; sub x {   @
+2 vcl 4.1; sub x { # }@
+2 vcl 4.1; sub x { /* } */ @;
 2 vcl 4.1; sub x { a();@
 2 vcl 4.1; sub x { a(); @;
 2 vcl 4.1; sub x { @{ } }
@@ -837,6 +846,6 @@ fn read_and_refused(rt: HostRuntime) -> Result<(), Fail> {
             }
         }
     }
-    assert_eq!(rt; count, 744);
+    assert_eq!(rt; count, 753);
     Ok(())
 }
