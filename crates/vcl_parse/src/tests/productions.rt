@@ -657,6 +657,12 @@ const ARGUMENTS: &str = r#"
 const WEIGHT: &str = r#"
 + vcl 4.1; sub x { d.add_backend(b); d.add_backend(b, 10); }
 + vcl 4.1; sub x { d.add_backend(b, 10.0); d.add_backend(b, 1.00); d.add_backend(b, 0.000); }
+2 vcl 4.1; sub x { d.add_backend@
+2 vcl 4.1; sub x { d.add_backend @;
+2 vcl 4.1; sub x { d.add_backend(b, 10.0)@
+2 vcl 4.1; sub x { d.add_backend(b, 10.0) @}
+2 vcl 4.1; sub x { d.add_backend(b,@
+2 vcl 4.1; sub x { d.add_backend(b, @); }
 2 vcl 4.1; sub x { d.add_backend(b, @10.5); }
 2 vcl 4.1; sub x { d.add_backend(b, @10.01); }
 2 vcl 4.1; sub x { d.add_backend(b, @10.100); }
@@ -846,6 +852,6 @@ fn read_and_refused(rt: HostRuntime) -> Result<(), Fail> {
             }
         }
     }
-    assert_eq!(rt; count, 753);
+    assert_eq!(rt; count, 759);
     Ok(())
 }
