@@ -7,4 +7,5 @@ mod LivingFacts
 mod TrailerFacts
 mod StepFacts
 pub mod AnswerFacts
+mod EndFacts
 pub mod LawFacts

@@ -1,8 +1,11 @@
 // Laws of the answers of readers, as contracts of functions that do nothing.
-ghost use Rattle.std.specs.Prelude.{◌≡◌, ◌+◌, ◌↔◌, ◌++◌, ℕ, List, [], length};
+ghost use Rattle.std.specs.Prelude.{◌≡◌, ◌⊎◌, ◌+◌, ◌↔◌, ◌++◌, ℕ, List, [], length};
+ghost use Rattle.http_bodies.specs.Bodies.{IsBody};
 ghost use Rattle.http_bodies.specs.Reading.{ReaderState, Follows};
 ghost use Rattle.http_bodies.specs.Answers.{HasEndWithin, Takes, Refuses};
 ghost use Rattle.http_bodies.specs.declared.framing.BodyError.{BodyError as RefusalKind};
+ghost use Rattle.http_bodies.specs.declared.framing.Framing.{Framing};
+ghost use Rattle.http_bodies.specs.declared.framing.Framing.TheVariants.{UntilEnd};
 
 /// A piece has one answer at most: so many bytes are taken, or it is refused in one way.
 pub fn one_answer()
@@ -20,4 +23,10 @@ pub fn any_cut()
         → Takes new second n ↔ Takes old (first ++ second) (length first + n) }
     ensures refused { (old new : ReaderState) (first second : List ℕ) (e : RefusalKind) → Follows old new first → HasEndWithin new []
         → Refuses new second e ↔ Refuses old (first ++ second) e }
+{}
+
+/// A body goes on to no longer body, unless it goes on to the end of the connection.
+pub fn one_end()
+    ensures { (framing : Framing) (text more body other : List ℕ) → IsBody framing text body → IsBody framing (text ++ more) other
+        → (more ≡ []) ⊎ (framing ≡ UntilEnd) }
 {}

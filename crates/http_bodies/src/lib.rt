@@ -17,6 +17,6 @@ mod tests;
 mod trailer;
 
 pub use framing::{BodyError, Framing, Kind, frame};
-pub use laws::{any_cut, one_answer};
+pub use laws::{any_cut, one_answer, one_end};
 pub use place::{LinePart, Place};
 pub use reader::BodyReader;

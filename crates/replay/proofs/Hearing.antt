@@ -7,6 +7,7 @@ use Rattle.std.proofs.lemmas.Option.{slice_get_cases, slice_get_past}
 use Rattle.std.specs.Prelude.{find, position, remove, slice_get}
 use Rattle.std.specs.List.{list_any, position_or_len}
 use Rattle.cache_law.specs.declared.call.Entry.{Entry}
+use Rattle.http_heads.specs.declared.message.ResponseHead.{ResponseHead}
 use Rattle.replay.specs.declared.policy.Request.{Request}
 use Rattle.replay.specs.declared.policy.Given.{Given}
 use Rattle.replay.specs.declared.policy.Given.TheVariants.{Came}
@@ -104,16 +105,16 @@ request_heard wants scene request h0 h1 H rests free went =
     (λ next text at. subst (λ (s : Scene). Went wants s [] h0 h1 (λ t more. H t (text ++ more))) (sym at.0) (subst (λ (x : List ℕ). Went wants (with_running scene (begun request)) [] h0 h1 (λ t more. H t (x ++ more))) (sym at.1) went))
 
 -- the scene in which a round has its reply
-abbrev pub replied : Scene → ℕ → List ℕ → Waiting → Scene
-replied scene number body one = record {
+abbrev pub replied : Scene → ℕ → ResponseHead → List ℕ → Waiting → Scene
+replied scene number head body one = record {
   moment = scene.moment;
-  running = Some (gave one.round (Came (record { moment = scene.moment; body = body })));
+  running = Some (gave one.round (Came (record { moment = scene.moment; head = head; body = body })));
   waiting = without_first number scene.waiting;
 }
 
 -- a reply that a round waits for
-pub reply_heard : (wants : Request → List Given → Want → Type 0) (scene : Scene) (number : ℕ) (body : List ℕ) (one : Waiting) (h0 h1 : List Entry) (H : Scene → List ℕ → Type 0) → scene.running ≡ None → find (waits_for number) scene.waiting ≡ Some one → Went wants (replied scene number body one) [] h0 h1 H → Went wants scene (events.Reply number body ∷ []) h0 h1 H
-reply_heard wants scene number body one h0 h1 H rests is went =
-    went-then wants scene (events.Reply number body ∷ []) [] h0 h0 h1 (λ next text. (next ≡ replied scene number body one) × (text ≡ [])) H
-    (went-one wants scene (replied scene number body one) (hears (events.Reply number body)) h0 h0 _ (one, rests, is, refl) (sym (append-nil h0)) (refl, refl))
-    (λ next text at. subst (λ (s : Scene). Went wants s [] h0 h1 (λ t more. H t (text ++ more))) (sym at.0) (subst (λ (x : List ℕ). Went wants (replied scene number body one) [] h0 h1 (λ t more. H t (x ++ more))) (sym at.1) went))
+pub reply_heard : (wants : Request → List Given → Want → Type 0) (scene : Scene) (number : ℕ) (head : ResponseHead) (body : List ℕ) (one : Waiting) (h0 h1 : List Entry) (H : Scene → List ℕ → Type 0) → scene.running ≡ None → find (waits_for number) scene.waiting ≡ Some one → Went wants (replied scene number head body one) [] h0 h1 H → Went wants scene (events.Reply number head body ∷ []) h0 h1 H
+reply_heard wants scene number head body one h0 h1 H rests is went =
+    went-then wants scene (events.Reply number head body ∷ []) [] h0 h0 h1 (λ next text. (next ≡ replied scene number head body one) × (text ≡ [])) H
+    (went-one wants scene (replied scene number head body one) (hears (events.Reply number head body)) h0 h0 _ (one, rests, is, refl) (sym (append-nil h0)) (refl, refl))
+    (λ next text at. subst (λ (s : Scene). Went wants s [] h0 h1 (λ t more. H t (text ++ more))) (sym at.0) (subst (λ (x : List ℕ). Went wants (replied scene number head body one) [] h0 h1 (λ t more. H t (x ++ more))) (sym at.1) went))

@@ -5,5 +5,6 @@ pub mod Rounds
 pub mod Hearing
 pub mod Playing
 pub mod Ending
-pub mod Reading
 pub mod Building
+pub mod Bodies
+pub mod Wholes

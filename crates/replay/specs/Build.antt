@@ -1,22 +1,31 @@
 -- Which events the lines of a session stand for, as far as that is built.
-use Rattle.std.specs.Prelude.{◌≡◌, List, [], ◌∷◌, ◌++◌}
+use Rattle.std.specs.Prelude.{◌≡◌, ℕ, List, [], ◌∷◌, ◌++◌}
+use Rattle.http_heads.specs.declared.message.RequestHead.{RequestHead}
 use Rattle.session_text.specs.declared.session.Line.{Line}
 use Rattle.session_text.specs.declared.session.Line.TheVariants as lines
 use Rattle.session_text.specs.declared.session.NumberedLine.{NumberedLine}
 use Rattle.session_text.specs.declared.session.Session.{Session}
+use Rattle.replay.specs.declared.policy.Message.{Message}
+use Rattle.replay.specs.declared.policy.Message.TheVariants.{Whole, Unreadable}
 use Rattle.replay.specs.declared.event.Event.{Event}
 use Rattle.replay.specs.declared.event.Event.TheVariants as events
 use Rattle.replay.specs.declared.event.NumberedEvent.{NumberedEvent}
 use Rattle.replay.specs.declared.event.Script.{Script}
 use Rattle.replay.specs.declared.script.BuildError.{BuildError}
 use Rattle.replay.specs.declared.script.BuildError.TheVariants.{NotBuilt, NoMemory}
-use Rattle.replay.specs.Forms.{IsRequestText, IsReplyText}
+use Rattle.replay.specs.Whole.{HasWholeRequest, HasWholeReply}
+use Rattle.replay.specs.Forms.{IsPageRequest, IsPageReply}
 
--- the line stands for the event: a moment; a request of client 1, or a reply, of the form that is built
+-- the text's first message is a request for a page with this head; or no whole request stands at its front
+abbrev pub IsMessage : List ℕ → Message → Type 0
+IsMessage text (Whole head) = HasWholeRequest text head × IsPageRequest head
+IsMessage text Unreadable = (head : RequestHead) → HasWholeRequest text head → ⊥
+
+-- the line stands for the event: a moment; a request of client 1; or a whole reply with a page
 abbrev pub StandsFor : Line → Event → Type 0
 StandsFor (lines.At moment) (events.Moment same) = moment ≡ same
-StandsFor (lines.Req client text) (events.Request request) = (client ≡ 1) × (request.client ≡ 1) × IsRequestText text request.url request.host
-StandsFor (lines.Reply fetch text) (events.Reply number body) = (number ≡ fetch) × IsReplyText text body
+StandsFor (lines.Req client text) (events.Request request) = (client ≡ 1) × (request.client ≡ 1) × IsMessage text request.message
+StandsFor (lines.Reply fetch text) (events.Reply number head body) = (number ≡ fetch) × HasWholeReply text head body × IsPageReply head
 StandsFor line event = ⊥
 
 -- line by line, with the same numbers
@@ -30,9 +39,12 @@ pub record IsBuilt (session : Session) (script : Script) : Type 0 where
   pub lines_are : IsBuiltAs session.lines script.events
   pub end_is : script.end ≡ session.end
 
--- A refusal names the first line that stands for no event; those before it stand for some.
-abbrev pub IsBuildError : Session → BuildError → Type 0
-IsBuildError session (NotBuilt number) =
+-- the first line that stands for no event has this number; those before it stand for some
+abbrev pub IsNotBuilt : Session → ℕ → Type 0
+IsNotBuilt session number =
     (front : List NumberedLine) × (first : NumberedLine) × (back : List NumberedLine) × (events : List NumberedEvent)
     × (session.lines ≡ front ++ first ∷ back) × IsBuiltAs front events × (first.number ≡ number) × ((event : Event) → StandsFor first.line event → ⊥)
+
+abbrev pub IsBuildError : Session → BuildError → Type 0
+IsBuildError session (NotBuilt number) = IsNotBuilt session number
 IsBuildError session NoMemory = Unit {0}

@@ -4,8 +4,8 @@ pub mod FixedPolicy
 pub mod Visit
 pub mod Scene
 pub mod Endings
+pub mod Whole
 pub mod Forms
-pub mod Letters
 pub mod Build
 pub mod Went
 pub mod Replayed

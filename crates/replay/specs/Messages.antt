@@ -1,22 +1,31 @@
--- Messages as bytes (RFC 9112, sections 2.1, 3, 4 and 5).
+-- The messages that a replay writes (RFC 9112, sections 3, 4 and 5), as http_heads prints their heads.
 use Rattle.std.specs.Prelude.{ℕ, ℤ, List, [], ◌∷◌, ◌++◌, ◌/◌, ◌-ℤ◌, pos, negsuc, codes, length}
-use Rattle.std.specs.List.{flat_map}
 use Rattle.std.specs.Fmt.{decimal}
 use Rattle.http_heads.specs.declared.fields.Field.{Field}
+use Rattle.http_heads.specs.declared.message.RequestHead.{RequestHead}
+use Rattle.http_heads.specs.declared.message.ResponseHead.{ResponseHead}
+use Rattle.http_heads.specs.Printed.{line_end, request_text, response_text}
 use Rattle.cache_law.specs.declared.object.Object.{Object}
-
-abbrev pub crlf : List ℕ
-crlf = 13 ∷ 10 ∷ []
-
-abbrev pub field_line : Field → List ℕ
-field_line field = field.name ++ codes ": " ++ field.value ++ crlf
-
--- a start line, field lines, an empty line and a body
-unfoldable pub message : List ℕ → List Field → List ℕ → List ℕ
-message start fields body = start ++ crlf ++ flat_map field_line fields ++ crlf ++ body
 
 abbrev pub field_of : List ℕ → List ℕ → Field
 field_of name value = record { name = name; value = value }
+
+-- what a request is answered that no grammar reads, or that passes a limit (RFC 9110, section 15.5.1)
+abbrev pub bad_request : List ℕ
+bad_request = codes "HTTP/1.1 400 Bad Request" ++ line_end ++ codes "Content-Length: 0" ++ line_end ++ codes "Connection: close" ++ line_end ++ line_end
+
+abbrev pub backend_head : List ℕ → List Field → ℕ → RequestHead
+backend_head url fields number =
+    record {
+      method = codes "GET";
+      url = url;
+      version = 11;
+      fields = fields ++ field_of (codes "X-Varnish") (decimal number) ∷ [];
+    }
+
+-- what the backend is sent for a page, under the fetch's number
+unfoldable pub backend_request : List ℕ → List Field → ℕ → List ℕ
+backend_request url fields number = request_text (backend_head url fields number)
 
 -- whole seconds, none where less than nothing has passed
 abbrev pub whole_seconds : ℤ → ℕ
@@ -32,7 +41,10 @@ abbrev pub delivery_fields_of : Object → List ℕ → ℕ → List Field
 delivery_fields_of object numbers age =
     object.fields ++ field_of (codes "X-Varnish") numbers ∷ field_of (codes "Age") (decimal age) ∷ field_of (codes "Content-Length") (decimal (length object.body)) ∷ []
 
+abbrev pub delivered_head : Object → List ℕ → ℕ → ResponseHead
+delivered_head object numbers age =
+    record { version = 11; status = object.status; reason = object.reason; fields = delivery_fields_of object numbers age }
+
 -- the response with an object, under these numbers and of this age
 unfoldable pub delivered : Object → List ℕ → ℕ → List ℕ
-delivered object numbers age =
-    message (codes "HTTP/1.1 " ++ decimal object.status ++ codes " " ++ object.reason) (delivery_fields_of object numbers age) object.body
+delivered object numbers age = response_text (delivered_head object numbers age) ++ object.body

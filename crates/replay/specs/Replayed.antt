@@ -1,6 +1,7 @@
 -- What a session that was played leaves: its history and its text, for each way in which it may end.
-use Rattle.std.specs.Prelude.{◌≡◌, ℕ, Bool, Option, Some, None, Result, Ok, Err, List, [], ◌∷◌, ◌++◌, if◌then◌else◌}
+use Rattle.std.specs.Prelude.{◌≡◌, ◌⊎◌, ℕ, Bool, Option, Some, None, Result, Ok, Err, List, [], ◌∷◌, ◌++◌, if◌then◌else◌}
 use Rattle.std.specs.Io.KnownBytes.{Appends}
+use Rattle.session_text.specs.declared.session.Session.{Session}
 use Rattle.cache_law.specs.declared.setting.Params.{Params}
 use Rattle.cache_law.specs.declared.setting.Boot.{Boot}
 use Rattle.cache_law.specs.declared.call.Entry.{Entry}
@@ -15,11 +16,12 @@ use Rattle.replay.specs.declared.schedule.Break.TheVariants as breaks
 use Rattle.replay.specs.declared.schedule.Halt.{Halt}
 use Rattle.replay.specs.declared.schedule.Halt.TheVariants as halts
 use Rattle.replay.specs.declared.session.ReplayError.{ReplayError}
-use Rattle.replay.specs.declared.session.ReplayError.TheVariants.{Idle, Unanswered, WriteFault, HistoryFull, NoMemory}
+use Rattle.replay.specs.declared.session.ReplayError.TheVariants.{NotBuilt, Idle, Unanswered, WriteFault, HistoryFull, NoMemory}
 use Rattle.replay.specs.declared.session.Replayed.{Replayed}
 use Rattle.replay.specs.Scene.{Scene, opening_scene}
 use Rattle.replay.specs.Endings.{IsIdle, WantsTooMuch, IsCutShort}
 use Rattle.replay.specs.Went.{Went, events_in}
+use Rattle.replay.specs.Build.{IsBuilt, IsNotBuilt}
 
 -- the refusal for a halt
 abbrev pub error_for : Halt → ReplayError
@@ -48,6 +50,8 @@ abbrev pub EndsSo : (Request → List Given → Want → Type 0) → Params → 
 -- the whole transcript: nobody runs and nobody waits
 EndsSo wants params boot script history before now None =
     CameTo wants params boot (events_in script.events) history (λ scene text. (scene.running ≡ None) × (scene.waiting ≡ []) × Appends before now text)
+-- a script is built
+EndsSo wants params boot script history before now (Some (NotBuilt line)) = ⊥
 -- the text of the lines before the idle one
 EndsSo wants params boot script history before now (Some (Idle line)) =
     (played : List NumberedEvent) × (idle : NumberedEvent) × (rest : List NumberedEvent) × (script.events ≡ played ++ idle ∷ rest) × (idle.number ≡ line)
@@ -67,3 +71,24 @@ EndsSo wants params boot script history before now (Some NoMemory) =
 
 abbrev pub IsReplayed : (Request → List Given → Want → Type 0) → Script → Params → Boot → Option (List ℕ) → Option (List ℕ) → Replayed → Type 0
 IsReplayed wants script params boot before now replayed = EndsSo wants params boot script replayed.history before now replayed.refusal
+
+-- nothing was played, and nothing written
+pub record NothingPlayed (history : List Entry) (before now : Option (List ℕ)) : Type 0 where
+  pub history_is : history ≡ []
+  pub held_is : now ≡ before
+
+-- the session's events were played, and this ended it
+abbrev pub PlayedTo : (Request → List Given → Want → Type 0) → Session → Params → Boot → List Entry → Option (List ℕ) → Option (List ℕ) → Option ReplayError → Type 0
+PlayedTo wants session params boot history before now refusal =
+    (script : Script) × IsBuilt session script × EndsSo wants params boot script history before now refusal
+
+-- what the history and the sink hold after each ending of a session
+abbrev pub SessionEnds : (Request → List Given → Want → Type 0) → Session → Params → Boot → List Entry → Option (List ℕ) → Option (List ℕ) → Option ReplayError → Type 0
+SessionEnds wants session params boot history before now (Some (NotBuilt line)) = NothingPlayed history before now × IsNotBuilt session line
+SessionEnds wants session params boot history before now (Some NoMemory) =
+    NothingPlayed history before now ⊎ PlayedTo wants session params boot history before now (Some NoMemory)
+SessionEnds wants session params boot history before now None = PlayedTo wants session params boot history before now None
+SessionEnds wants session params boot history before now (Some (Idle line)) = PlayedTo wants session params boot history before now (Some (Idle line))
+SessionEnds wants session params boot history before now (Some (Unanswered line)) = PlayedTo wants session params boot history before now (Some (Unanswered line))
+SessionEnds wants session params boot history before now (Some WriteFault) = PlayedTo wants session params boot history before now (Some WriteFault)
+SessionEnds wants session params boot history before now (Some HistoryFull) = PlayedTo wants session params boot history before now (Some HistoryFull)

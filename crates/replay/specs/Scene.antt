@@ -110,11 +110,11 @@ Hears old (events.Moment moment) new =
     (old.running ≡ None) × (new ≡ record { moment = max old.moment moment; running = None; waiting = old.waiting })
 Hears old (events.Request request) new =
     (old.running ≡ None) × (is_under_way request.client old.waiting ≡ false) × (new ≡ with_running old (begun request))
-Hears old (events.Reply number body) new =
+Hears old (events.Reply number head body) new =
     (one : Waiting) × (old.running ≡ None) × (find (waits_for number) old.waiting ≡ Some one)
     × (new ≡ record {
       moment = old.moment;
-      running = Some (gave one.round (Came (record { moment = old.moment; body = body })));
+      running = Some (gave one.round (Came (record { moment = old.moment; head = head; body = body })));
       waiting = without_first number old.waiting;
     })
 

@@ -1,5 +1,6 @@
 // What a session tells the schedule.
 use crate::Request;
+use http_heads::ResponseHead;
 use std::alloc::{AllocError, Global};
 use units::{Copied, Sequence, Text};
 
@@ -10,8 +11,12 @@ pub enum Event {
     Moment(u64),
     /// A client sends a request.
     Request(Request),
-    /// The exchange of this fetch gets a reply with this body.
-    Reply { fetch: u64, body: Text },
+    /// The exchange of this fetch gets a reply with this head and body.
+    Reply {
+        fetch: u64,
+        head: ResponseHead,
+        body: Text,
+    },
 }
 
 /// An event, and the number of its line.
@@ -26,8 +31,9 @@ impl Copied for Event {
         match self {
             Event::Moment(moment) => Ok(Event::Moment(*moment)),
             Event::Request(request) => Ok(Event::Request(request.copied(alloc)?)),
-            Event::Reply { fetch, body } => Ok(Event::Reply {
+            Event::Reply { fetch, head, body } => Ok(Event::Reply {
                 fetch: *fetch,
+                head: head.copied(alloc)?,
                 body: body.copy()?,
             }),
         }

@@ -1,17 +1,13 @@
 // The messages that a replay plays so far: one form of request and one form of reply.
-ghost use Rattle.std.specs.Prelude.{◌≡◌, ◌↔◌, ◌<◌, ◌++◌, ℕ, List, true, MatchOption, IfOk, IfSome, IsSomeAnd, IsTrue, not, position};
-ghost use Rattle.std.specs.List.{list_all, position_or_len};
-ghost use Rattle.replay.specs.Forms.{is_host_byte, is_url_byte, IsUrl, IsHost, IsRequestText, IsReplyText};
-ghost use Rattle.replay.specs.Letters.{StartsOtherwise};
+ghost use Rattle.std.specs.Prelude.{◌≡◌, ◌↔◌, ◌||◌, ℕ, Some, codes, IsTrue};
+ghost use Rattle.std.specs.List.{list_all};
+ghost use Rattle.http_heads.specs.Fields.{is_named, first_value};
+ghost use Rattle.replay.specs.Forms.{is_host_byte, is_url_byte, begins_x, is_extra, caching_name, is_reply_field, host_name, host_of, IsUrl, IsHost, IsPageRequest, IsPageReply};
 
-use std::alloc::{AllocError, Global};
-use units::write_number;
+use http_heads::{Field, RequestHead, ResponseHead};
+use units::fold_eq;
 
-/// The greatest body of a reply.
-const BODY_LIMIT: usize = 8_388_608;
-
-const BEFORE_LENGTH: &[u8] =
-    b"HTTP/1.1 200 OK\r\nCache-Control: max-age=120, stale-while-revalidate=0\r\nContent-Length: ";
+const CACHING: &[u8] = b"max-age=120, stale-while-revalidate=0";
 
 fn is_host_letter(byte: u8) -> bool
     ensures { result ≡ is_host_byte byte }
@@ -37,48 +33,6 @@ fn are_host_letters(bytes: &[u8]) -> bool
     bytes.iter().all(|byte| is_host_letter(*byte))
 }
 
-/// The place of the first byte that stands in no URL.
-fn first_other(bytes: &[u8]) -> Option<usize>
-    ensures { result ≡ position (λ byte. not (is_url_byte byte)) bytes.now }
-{
-    bytes.iter().position(|byte| !is_url_letter(*byte))
-}
-
-/// How many bytes of a URL stand in front.
-fn count_letters(bytes: &[u8]) -> usize
-    ensures { result ≡ position_or_len (λ byte. not (is_url_byte byte)) bytes.now }
-{
-    match first_other(bytes) {
-        Some(end) => end,
-        None => bytes.len(),
-    }
-}
-
-/// What stands behind a prefix.
-fn after<'a>(bytes: &'a [u8], prefix: &[u8]) -> Option<&'a [u8]>
-    ensures { MatchOption result ((rest : List ℕ) → bytes.now ≡ prefix.now ++ rest → ⊥) (λ rest. bytes.now ≡ prefix.now ++ rest.now) }
-{
-    bytes.strip_prefix(prefix)
-}
-
-/// The bytes of a URL that stand behind a prefix and in front of another text, and what is behind that.
-fn cut<'a>(bytes: &'a [u8], prefix: &[u8], behind: &[u8]) -> Option<(&'a [u8], &'a [u8])>
-    requires { StartsOtherwise behind.now }
-    ensures found { IfSome result (λ found. bytes.now ≡ prefix.now ++ (found.0.now ++ (behind.now ++ found.1.now))) }
-    ensures only { (letters rest : List ℕ) → list_all is_url_byte letters ≡ true → bytes.now ≡ prefix.now ++ (letters ++ (behind.now ++ rest)) →
-        IsSomeAnd result (λ found. (found.0.now ≡ letters) × (found.1.now ≡ rest)) }
-{
-    let rest = match after(bytes, prefix) {
-        Some(rest) => rest,
-        None => return None,
-    };
-    let (letters, rest) = rest.split_at(count_letters(rest));
-    match after(rest, behind) {
-        Some(rest) => Some((letters, rest)),
-        None => None,
-    }
-}
-
 fn is_url(url: &[u8]) -> bool
     ensures { IsTrue result ↔ IsUrl url.now }
 {
@@ -94,44 +48,88 @@ fn is_host(host: &[u8]) -> bool
     !host.is_empty() && host.len() <= 255 && are_host_letters(host)
 }
 
-/// The URL and the host of a request of the form.
-pub(crate) fn split_request(text: &[u8]) -> Option<(&[u8], &[u8])>
-    ensures { MatchOption result ((url host : List ℕ) → IsRequestText text.now url host → ⊥) (λ found. IsRequestText text.now found.0.now found.1.now) }
+fn has_name(name: &[u8], field: &Field) -> bool
+    ensures { result ≡ is_named name.now field.now }
 {
-    let (url, rest) = match cut(text, b"GET ", b" HTTP/1.1\r\nHost: ") {
-        Some(found) => found,
-        None => return None,
-    };
-    let (host, rest) = match cut(rest, b"", b"\r\n\r\n") {
-        Some(found) => found,
-        None => return None,
-    };
-    if !is_url(url) {
-        return None;
-    }
-    if !is_host(host) {
-        return None;
-    }
-    if !rest.is_empty() {
-        return None;
-    }
-    Some((url, host))
+    fold_eq(name, field.name.bytes())
 }
 
-/// The body of a reply of the form.
-pub(crate) fn split_reply(alloc: Global, text: &[u8]) -> Result<Option<&[u8]>, AllocError>
-    ensures { IfOk result (λ found. MatchOption found ((body : List ℕ) → IsReplyText text.now body → ⊥) (λ body. IsReplyText text.now body.now)) }
+fn begins_with_x(name: &[u8]) -> bool
+    ensures { result ≡ begins_x name.now }
 {
-    let (digits, body) = match cut(text, BEFORE_LENGTH, b"\r\n\r\n") {
-        Some(found) => found,
-        None => return Ok(None),
-    };
-    if body.len() > BODY_LIMIT {
-        return Ok(None);
+    name.len() >= 2 && fold_eq(&name[..2], b"x-")
+}
+
+fn is_extra_field(field: &Field) -> bool
+    ensures { result ≡ is_extra field.now }
+{
+    begins_with_x(field.name.bytes())
+        && !has_name(b"x-forwarded-for", field)
+        && !has_name(b"x-varnish", field)
+}
+
+fn are_request_fields(fields: &[Field]) -> bool
+    ensures { result ≡ list_all (λ field. is_named host_name field || is_extra field) fields.now }
+{
+    fields
+        .iter()
+        .all(|field| has_name(b"host", field) || is_extra_field(field))
+}
+
+fn may_reply(field: &Field) -> bool
+    ensures { result ≡ is_reply_field field.now }
+{
+    has_name(b"cache-control", field)
+        || has_name(b"content-length", field)
+        || has_name(b"transfer-encoding", field)
+        || is_extra_field(field)
+}
+
+fn are_reply_fields(fields: &[Field]) -> bool
+    ensures { result ≡ list_all is_reply_field fields.now }
+{
+    fields.iter().all(|field| may_reply(field))
+}
+
+/// The host that a request names; nothing where it names none.
+pub(crate) fn host(head: &RequestHead) -> &[u8]
+    ensures { result.now ≡ host_of head.now }
+{
+    match head.fields.first(b"host") {
+        Some(host) => host.bytes(),
+        None => b"",
     }
-    let len = write_number(alloc, body.len() as u64)?;
-    if digits != len.bytes() {
-        return Ok(None);
+}
+
+/// Whether the request is one for a page.
+pub(crate) fn is_page_request(head: &RequestHead) -> bool
+    ensures { IsTrue result ↔ IsPageRequest head.now }
+{
+    head.method.bytes() == b"GET".as_slice()
+        && is_url(head.url.bytes())
+        && head.version == 11
+        && head.fields.count(b"host") == 1
+        && is_host(host(head))
+        && are_request_fields(head.fields.as_slice())
+}
+
+fn says_caching(head: &ResponseHead) -> bool
+    ensures { IsTrue result ↔ (first_value caching_name head.now.fields ≡ Some (codes "max-age=120, stale-while-revalidate=0")) }
+{
+    match head.fields.first(b"cache-control") {
+        Some(caching) => caching.bytes() == CACHING,
+        None => false,
     }
-    Ok(Some(body))
+}
+
+/// Whether the reply is one with a page.
+pub(crate) fn is_page_reply(head: &ResponseHead) -> bool
+    ensures { IsTrue result ↔ IsPageReply head.now }
+{
+    head.version == 11
+        && head.status == 200
+        && head.reason.bytes() == b"OK".as_slice()
+        && head.fields.count(b"cache-control") == 1
+        && says_caching(head)
+        && are_reply_fields(head.fields.as_slice())
 }

@@ -14,9 +14,11 @@ mod policy;
 mod schedule;
 mod script;
 mod session;
+mod visit;
+mod whole;
 
 pub use event::{Event, NumberedEvent, Script};
-pub use fixed::Visit;
-pub use policy::{Arrival, Given, Policy, Request, Want};
-pub use script::{BuildError, build};
+pub use fixed::Turn;
+pub use policy::{Arrival, Given, Message, Policy, Request, Want};
 pub use session::{ReplayError, Replayed, play_session, run_session};
+pub use visit::Visit;

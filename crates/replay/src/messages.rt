@@ -1,15 +1,14 @@
 // Messages written out.
-ghost use Rattle.std.specs.Prelude.{◌≡◌, ◌++◌, ◌∷◌, [], IfOk, OnOk, ℤ, length, codes};
+ghost use Rattle.std.specs.Prelude.{◌≡◌, ◌++◌, ◌∷◌, [], codes, IfOk, ℤ};
 ghost use Rattle.std.specs.Fmt.{decimal};
-ghost use Rattle.std.specs.List.{flat_map};
-ghost use Rattle.replay.specs.Messages.{field_of, field_line, message, delivered, delivery_fields_of, age_of};
+ghost use Rattle.replay.specs.Messages.{field_of, bad_request, backend_request, delivered, delivery_fields_of, age_of};
 
 use cache_law::Object;
-use http_heads::{Field, Fields};
+use http_heads::{Field, Fields, RequestHead, ResponseHead, print_request, print_response};
 use std::alloc::{AllocError, Global};
-use units::{Copied, Sequence, Text, push_number, write_number};
+use units::{Copied, Text, write_number};
 
-pub(crate) fn make_field(alloc: Global, name: &[u8], value: &[u8]) -> Result<Field, AllocError>
+fn make_field(alloc: Global, name: &[u8], value: &[u8]) -> Result<Field, AllocError>
     ensures { IfOk result (λ field. field ≡ field_of name.now value.now) }
 {
     Ok(Field {
@@ -18,41 +17,55 @@ pub(crate) fn make_field(alloc: Global, name: &[u8], value: &[u8]) -> Result<Fie
     })
 }
 
-fn push_field(out: &mut Vec<u8>, field: &Field) -> Result<(), AllocError>
-    ensures { OnOk result (out.new.items ≡ out.old.items ++ field_line field.now) }
+/// The answer to a request that can't be read.
+pub(crate) fn write_bad_request(alloc: Global) -> Result<Text, AllocError>
+    ensures { IfOk result (λ text. text ≡ bad_request) }
 {
-    out.extend_from_slice(field.name.bytes())?;
-    out.extend_from_slice(b": ")?;
-    out.extend_from_slice(field.value.bytes())?;
-    out.extend_from_slice(b"\r\n")
+    Text::of(
+        alloc,
+        b"HTTP/1.1 400 Bad Request\r\nContent-Length: 0\r\nConnection: close\r\n\r\n",
+    )
 }
 
-fn push_fields(out: &mut Vec<u8>, fields: &[Field]) -> Result<(), AllocError>
-    ensures { OnOk result (out.new.items ≡ out.old.items ++ flat_map field_line fields.now) }
-{
-    for field in fields {
-        push_field(out, field)?;
-    }
-    Ok(())
-}
-
-/// A message: its start line, its fields and its body.
-#[tactic(auto, unfolding(crate::specs::Messages::message))]
-pub(crate) fn write_message(
+/// The fields with one more at the end.
+pub(crate) fn add_field(
     alloc: Global,
-    start: &[u8],
-    fields: &[Field],
-    body: &[u8],
-) -> Result<Text, AllocError>
-    ensures { IfOk result (λ text. text ≡ message start.now fields.now body.now) }
+    fields: Fields,
+    name: &[u8],
+    value: &[u8],
+) -> Result<Fields, AllocError>
+    ensures { IfOk result (λ all. all ≡ fields ++ field_of name.now value.now ∷ []) }
 {
-    let mut out = Vec::new(alloc);
-    out.extend_from_slice(start)?;
-    out.extend_from_slice(b"\r\n")?;
-    push_fields(&mut out, fields)?;
-    out.extend_from_slice(b"\r\n")?;
-    out.extend_from_slice(body)?;
-    Text::of(alloc, out.as_slice())
+    let field = make_field(alloc, name, value)?;
+    let mut items = fields.into_vec();
+    items.push(field)?;
+    Ok(Fields::from_vec(items))
+}
+
+fn add_number(alloc: Global, fields: Fields, number: u64) -> Result<Fields, AllocError>
+    ensures { IfOk result (λ all. all ≡ fields ++ field_of (codes "X-Varnish") (decimal number) ∷ []) }
+{
+    let number = write_number(alloc, number)?;
+    add_field(alloc, fields, b"X-Varnish", number.bytes())
+}
+
+/// What the backend is sent for a page with these fields, under the fetch's number.
+#[tactic(auto, unfolding(crate::specs::Messages::backend_request))]
+pub(crate) fn write_backend_request(
+    alloc: Global,
+    url: &Text,
+    fields: Fields,
+    number: u64,
+) -> Result<Text, AllocError>
+    ensures { IfOk result (λ text. text ≡ backend_request url.now fields number) }
+{
+    let head = RequestHead {
+        method: Text::of(alloc, b"GET")?,
+        url: url.copy()?,
+        version: 11,
+        fields: add_number(alloc, fields, number)?,
+    };
+    print_request(alloc, &head)
 }
 
 /// An object's age at a moment, in whole seconds.
@@ -65,18 +78,6 @@ pub(crate) fn age_at(object: &Object, moment: u64) -> u64
     } else {
         (passed as u128 / 1000) as u64
     }
-}
-
-// `HTTP/1.1`, a status and a reason.
-fn write_status_line(alloc: Global, status: u16, reason: &[u8]) -> Result<Text, AllocError>
-    ensures { IfOk result (λ text. text ≡ codes "HTTP/1.1 " ++ decimal status ++ codes " " ++ reason.now) }
-{
-    let mut out = Vec::new(alloc);
-    out.extend_from_slice(b"HTTP/1.1 ")?;
-    push_number(&mut out, alloc, u64::from(status))?;
-    out.extend_from_slice(b" ")?;
-    out.extend_from_slice(reason)?;
-    Text::of(alloc, out.as_slice())
 }
 
 // The fields of a response with an object.
@@ -107,8 +108,15 @@ pub(crate) fn deliver(
 ) -> Result<Text, AllocError>
     ensures { IfOk result (λ text. text ≡ delivered object.now numbers.now age) }
 {
-    let start = write_status_line(alloc, object.status, object.reason.bytes())?;
-    let fields = delivery_fields(alloc, object, numbers, age)?;
-    let text = write_message(alloc, start.bytes(), fields.as_slice(), object.body.bytes())?;
-    Ok(text)
+    let head = ResponseHead {
+        version: 11,
+        status: object.status,
+        reason: object.reason.copy()?,
+        fields: delivery_fields(alloc, object, numbers, age)?,
+    };
+    let printed = print_response(alloc, &head)?;
+    let mut out = Vec::new(alloc);
+    out.extend_from_slice(printed.bytes())?;
+    out.extend_from_slice(object.body.bytes())?;
+    Text::of(alloc, out.as_slice())
 }

@@ -6,31 +6,49 @@ ghost use Rattle.replay.specs.declared.policy.Want.{Want as Wish};
 ghost use Rattle.replay.specs.Policy.{is_response};
 
 use cache_law::{Call, Reply};
+use http_heads::{RequestHead, ResponseHead};
 use std::alloc::{AllocError, Global};
 use units::{Copied, Text};
 
-/// A request for `url` at `host`, and the number of the client that sends it.
+/// What a client sent.
+#[derive(Drop)]
+pub enum Message {
+    /// A whole request with this head.
+    Whole(RequestHead),
+    /// Bytes that begin with no whole request.
+    Unreadable,
+}
+
+/// What a client sent, and the client's number.
 #[derive(Drop)]
 pub struct Request {
     pub client: u32,
-    pub url: Text,
-    pub host: Text,
+    pub message: Message,
+}
+
+impl Copied for Message {
+    fn copied(&self, alloc: Global) -> Result<Self, AllocError> {
+        match self {
+            Message::Whole(head) => Ok(Message::Whole(head.copied(alloc)?)),
+            Message::Unreadable => Ok(Message::Unreadable),
+        }
+    }
 }
 
 impl Copied for Request {
     fn copied(&self, alloc: Global) -> Result<Self, AllocError> {
         Ok(Request {
             client: self.client,
-            url: self.url.copy()?,
-            host: self.host.copy()?,
+            message: self.message.copied(alloc)?,
         })
     }
 }
 
-/// A backend's reply: when it came, and its body.
+/// A backend's reply, and when it came.
 #[derive(Drop)]
 pub struct Arrival {
     pub moment: u64,
+    pub head: ResponseHead,
     pub body: Text,
 }
 

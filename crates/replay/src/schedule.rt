@@ -14,6 +14,7 @@ ghost use Rattle.replay.specs.Went.{Went, Leads, IsStage, KeepsCore, IsInStep, B
 use crate::lines::{write_fetch_line, write_response_line};
 use crate::{Arrival, Event, Given, NumberedEvent, Policy, Request, Want};
 use cache_law::{CacheCore, Call, StepError};
+use http_heads::ResponseHead;
 use std::alloc::{AllocError, Global};
 use units::{Copied, Text};
 use wire::{Sink, write_all};
@@ -275,11 +276,12 @@ fn hear_reply<C: CacheCore, P: Policy, K: Sink>(
     play: &mut Play<C, P>,
     sink: &mut K,
     fetch: u64,
+    head: ResponseHead,
     body: Text,
 ) -> Result<(), Stop>
     requires { IsInStep play.old.moment (C.history play.old.core) }
     ensures plays { (scene : Scene) → IsStage P.stands play.old.moment play.old.waiting.items scene → scene.running ≡ None →
-        Plays P.wants P.stands (C.limits play.new.core) (C.opened play.new.core) (C.history play.old.core) (C.history play.new.core) (K.held sink.old) (K.held sink.new) play.new.moment play.new.waiting.items scene (Event.Reply fetch body) result }
+        Plays P.wants P.stands (C.limits play.new.core) (C.opened play.new.core) (C.history play.old.core) (C.history play.new.core) (K.held sink.old) (K.held sink.new) play.new.moment play.new.waiting.items scene (Event.Reply fetch head body) result }
     ensures kept { KeepsCore C.limits C.opened C.history play.old.core play.new.core }
     ensures in_step { IsInStep play.new.moment (C.history play.new.core) }
     ensures later { K.faults sink.old ≤ K.faults sink.new }
@@ -297,6 +299,7 @@ fn hear_reply<C: CacheCore, P: Policy, K: Sink>(
     let mut policy = policy;
     let arrival = Arrival {
         moment: play.moment,
+        head,
         body,
     };
     let want = match policy.resume(alloc, Given::Came(arrival)) {
@@ -330,7 +333,7 @@ fn play_event<C: CacheCore, P: Policy, K: Sink>(
             Ok(())
         }
         Event::Request(request) => hear_request(alloc, play, sink, request),
-        Event::Reply { fetch, body } => hear_reply(alloc, play, sink, fetch, body),
+        Event::Reply { fetch, head, body } => hear_reply(alloc, play, sink, fetch, head, body),
     }
 }
 

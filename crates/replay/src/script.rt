@@ -1,21 +1,38 @@
 // A session as it is read, made ready to be played.
 ghost use Rattle.std.specs.Prelude.{◌≡◌, ◌≤◌, ℕ, List, Some, MatchOption, MatchResult, IfOk};
-ghost use Rattle.replay.specs.Build.{IsBuilt, IsBuiltAs, IsBuildError, StandsFor};
+ghost use Rattle.replay.specs.Build.{IsBuilt, IsBuiltAs, IsBuildError, IsMessage, StandsFor};
 ghost use Rattle.replay.specs.declared.event.Event.{Event as Heard};
-ghost use Rattle.replay.specs.declared.event.Script.{Script as Played};
+ghost use Rattle.replay.specs.declared.policy.Message.{Message as Sent};
 
-use crate::forms::{split_reply, split_request};
-use crate::{Event, NumberedEvent, Request, Script};
+use crate::forms::{is_page_reply, is_page_request};
+use crate::whole::{read_whole_reply, read_whole_request};
+use crate::{Event, Message, NumberedEvent, Request, Script};
 use session_text::{Line, NumberedLine, Session};
 use std::alloc::{AllocError, Global};
 use units::{Sequence, Text};
 
-/// Why a session isn't played.
+/// Why a session isn't made ready.
 #[derive(Clone, Copy, Debug)]
-pub enum BuildError {
+pub(crate) enum BuildError {
     /// The line of this number is whole, and outside what is built so far.
     NotBuilt(u32),
     NoMemory,
+}
+
+/// What a client sent, if that is built.
+fn build_message(alloc: Global, text: &[u8]) -> Result<Option<Message>, AllocError>
+    ensures { IfOk result (λ built. MatchOption built ((message : Sent) → IsMessage text.now message → ⊥) (λ message. IsMessage text.now message)) }
+{
+    match read_whole_request(alloc, text)? {
+        Some(head) => {
+            if is_page_request(&head) {
+                Ok(Some(Message::Whole(head)))
+            } else {
+                Ok(None)
+            }
+        }
+        None => Ok(Some(Message::Unreadable)),
+    }
 }
 
 fn build_request(alloc: Global, client: u32, text: &[u8]) -> Result<Option<Event>, AllocError>
@@ -24,12 +41,8 @@ fn build_request(alloc: Global, client: u32, text: &[u8]) -> Result<Option<Event
     if client != 1 {
         return Ok(None);
     }
-    match split_request(text) {
-        Some((url, host)) => Ok(Some(Event::Request(Request {
-            client,
-            url: Text::of(alloc, url)?,
-            host: Text::of(alloc, host)?,
-        }))),
+    match build_message(alloc, text)? {
+        Some(message) => Ok(Some(Event::Request(Request { client, message }))),
         None => Ok(None),
     }
 }
@@ -37,11 +50,14 @@ fn build_request(alloc: Global, client: u32, text: &[u8]) -> Result<Option<Event
 fn build_reply(alloc: Global, fetch: u64, text: &[u8]) -> Result<Option<Event>, AllocError>
     ensures { IfOk result (λ built. MatchOption built ((event : Heard) → StandsFor (Line.Reply fetch text.now) event → ⊥) (λ event. StandsFor (Line.Reply fetch text.now) event)) }
 {
-    match split_reply(alloc, text)? {
-        Some(body) => Ok(Some(Event::Reply {
-            fetch,
-            body: Text::of(alloc, body)?,
-        })),
+    match read_whole_reply(alloc, text)? {
+        Some((head, body)) => {
+            if is_page_reply(&head) {
+                Ok(Some(Event::Reply { fetch, head, body }))
+            } else {
+                Ok(None)
+            }
+        }
         None => Ok(None),
     }
 }
@@ -61,7 +77,7 @@ fn build_line(alloc: Global, line: &Line) -> Result<Option<Event>, AllocError>
 }
 
 /// The session as events; or the first line that isn't built yet.
-pub fn build(alloc: Global, session: &Session) -> Result<Script, BuildError>
+pub(crate) fn build(alloc: Global, session: &Session) -> Result<Script, BuildError>
     ensures built { MatchResult result (λ script. IsBuilt session.now script) (λ error. IsBuildError session.now error) }
 {
     let mut events = Vec::new(alloc);

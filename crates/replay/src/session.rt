@@ -2,13 +2,15 @@
 ghost use Rattle.std.specs.Prelude.{◌≡◌, ◌≤◌, Some};
 ghost use Rattle.wire.specs.Causes.{Rose};
 ghost use Rattle.replay.specs.FixedPolicy.{Wants};
-ghost use Rattle.replay.specs.Replayed.{IsReplayed, error_for, refusal_of};
+ghost use Rattle.replay.specs.Replayed.{IsReplayed, SessionEnds, error_for, refusal_of};
 
 use crate::event::Script;
 use crate::schedule::{Break, Halt, Play, play_events};
-use crate::{Policy, Visit};
+use crate::script::{BuildError, build};
+use crate::{Policy, Turn};
 use cache_law::{Boot, CacheCore, Entry, Params};
 use flat_core::FlatCore;
+use session_text::Session;
 use std::alloc::Global;
 use units::Sequence;
 use wire::Sink;
@@ -16,6 +18,8 @@ use wire::Sink;
 /// Why a session wasn't played to its end.
 #[derive(Clone, Copy, Debug)]
 pub enum ReplayError {
+    /// The line is whole, and outside what is built so far.
+    NotBuilt(u32),
     /// At this line a client sends a request while it is under way, or a fetch gets a reply that has no
     /// exchange under way.
     Idle(u32),
@@ -101,17 +105,28 @@ pub fn play_session<C: CacheCore + Drop, P: Policy, K: Sink>(
     }
 }
 
-/// Plays a session over the plain cache, its rounds led by the policy of plain GET requests.
+/// Plays a session over the plain cache, its rounds led by the fixed policy. A session with a line that isn't
+/// built yet is refused before anything is played.
 pub fn run_session<K: Sink>(
     alloc: Global,
-    script: &Script,
+    session: &Session,
     params: &Params,
     boot: Boot,
     sink: &mut K,
 ) -> Replayed
-    ensures replayed { IsReplayed Wants script.now params.now boot (K.held sink.old) (K.held sink.new) result }
+    ensures replayed { SessionEnds Wants session.now params.now boot result.history (K.held sink.old) (K.held sink.new) result.refusal }
     ensures later { K.faults sink.old ≤ K.faults sink.new }
     ensures cause { result.refusal ≡ Some ReplayError.WriteFault → Rose (K.faults sink.old) (K.faults sink.new) }
 {
-    play_session::<FlatCore, Visit, K>(alloc, script, params, boot, sink)
+    let refusal = match build(alloc, session) {
+        Ok(script) => {
+            return play_session::<FlatCore, Turn, K>(alloc, &script, params, boot, sink);
+        }
+        Err(BuildError::NotBuilt(line)) => ReplayError::NotBuilt(line),
+        Err(BuildError::NoMemory) => ReplayError::NoMemory,
+    };
+    Replayed {
+        history: Sequence::new(alloc),
+        refusal: Some(refusal),
+    }
 }

@@ -6,27 +6,30 @@ use Rattle.std.proofs.Common.{◌≡◌, ◌∙◌, ◌∷◌, ◌<◌, ◌≤�
 use Rattle.cache_law.specs.declared.setting.Params.{Params}
 use Rattle.cache_law.specs.declared.setting.Boot.{Boot}
 use Rattle.cache_law.specs.declared.call.Entry.{Entry}
-use Rattle.replay.specs.declared.event.Script.{Script}
+use Rattle.session_text.specs.declared.session.Session.{Session}
+use Rattle.session_text.specs.Sessions.{IsSession}
 use Rattle.replay.specs.declared.session.ReplayError.{ReplayError}
 use Rattle.replay.specs.declared.session.ReplayError.TheVariants as refusals
 use Rattle.replay.specs.FixedPolicy.{Wants}
-use Rattle.replay.specs.Replayed.{EndsSo}
+use Rattle.replay.specs.Replayed.{SessionEnds}
 use Rattle.varn.specs.declared.outcome.Outcome.{Outcome}
-use Rattle.varn.specs.Run.{IsPlayed, EndsReplay, opening_boot, outcome_of}
+use Rattle.varn.specs.Run.{IsText, PlayedTo, EndsReplay, opening_boot, outcome_of}
 
-outcome_ends : (params : Params) (left0 left1 held0 held1 : Option (List ℕ)) (script : Script) (history : List Entry) (refusal : Option ReplayError) → IsPlayed left0 left1 script → EndsSo Wants params opening_boot script history held0 held1 refusal → EndsReplay params left0 left1 held0 held1 (outcome_of history refusal)
-outcome_ends params left0 left1 held0 held1 script history None played ends = (refl, (script, played, ends))
-outcome_ends params left0 left1 held0 held1 script history (Some (refusals.Idle line)) played ends = inr (inl (line, refl, (script, played, ends)))
-outcome_ends params left0 left1 held0 held1 script history (Some (refusals.Unanswered line)) played ends = inr (inr (line, refl, (script, played, ends)))
-outcome_ends params left0 left1 held0 held1 script history (Some refusals.WriteFault) played ends = (refl, (script, played, ends))
-outcome_ends params left0 left1 held0 held1 script history (Some refusals.HistoryFull) played ends = (refl, (script, played, ends))
-outcome_ends params left0 left1 held0 held1 script history (Some refusals.NoMemory) played ends = (refl, inr (script, played, ends))
+outcome_ends : (params : Params) (left0 left1 held0 held1 : Option (List ℕ)) (history : List Entry) (refusal : Option ReplayError) → PlayedTo params left0 left1 held0 held1 history refusal → EndsReplay params left0 left1 held0 held1 (outcome_of history refusal)
+outcome_ends params left0 left1 held0 held1 history None played = (refl, played)
+outcome_ends params left0 left1 held0 held1 history (Some (refusals.NotBuilt line)) played = inr (inl (line, refl, played))
+outcome_ends params left0 left1 held0 held1 history (Some (refusals.Idle line)) played = inr (inr (inl (line, refl, played)))
+outcome_ends params left0 left1 held0 held1 history (Some (refusals.Unanswered line)) played = inr (inr (inr (line, refl, played)))
+outcome_ends params left0 left1 held0 held1 history (Some refusals.WriteFault) played = (refl, played)
+outcome_ends params left0 left1 held0 held1 history (Some refusals.HistoryFull) played = (refl, played)
+outcome_ends params left0 left1 held0 held1 history (Some refusals.NoMemory) played = (refl, inr played)
 
 -- the same, as the calls tell it
-pub replay_ends : (params : Params) (left0 left1 held0 held1 : Option (List ℕ)) (script : Script) (boot : Boot) (history : List Entry) (refusal : Option ReplayError) (outcome : Outcome) → boot ≡ opening_boot → outcome ≡ outcome_of history refusal → IsPlayed left0 left1 script → EndsSo Wants params boot script history held0 held1 refusal → EndsReplay params left0 left1 held0 held1 outcome
-replay_ends params left0 left1 held0 held1 script boot history refusal outcome opened told played ends =
+pub replay_ends : (params : Params) (left0 left1 held0 held1 : Option (List ℕ)) (text : List ℕ) (session : Session) (boot : Boot) (history : List Entry) (refusal : Option ReplayError) (outcome : Outcome) → boot ≡ opening_boot → outcome ≡ outcome_of history refusal → IsText left0 left1 text → IsSession text session → SessionEnds Wants session params boot history held0 held1 refusal → EndsReplay params left0 left1 held0 held1 outcome
+replay_ends params left0 left1 held0 held1 text session boot history refusal outcome opened told is_text is_session ends =
     subst (λ (o : Outcome). EndsReplay params left0 left1 held0 held1 o) (sym told)
-    (outcome_ends params left0 left1 held0 held1 script history refusal played (subst (λ (b : Boot). EndsSo Wants params b script history held0 held1 refusal) opened ends))
+    (outcome_ends params left0 left1 held0 held1 history refusal
+    (text, session, is_text, is_session, subst (λ (b : Boot). SessionEnds Wants session params b history held0 held1 refusal) opened ends))
 
 pointwise_same : (xs : List ℕ) → pointwise nat_eq xs xs ≡ true
 pointwise_same [] = refl

@@ -8,13 +8,10 @@ use Rattle.session_text.specs.Sessions.{IsSession, IsFault}
 use Rattle.cache_law.specs.declared.setting.Params.{Params}
 use Rattle.cache_law.specs.declared.setting.Boot.{Boot}
 use Rattle.cache_law.specs.declared.call.Entry.{Entry}
-use Rattle.replay.specs.declared.event.Script.{Script}
-use Rattle.replay.specs.declared.script.BuildError.TheVariants.{NotBuilt}
 use Rattle.replay.specs.declared.session.ReplayError.{ReplayError}
 use Rattle.replay.specs.declared.session.ReplayError.TheVariants as refusals
-use Rattle.replay.specs.Build.{IsBuilt, IsBuildError}
 use Rattle.replay.specs.FixedPolicy.{Wants}
-use Rattle.replay.specs.Replayed.{EndsSo}
+use Rattle.replay.specs.Replayed.{SessionEnds}
 use Rattle.varn.specs.declared.outcome.Status.{Status}
 use Rattle.varn.specs.declared.outcome.Status.TheVariants.{Done, Words, Session, ReadFault, WriteFault, NoMemory, HistoryFull}
 use Rattle.varn.specs.declared.outcome.Note.{Note}
@@ -40,40 +37,37 @@ note_of line kind = Some (record { line = line; kind = kind })
 abbrev pub IsText : Option (List ℕ) → Option (List ℕ) → List ℕ → Type 0
 IsText before after text = ReadsUpTo 67108864 before after text
 
--- the source's text is a session that is built
-pub record IsPlayed (before after : Option (List ℕ)) (script : Script) : Type 0 where
-  pub text : List ℕ
-  pub session : TheSession
-  pub text_is : IsText before after text
-  pub session_is : IsSession text session
-  pub script_is : IsBuilt session script
-
 -- nothing was played, and nothing written
 pub record Nothing (held0 held1 : Option (List ℕ)) (history : List Entry) : Type 0 where
   pub history_is : history ≡ []
   pub held_is : held1 ≡ held0
 
--- the session was played, and this ended it
+-- the source's text is a session, and playing it ended so
 abbrev pub PlayedTo : Params → Option (List ℕ) → Option (List ℕ) → Option (List ℕ) → Option (List ℕ) → List Entry → Option ReplayError → Type 0
 PlayedTo params left0 left1 held0 held1 history refusal =
-    (script : Script) × IsPlayed left0 left1 script × EndsSo Wants params opening_boot script history held0 held1 refusal
+    (text : List ℕ) × (session : TheSession) × IsText left0 left1 text × IsSession text session
+    × SessionEnds Wants session params opening_boot history held0 held1 refusal
 
--- the source's text is no session; or a line of it isn't built
+-- the source's text is no session
 abbrev pub IsRefused : Option (List ℕ) → Option (List ℕ) → Option Note → Type 0
 IsRefused left0 left1 note =
-    ((text : List ℕ) × (line : ℕ) × (kind : FaultKind) × IsText left0 left1 text × IsFault text line kind × (note ≡ note_of line (kind_number kind)))
-    ⊎ ((text : List ℕ) × (session : TheSession) × (line : ℕ) × IsText left0 left1 text × IsSession text session × IsBuildError session (NotBuilt line) × (note ≡ note_of line 2))
+    (text : List ℕ) × (line : ℕ) × (kind : FaultKind) × IsText left0 left1 text × IsFault text line kind × (note ≡ note_of line (kind_number kind))
+
+-- a line of the session isn't built, is idle, or is its end with somebody unanswered
+abbrev pub IsStopped : Params → Option (List ℕ) → Option (List ℕ) → Option (List ℕ) → Option (List ℕ) → List Entry → Option Note → Type 0
+IsStopped params left0 left1 held0 held1 history note =
+    ((line : ℕ) × (note ≡ note_of line 2) × PlayedTo params left0 left1 held0 held1 history (Some (refusals.NotBuilt line)))
+    ⊎ (((line : ℕ) × (note ≡ note_of line 7) × PlayedTo params left0 left1 held0 held1 history (Some (refusals.Idle line)))
+    ⊎ ((line : ℕ) × (note ≡ note_of line 8) × PlayedTo params left0 left1 held0 held1 history (Some (refusals.Unanswered line))))
 
 -- how a replay ends, by its status
 abbrev pub EndsAs : Params → Option (List ℕ) → Option (List ℕ) → Option (List ℕ) → Option (List ℕ) → List Entry → Option Note → Status → Type 0
 -- the whole transcript over the history
 EndsAs params left0 left1 held0 held1 history told Done = (told ≡ None) × PlayedTo params left0 left1 held0 held1 history None
 EndsAs params left0 left1 held0 held1 history told Words = ⊥
--- refused before anything was written, or idle or unanswered at the noted line
+-- refused before anything was written, or stopped at the noted line
 EndsAs params left0 left1 held0 held1 history told Session =
-    (Nothing held0 held1 history × IsRefused left0 left1 told)
-    ⊎ (((line : ℕ) × (told ≡ note_of line 7) × PlayedTo params left0 left1 held0 held1 history (Some (refusals.Idle line)))
-    ⊎ ((line : ℕ) × (told ≡ note_of line 8) × PlayedTo params left0 left1 held0 held1 history (Some (refusals.Unanswered line))))
+    (Nothing held0 held1 history × IsRefused left0 left1 told) ⊎ IsStopped params left0 left1 held0 held1 history told
 EndsAs params left0 left1 held0 held1 history told ReadFault = (told ≡ None) × Nothing held0 held1 history
 EndsAs params left0 left1 held0 held1 history told WriteFault = (told ≡ None) × PlayedTo params left0 left1 held0 held1 history (Some refusals.WriteFault)
 EndsAs params left0 left1 held0 held1 history told HistoryFull = (told ≡ None) × PlayedTo params left0 left1 held0 held1 history (Some refusals.HistoryFull)
@@ -92,6 +86,7 @@ Ends words left0 left1 held0 held1 outcome =
 -- the outcome of a session that was played
 abbrev pub outcome_of : List Entry → Option ReplayError → Outcome
 outcome_of history None = record { status = Done; note = None; history = history }
+outcome_of history (Some (refusals.NotBuilt line)) = record { status = Session; note = note_of line 2; history = history }
 outcome_of history (Some (refusals.Idle line)) = record { status = Session; note = note_of line 7; history = history }
 outcome_of history (Some (refusals.Unanswered line)) = record { status = Session; note = note_of line 8; history = history }
 outcome_of history (Some refusals.WriteFault) = record { status = WriteFault; note = None; history = history }

@@ -5,7 +5,7 @@ ghost use Rattle.wire.specs.Causes.{Rose};
 
 use crate::outcome::{Note, Outcome, Status};
 use cache_law::{Boot, Params};
-use replay::{BuildError, ReplayError, Replayed, build, run_session};
+use replay::{ReplayError, Replayed, run_session};
 use session_text::{SESSION_LIMIT, SessionError};
 use std::alloc::{AllocError, Global};
 use units::{Sequence, Text};
@@ -53,6 +53,7 @@ fn ended(replayed: Replayed) -> Outcome
 {
     let (status, note) = match replayed.refusal {
         None => (Status::Done, None),
+        Some(ReplayError::NotBuilt(line)) => (Status::Session, Some(Note { line, kind: 2 })),
         Some(ReplayError::Idle(line)) => (Status::Session, Some(Note { line, kind: 7 })),
         Some(ReplayError::Unanswered(line)) => (Status::Session, Some(Note { line, kind: 8 })),
         Some(ReplayError::WriteFault) => (Status::WriteFault, None),
@@ -90,18 +91,11 @@ pub fn replay<S: Source, K: Sink>(
         }
         Err(SessionError::NoMemory) => return stopped(alloc, Status::NoMemory, None),
     };
-    let script = match build(alloc, &session) {
-        Ok(script) => script,
-        Err(BuildError::NotBuilt(line)) => {
-            return stopped(alloc, Status::Session, Some(Note { line, kind: 2 }));
-        }
-        Err(BuildError::NoMemory) => return stopped(alloc, Status::NoMemory, None),
-    };
     let boot = match make_boot(alloc) {
         Ok(boot) => boot,
         Err(_) => return stopped(alloc, Status::NoMemory, None),
     };
-    ended(run_session(alloc, &script, params, boot, sink))
+    ended(run_session(alloc, &session, params, boot, sink))
 }
 
 /// Does what the words say: `replay` alone plays the session of the source, within the usual limits.

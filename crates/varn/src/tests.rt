@@ -1,8 +1,12 @@
 // Whole runs of the program over a source and a sink in memory.
+mod messages;
+
 use crate::outcome::{Note, Outcome, Status};
 use crate::run::{replay, run};
 use cache_law::{Call, Params, Reply};
+use messages::MESSAGES;
 use std::alloc::Global;
+use std::process::Abort;
 use std::test::Fail;
 use units::Text;
 use wire::{FailingSink, FailingSource};
@@ -123,9 +127,6 @@ end
 |@3 1 2
 req 1 "GET a HTTP/1.1\r\nHost: h\r\n\r\n"
 end
-|@3 1 2
-req 1 "GET /a b HTTP/1.1\r\nHost: h\r\n\r\n"
-end
 |@3 1 5
 |@3 2 5
 at 0
@@ -189,12 +190,6 @@ end
 req 250 "GET /a HTTP/1.1\r\nHost: h\r\n\r\n"
 end
 |@3 1 2
-req 1 "a"
-end
-|@3 1 2
-req 1 "\x00"
-end
-|@3 1 2
 fail 2
 end
 |@3 1 2
@@ -234,10 +229,6 @@ end
 |@3 2 2
 req 1 "GET /a HTTP/1.1\r\nHost: h\r\n\r\n"
 reply 2 "HTTP/1.1 200 OK\r\nCache-Control: max-age=120, stale-while-revalidate=0\r\nContent-Length: 3\r\n\r\nhi"
-end
-|@3 2 2
-req 1 "GET /a HTTP/1.1\r\nHost: h\r\n\r\n"
-reply 2 "HTTP/1.1 200 OK\r\nCache-Control: max-age=120, stale-while-revalidate=0\r\nContent-Length: 1\r\n\r\nhi"
 end
 |@3 3 5
 req 1 "GET /a HTTP/1.1\r\nHost: h\r\n\r\n"
@@ -312,10 +303,9 @@ fn empty_sink(alloc: Global) -> FailingSink {
     FailingSink::new(alloc, Vec::new(alloc), 1_000_000)
 }
 
-#[test]
-fn sessions(rt: HostRuntime) -> Result<(), Fail> {
-    let alloc = rt.alloc();
-    for case in SESSIONS.split('@').skip(1) {
+// Plays each case of a table.
+fn play_table(rt: &impl Abort, alloc: Global, cases: &str) -> Result<(), Fail> {
+    for case in cases.split('@').skip(1) {
         let (head, rest) = case.split_once('\n').ok_or("no head")?;
         let (session, transcript) = rest.split_once('|').ok_or("no transcript")?;
         let mut sink = empty_sink(alloc);
@@ -324,6 +314,59 @@ fn sessions(rt: HostRuntime) -> Result<(), Fail> {
         let told = format!(in alloc; "{} {line} {kind}", outcome.status.code())?;
         assert_eq!(rt; told.as_str(), head, "{session}");
         assert_eq!(rt; sink.bytes(), transcript.as_bytes(), "{session}");
+    }
+    Ok(())
+}
+
+#[test]
+fn sessions(rt: HostRuntime) -> Result<(), Fail> {
+    play_table(&rt, rt.alloc(), SESSIONS)
+}
+
+#[test]
+fn whole_messages(rt: HostRuntime) -> Result<(), Fail> {
+    play_table(&rt, rt.alloc(), MESSAGES)
+}
+
+// A session of a request and a reply, with a body of so many bytes in one of them.
+fn session_with_bodies(alloc: Global, request: usize, reply: usize) -> Result<Vec<u8>, Fail> {
+    let mut session = Vec::new(alloc);
+    session.extend_from_slice(br#"req 1 "GET /a HTTP/1.1\r\nHost: h\r\n"#)?;
+    if request > 0 {
+        let length = format!(in alloc; r#"Content-Length: {request}\r\n"#)?;
+        session.extend_from_slice(length.as_bytes())?;
+    }
+    session.extend_from_slice(br#"\r\n"#)?;
+    session.resize(session.len() + request, b'x')?;
+    session.extend_from_slice(b"\"\nreply 2 \"")?;
+    session.extend_from_slice(
+        br#"HTTP/1.1 200 OK\r\nCache-Control: max-age=120, stale-while-revalidate=0\r\n\r\n"#,
+    )?;
+    session.resize(session.len() + reply, b'x')?;
+    session.extend_from_slice(b"\"\nend\n")?;
+    Ok(session)
+}
+
+// A request's body is whole up to its limit, and outside the forms; one byte more is refused, and so answered. A
+// reply's body is whole up to its limit, and one byte more is not.
+#[test]
+fn bodies_at_their_limits(rt: HostRuntime) -> Result<(), Fail> {
+    let alloc = rt.alloc();
+    let cases: [(usize, usize, Status, usize, usize); 4] = [
+        (1_048_576, 0, Status::Session, 1, 0),
+        (1_048_577, 0, Status::Session, 2, 84),
+        (0, 8_388_608, Status::Done, 0, 8_388_848),
+        (0, 8_388_609, Status::Session, 2, 0),
+    ];
+    for (request, reply, status, line, written) in cases {
+        let session = session_with_bodies(alloc, request, reply)?;
+        let mut source = FailingSource::new(session, Vec::new(alloc));
+        let mut sink = empty_sink(alloc);
+        let outcome = replay(alloc, &USUAL, &mut source, &mut sink);
+        assert_eq!(rt; outcome.status, status, "{request} {reply}");
+        let told = outcome.note.map_or(0, |note| note.line as usize);
+        assert_eq!(rt; told, line, "{request} {reply}");
+        assert_eq!(rt; sink.bytes().len(), written, "{request} {reply}");
     }
     Ok(())
 }

@@ -5,12 +5,7 @@ use Rattle.varn.proofs.run.replay.Goals as goal
 
 pub returns-clause-ends : goal.returns-clause-ends
 returns-clause-ends g c =
-    replay_ends c.args.params.now _ _ _ _ c.in-Ok-build.script c.in-Ok-make_boot.boot c.run_session.result.history c.run_session.result.refusal c.ended.result c.in-Ok-make_boot.ensures c.ended.ensures
-    (record {
-      text = c.in-Ok.text.items;
-      session = c.in-Ok-read.session;
-      text_is = c.in-Ok.ensures.bytes;
-      session_is = subst (λ (bytes : List ℕ). IsSession bytes c.in-Ok-read.session) c.as_slice.ensures.value c.in-Ok-read.ensures.session;
-      script_is = c.in-Ok-build.ensures.built;
-    })
+    replay_ends c.args.params.now _ _ _ _ c.in-Ok.text.items c.in-Ok-read.session c.in-Ok-make_boot.boot c.run_session.result.history c.run_session.result.refusal c.ended.result c.in-Ok-make_boot.ensures c.ended.ensures
+    c.in-Ok.ensures.bytes
+    (subst (λ (bytes : List ℕ). IsSession bytes c.in-Ok-read.session) c.as_slice.ensures.value c.in-Ok-read.ensures.session)
     c.run_session.ensures.replayed

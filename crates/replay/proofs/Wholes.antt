@@ -1,0 +1,76 @@
+-- The one message at the front of a text.
+use Rattle.std.proofs.Common.{◌≡◌, ◌≢◌, inl, inr, ℕ, ◌-◌, List, length, take, drop, Option, Some, None, Ok, Err, MatchOption, sym, ◌∙◌, ap, subst, arith}
+use Rattle.std.proofs.lemmas.List.{take_all, length-drop}
+use Rattle.http_heads.specs.declared.message.RequestHead.{RequestHead}
+use Rattle.http_heads.specs.declared.message.ResponseHead.{ResponseHead}
+use Rattle.http_heads.specs.declared.message.HeadError.{HeadError}
+use Rattle.http_heads.specs.declared.message.HeadError.TheVariants.{NoMemory}
+use Rattle.http_heads.specs.Heads.{HasRequest, HasResponse, LacksRequest, LacksResponse, AnswersRequest, AnswersResponse, GivesUnlessNoMemory}
+use Rattle.http_bodies.specs.declared.framing.Kind.TheVariants as kinds
+use Rattle.replay.specs.Whole.{HasFramedBody, LacksWholeRequest, LacksWholeReply, IsTheRequest, IsTheResponse, IsTheWholeRequest, IsTheWholeReply}
+
+not_none : (A : Type 0) (value : A) → GivesUnlessNoMemory {T = Option A} (Ok None) (Some value) → ⊥
+not_none A value (inl e) = cc
+not_none A value (inr e) = cc
+
+not_error : (A : Type 0) (value : A) (error : HeadError) → error ≢ NoMemory → GivesUnlessNoMemory {T = Option A} (Err error) (Some value) → ⊥
+not_error A value error other (inl e) = cc
+not_error A value error other (inr e) = other cc
+
+the_same : (A : Type 0) (a b : A) → GivesUnlessNoMemory {T = Option A} (Ok (Some a)) (Some b) → b ≡ a
+the_same A a b (inl e) = cc
+the_same A a b (inr e) = cc
+
+pub the_request : (text : List ℕ) (found : Option (RequestHead × ℕ)) → AnswersRequest text (Ok found) → ((head : RequestHead) (count : ℕ) → HasRequest text head count → GivesUnlessNoMemory (Ok found) (Some (head, count))) → MatchOption found (LacksRequest text) (λ x. IsTheRequest text x.0 x.1)
+the_request text None answer gives = λ head count has. not_none (RequestHead × ℕ) (head, count) (gives head count has)
+the_request text (Some x) answer gives =
+    (answer.0, λ head count has. let same = the_same (RequestHead × ℕ) x (head, count) (gives head count has) in (ap (λ (y : RequestHead × ℕ). y.0) same, ap (λ (y : RequestHead × ℕ). y.1) same))
+
+pub no_request : (text : List ℕ) (error : HeadError) → error ≢ NoMemory → ((head : RequestHead) (count : ℕ) → HasRequest text head count → GivesUnlessNoMemory {T = Option (RequestHead × ℕ)} (Err error) (Some (head, count))) → LacksRequest text
+no_request text error other gives = λ head count has. not_error (RequestHead × ℕ) (head, count) error other (gives head count has)
+
+pub the_response : (text : List ℕ) (found : Option (ResponseHead × ℕ)) → AnswersResponse text (Ok found) → ((head : ResponseHead) (count : ℕ) → HasResponse text head count → GivesUnlessNoMemory (Ok found) (Some (head, count))) → MatchOption found (LacksResponse text) (λ x. IsTheResponse text x.0 x.1)
+the_response text None answer gives = λ head count has. not_none (ResponseHead × ℕ) (head, count) (gives head count has)
+the_response text (Some x) answer gives =
+    (answer.0, λ head count has. let same = the_same (ResponseHead × ℕ) x (head, count) (gives head count has) in (ap (λ (y : ResponseHead × ℕ). y.0) same, ap (λ (y : ResponseHead × ℕ). y.1) same))
+
+pub no_response : (text : List ℕ) (error : HeadError) → error ≢ NoMemory → ((head : ResponseHead) (count : ℕ) → HasResponse text head count → GivesUnlessNoMemory {T = Option (ResponseHead × ℕ)} (Err error) (Some (head, count))) → LacksResponse text
+no_response text error other gives = λ head count has. not_error (ResponseHead × ℕ) (head, count) error other (gives head count has)
+
+-- without a head there is no message
+pub headless_request : (text : List ℕ) → LacksRequest text → LacksWholeRequest text
+headless_request text lacks head whole = lacks head whole.count whole.head_is
+
+pub headless_reply : (text : List ℕ) → LacksResponse text → LacksWholeReply text
+headless_reply text lacks head body whole = lacks head whole.count whole.head_is
+
+-- a head with a body is the message, and without one there is none
+pub whole_request : (text rest body : List ℕ) (head : RequestHead) (count : ℕ) → IsTheRequest text head count → rest ≡ drop count text → HasFramedBody kinds.Request 1048576 head.fields rest body → IsTheWholeRequest text head
+whole_request text rest body head count the behind framed = (
+  record { count = count; body = body; head_is = the.0; body_is = subst (λ (t : List ℕ). HasFramedBody kinds.Request 1048576 head.fields t body) behind framed },
+  λ other whole. (the.1 other whole.count whole.head_is).0,
+)
+
+pub bodiless_request : (text rest : List ℕ) (head : RequestHead) (count : ℕ) → IsTheRequest text head count → rest ≡ drop count text → ((body : List ℕ) → HasFramedBody kinds.Request 1048576 head.fields rest body → ⊥) → LacksWholeRequest text
+bodiless_request text rest head count the behind none other whole =
+    let same = the.1 other whole.count whole.head_is in
+    none whole.body
+    (subst (λ (t : List ℕ). HasFramedBody kinds.Request 1048576 head.fields t whole.body) (ap (λ (k : ℕ). drop k text) same.1 ∙ sym behind)
+    (subst (λ (h : RequestHead). HasFramedBody kinds.Request 1048576 h.fields (drop whole.count text) whole.body) same.0 whole.body_is))
+
+pub whole_reply : (text rest body : List ℕ) (head : ResponseHead) (count : ℕ) → IsTheResponse text head count → rest ≡ drop count text → HasFramedBody kinds.Reply 8388608 head.fields rest body → IsTheWholeReply text head body
+whole_reply text rest body head count the behind framed = (
+  record { count = count; head_is = the.0; body_is = subst (λ (t : List ℕ). HasFramedBody kinds.Reply 8388608 head.fields t body) behind framed },
+  λ other more whole. (the.1 other whole.count whole.head_is).0,
+)
+
+pub bodiless_reply : (text rest : List ℕ) (head : ResponseHead) (count : ℕ) → IsTheResponse text head count → rest ≡ drop count text → ((body : List ℕ) → HasFramedBody kinds.Reply 8388608 head.fields rest body → ⊥) → LacksWholeReply text
+bodiless_reply text rest head count the behind none other more whole =
+    let same = the.1 other whole.count whole.head_is in
+    none more
+    (subst (λ (t : List ℕ). HasFramedBody kinds.Reply 8388608 head.fields t more) (ap (λ (k : ℕ). drop k text) same.1 ∙ sym behind)
+    (subst (λ (h : ResponseHead). HasFramedBody kinds.Reply 8388608 h.fields (drop whole.count text) more) same.0 whole.body_is))
+
+-- the rest of a text behind a place
+pub rest_behind : (text : List ℕ) (count : ℕ) → take (length text - count) (drop count text) ≡ drop count text
+rest_behind text count = let len = length-drop count text in take_all (length text - count) (drop count text) (omega (arith, len))

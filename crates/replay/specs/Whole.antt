@@ -1,0 +1,70 @@
+-- The message at the front of a text: a head, and behind it the body that its fields frame (RFC 9112, sections 2 and 6).
+use Rattle.std.specs.Prelude.{◌≡◌, ℕ, ◌≤◌, List, ◌++◌, length, drop}
+use Rattle.http_heads.specs.declared.fields.Field.{Field}
+use Rattle.http_heads.specs.declared.message.RequestHead.{RequestHead}
+use Rattle.http_heads.specs.declared.message.ResponseHead.{ResponseHead}
+use Rattle.http_heads.specs.Heads.{HasRequest, HasResponse}
+use Rattle.http_bodies.specs.declared.framing.Kind.{Kind}
+use Rattle.http_bodies.specs.declared.framing.Kind.TheVariants as kinds
+use Rattle.http_bodies.specs.declared.framing.Framing.{Framing}
+use Rattle.http_bodies.specs.declared.framing.Framing.TheVariants.{Nothing, Length, Chunked, UntilEnd}
+use Rattle.http_bodies.specs.Framings.{Frames}
+use Rattle.http_bodies.specs.Bodies.{IsBody}
+
+-- a body with this framing stands at the front of the text
+pub record BeginsWith (framing : Framing) (text body : List ℕ) : Type 0 where
+  pub front : List ℕ
+  pub rest : List ℕ
+  pub split : text ≡ front ++ rest
+  pub reads : IsBody framing front body
+
+-- the text's body: one that goes on to the end of the connection is all of the text
+abbrev pub HasBody : Framing → List ℕ → List ℕ → Type 0
+HasBody Nothing text body = BeginsWith Nothing text body
+HasBody (Length n) text body = BeginsWith (Length n) text body
+HasBody Chunked text body = BeginsWith Chunked text body
+HasBody UntilEnd text body = IsBody UntilEnd text body
+
+-- the text has the body that the fields frame, within this limit
+pub record HasFramedBody (kind : Kind) (limit : ℕ) (fields : List Field) (text body : List ℕ) : Type 0 where
+  pub framing : Framing
+  pub frames : Frames kind fields framing
+  pub reads : HasBody framing text body
+  pub short : length body ≤ limit
+
+-- the text begins with a whole request with this head, its body of at most 1,048,576 bytes
+pub record HasWholeRequest (text : List ℕ) (head : RequestHead) : Type 0 where
+  pub count : ℕ
+  pub body : List ℕ
+  pub head_is : HasRequest text head count
+  pub body_is : HasFramedBody kinds.Request 1048576 head.fields (drop count text) body
+
+-- the text begins with a whole reply with this head and body, of at most 8,388,608 bytes
+pub record HasWholeReply (text : List ℕ) (head : ResponseHead) (body : List ℕ) : Type 0 where
+  pub count : ℕ
+  pub head_is : HasResponse text head count
+  pub body_is : HasFramedBody kinds.Reply 8388608 head.fields (drop count text) body
+
+-- no whole message stands there
+abbrev pub LacksWholeRequest : List ℕ → Type 0
+LacksWholeRequest text = (head : RequestHead) → ¬ (HasWholeRequest text head)
+
+abbrev pub LacksWholeReply : List ℕ → Type 0
+LacksWholeReply text = (head : ResponseHead) (body : List ℕ) → ¬ (HasWholeReply text head body)
+
+-- this head stands there, and no other
+abbrev pub IsTheRequest : List ℕ → RequestHead → ℕ → Type 0
+IsTheRequest text head count =
+    HasRequest text head count × ((other : RequestHead) (length_ : ℕ) → HasRequest text other length_ → (other ≡ head) × (length_ ≡ count))
+
+abbrev pub IsTheResponse : List ℕ → ResponseHead → ℕ → Type 0
+IsTheResponse text head count =
+    HasResponse text head count × ((other : ResponseHead) (length_ : ℕ) → HasResponse text other length_ → (other ≡ head) × (length_ ≡ count))
+
+-- this whole message stands there, and none with another head
+abbrev pub IsTheWholeRequest : List ℕ → RequestHead → Type 0
+IsTheWholeRequest text head = HasWholeRequest text head × ((other : RequestHead) → HasWholeRequest text other → other ≡ head)
+
+abbrev pub IsTheWholeReply : List ℕ → ResponseHead → List ℕ → Type 0
+IsTheWholeReply text head body =
+    HasWholeReply text head body × ((other : ResponseHead) (more : List ℕ) → HasWholeReply text other more → other ≡ head)

@@ -1,0 +1,149 @@
+// The message at the front of a text.
+ghost use Rattle.std.specs.Prelude.{◌≡◌, ◌≢◌, ◌≤◌, ℕ, List, length, None, IfOk, MatchOption};
+ghost use Rattle.http_bodies.specs.declared.framing.BodyError.TheVariants as Fault;
+ghost use Rattle.http_heads.specs.Heads.{LacksRequest, LacksResponse};
+ghost use Rattle.replay.specs.Whole.{HasBody, HasFramedBody, IsTheRequest, IsTheResponse, LacksWholeRequest, LacksWholeReply, IsTheWholeRequest, IsTheWholeReply};
+
+use http_bodies::{BodyError, BodyReader, Framing, Kind, frame, one_end};
+use http_heads::{Fields, HeadError, RequestHead, ResponseHead, read_request, read_response};
+use std::alloc::{AllocError, Global};
+use units::Text;
+
+/// The greatest body of a request.
+const REQUEST_BODY_LIMIT: u64 = 1_048_576;
+
+/// The greatest body of a reply.
+const REPLY_BODY_LIMIT: u64 = 8_388_608;
+
+// No body, unless memory is wanting.
+fn none_or_no_memory(error: BodyError) -> Result<Option<Text>, AllocError>
+    ensures { IfOk result (λ found. (found ≡ None) × (error ≢ Fault.NoMemory)) }
+{
+    if error == BodyError::NoMemory {
+        Err(AllocError)
+    } else {
+        Ok(None)
+    }
+}
+
+// The body with this framing at the front of the text, within the limit.
+fn read_body(
+    alloc: Global,
+    framing: Framing,
+    limit: u64,
+    text: &[u8],
+) -> Result<Option<Text>, AllocError>
+    ensures { IfOk result (λ found. MatchOption found
+        ((body : List ℕ) → HasBody framing text.now body → length body ≤ limit → ⊥)
+        (λ body. HasBody framing text.now body × (length body ≤ limit))) }
+{
+    one_end();
+    let mut reader = BodyReader::of(alloc, framing, limit);
+    if let Err(error) = reader.feed(text) {
+        return none_or_no_memory(error);
+    }
+    match reader.finish(alloc) {
+        Ok(body) => Ok(Some(body)),
+        Err(error) => none_or_no_memory(error),
+    }
+}
+
+// The body that the fields of a message frame, within the limit.
+fn read_framed_body(
+    alloc: Global,
+    kind: Kind,
+    limit: u64,
+    fields: &Fields,
+    text: &[u8],
+) -> Result<Option<Text>, AllocError>
+    ensures { IfOk result (λ found. MatchOption found
+        ((body : List ℕ) → HasFramedBody kind limit fields.now text.now body → ⊥)
+        (λ body. HasFramedBody kind limit fields.now text.now body)) }
+{
+    match frame(fields, kind) {
+        Ok(framing) => read_body(alloc, framing, limit, text),
+        Err(_) => Ok(None),
+    }
+}
+
+// The head of a request at the front of the text, and its length.
+fn read_request_head(alloc: Global, text: &[u8]) -> Result<Option<(RequestHead, usize)>, AllocError>
+    ensures { IfOk result (λ found. MatchOption found (LacksRequest text.now) (λ found. IsTheRequest text.now found.0 found.1)) }
+{
+    match read_request(alloc, text) {
+        Ok(found) => Ok(found),
+        Err(error) => {
+            if error == HeadError::NoMemory {
+                Err(AllocError)
+            } else {
+                Ok(None)
+            }
+        }
+    }
+}
+
+// The head of a response at the front of the text, and its length.
+fn read_response_head(
+    alloc: Global,
+    text: &[u8],
+) -> Result<Option<(ResponseHead, usize)>, AllocError>
+    ensures { IfOk result (λ found. MatchOption found (LacksResponse text.now) (λ found. IsTheResponse text.now found.0 found.1)) }
+{
+    match read_response(alloc, text) {
+        Ok(found) => Ok(found),
+        Err(error) => {
+            if error == HeadError::NoMemory {
+                Err(AllocError)
+            } else {
+                Ok(None)
+            }
+        }
+    }
+}
+
+/// The head of the whole request at the front of the text; None where none stands there, be it that its head,
+/// its framing or its body is refused, or that the text ends in it.
+pub(crate) fn read_whole_request(
+    alloc: Global,
+    text: &[u8],
+) -> Result<Option<RequestHead>, AllocError>
+    ensures { IfOk result (λ found. MatchOption found (LacksWholeRequest text.now) (λ head. IsTheWholeRequest text.now head)) }
+{
+    let (head, count) = match read_request_head(alloc, text)? {
+        Some(found) => found,
+        None => return Ok(None),
+    };
+    match read_framed_body(
+        alloc,
+        Kind::Request,
+        REQUEST_BODY_LIMIT,
+        &head.fields,
+        &text[count..],
+    )? {
+        Some(_) => Ok(Some(head)),
+        None => Ok(None),
+    }
+}
+
+/// The head and the body of the whole reply at the front of the text; None where none stands there.
+pub(crate) fn read_whole_reply(
+    alloc: Global,
+    text: &[u8],
+) -> Result<Option<(ResponseHead, Text)>, AllocError>
+    ensures { IfOk result (λ found. MatchOption found (LacksWholeReply text.now) (λ found. IsTheWholeReply text.now found.0 found.1)) }
+{
+    let (head, count) = match read_response_head(alloc, text)? {
+        Some(found) => found,
+        None => return Ok(None),
+    };
+    match read_framed_body(
+        alloc,
+        Kind::Reply,
+        REPLY_BODY_LIMIT,
+        &head.fields,
+        &text[count..],
+    )? {
+        Some(body) => Ok(Some((head, body))),
+        None => Ok(None),
+    }
+}
