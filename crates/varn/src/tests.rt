@@ -5,7 +5,7 @@ use crate::outcome::{Note, Outcome, Status};
 use crate::run::{replay, run};
 use cache_law::{Call, Params, Reply};
 use messages::MESSAGES;
-use std::alloc::Global;
+use std::alloc::{AllocError, Global};
 use std::process::Abort;
 use std::test::Fail;
 use units::Text;
@@ -328,6 +328,12 @@ fn whole_messages(rt: HostRuntime) -> Result<(), Fail> {
     play_table(&rt, rt.alloc(), MESSAGES)
 }
 
+fn push_filling(alloc: Global, session: &mut Vec<u8>, count: usize) -> Result<(), AllocError> {
+    let mut filling = Vec::new(alloc);
+    filling.resize(count, b'x')?;
+    session.extend_from_slice(filling.as_slice())
+}
+
 // A session of a request and a reply, with a body of so many bytes in one of them.
 fn session_with_bodies(alloc: Global, request: usize, reply: usize) -> Result<Vec<u8>, Fail> {
     let mut session = Vec::new(alloc);
@@ -337,12 +343,12 @@ fn session_with_bodies(alloc: Global, request: usize, reply: usize) -> Result<Ve
         session.extend_from_slice(length.as_bytes())?;
     }
     session.extend_from_slice(br#"\r\n"#)?;
-    session.resize(session.len() + request, b'x')?;
+    push_filling(alloc, &mut session, request)?;
     session.extend_from_slice(b"\"\nreply 2 \"")?;
     session.extend_from_slice(
         br#"HTTP/1.1 200 OK\r\nCache-Control: max-age=120, stale-while-revalidate=0\r\n\r\n"#,
     )?;
-    session.resize(session.len() + reply, b'x')?;
+    push_filling(alloc, &mut session, reply)?;
     session.extend_from_slice(b"\"\nend\n")?;
     Ok(session)
 }
