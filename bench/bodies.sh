@@ -4,12 +4,8 @@
 # and what each takes against pieces of 64 KiB. Then 1 MiB against 8 MiB in pieces of 1 byte. The time that a run takes
 # with an empty body is taken off. Run it at the top of the repository. The program is built and proved first where it
 # isn't there yet.
-set -eu
-cd "$(dirname "$0")/.."
-program=crates/measure/out/measure
-[ -x "$program" ] || (cd crates/measure && rt run -- tokens < /dev/null > /dev/null)
-work=$(mktemp -d)
-trap 'rm -rf "$work"' EXIT
+. "$(dirname "$0")/prepare.sh"
+prepare measure
 python3 - "$work" "$program" <<'PY'
 import subprocess, sys, time
 work, program = sys.argv[1:]

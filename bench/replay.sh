@@ -2,12 +2,8 @@
 # How the time of `varn replay` grows with the length of a session over 64 pages: sessions of 1,000, 10,000 and
 # 100,000 lines, the best of three runs each, and the ratio of each step. Run it at the top of the repository.
 # The program is built and proved first where it isn't there yet.
-set -eu
-cd "$(dirname "$0")/.."
-program=crates/varn/out/varn
-[ -x "$program" ] || (cd crates/varn && rt run -- replay < stdin > /dev/null)
-work=$(mktemp -d)
-trap 'rm -rf "$work"' EXIT
+. "$(dirname "$0")/prepare.sh"
+prepare varn
 python3 - "$work" "$program" <<'PY'
 import subprocess, sys, time
 work, program = sys.argv[1:]
