@@ -1,12 +1,16 @@
 -- Quoted texts: one reading at most, and what is written is read again.
-use Rattle.std.proofs.Common.{◌≡◌, ℕ, suc, ◌+◌, ◌*◌, ◌<◌, ◌≤◌, ◌-◌, ◌/◌, ◌%◌, List, [], ◌∷◌, ◌++◌, length, get_or, take, drop, sym, ap, ◌∙◌, subst, refl, arith, ◌⊎◌, inl, inr, Bool, true, false, cond, eqb, ltb, leb, length-append, append_assoc}
+use Rattle.std.proofs.Common.{◌≡◌, ℕ, suc, ◌+◌, ◌*◌, ◌<◌, ◌≤◌, ◌-◌, ◌/◌, ◌%◌, List, [], ◌∷◌, ◌++◌, length, get_or, take, drop, sym, ap, ◌∙◌, subst, refl, arith, ◌⊎◌, inl, inr, Bool, true, false, cond, eqb, ltb, leb, length-append, length-drop, append_assoc}
 use Rattle.std.specs.Prelude.{Option, Some, None, option_map, ◌||◌, ◌&&◌}
 use Rattle.std.specs.List.{flat_map}
 use Rattle.std.specs.Char.{digit_value, digit_char}
 use Rattle.std.proofs.lemmas.Option.{some_pair_parts, none-some}
-use Rattle.std.proofs.lemmas.List.{drop_at, take-append-drop}
+use Rattle.std.proofs.lemmas.List.{drop_at, drop-drop, take_rest, take-append-drop}
 use Rattle.std.proofs.lemmas.Str.{digit_value-digit_char}
 use Rattle.std.proofs.lemmas.Bool.Decides.{nat_tests, eqb_tells}
+use Rattle.std.specs.Prelude.{MatchOption}
+use Rattle.std.specs.Cmp.Lexicographic.{pointwise}
+use Rattle.std.proofs.Common.{Bor}
+use Rattle.units.proofs.Prefixes.{begins, begins_not}
 use Rattle.units.specs.Quoted.{ReadsPieces, IsQuoted, IsQuotedAt, piece, escape, hexadecimal, octal, sign_byte, piece_of, quote_of}
 
 -- a test that chose between two answers
@@ -72,6 +76,9 @@ pub pieces_push : (values : List ℕ) (bytes rest : List ℕ) (value : ℕ) (beh
 pieces_push [] bytes rest value behind h e = (behind, ap piece h ∙ e, refl)
 pieces_push (v ∷ values) bytes rest value behind h e = (h.0, h.1, pieces_push values h.0 rest value behind h.2 e)
 
+pub pieces_more : (bytes rest : List ℕ) (value : ℕ) (behind : List ℕ) → ((values : List ℕ) × ReadsPieces values bytes rest) → piece rest ≡ Some (value, behind) → (values : List ℕ) × ReadsPieces values bytes behind
+pieces_more bytes rest value behind h e = (h.0 ++ value ∷ [], pieces_push h.0 bytes rest value behind h.1 e)
+
 -- where the pieces end, no quoted text goes on
 pub pieces_stop : (values others : List ℕ) (bytes rest behind : List ℕ) → ReadsPieces values bytes rest → piece rest ≡ None → ReadsPieces others bytes (34 ∷ behind) → rest ≡ 34 ∷ behind
 pieces_stop [] [] bytes rest behind h stop k = sym h ∙ k
@@ -128,6 +135,29 @@ quoted_at bytes from body rest values within e h =
     let long : length rest ≤ length bytes = omega (arith, ap length joined, length-append front rest) in
     let at : List ℕ → Type 0 = λ r. IsQuoted values (drop from bytes) r in
     (long, (within, omega arith, subst at place (body, e, h)))
+
+-- where the pieces end, the text is whole if a quote follows
+pub body_read : (body rest : List ℕ) (found : Option (Bor (List ℕ))) → ((values : List ℕ) × ReadsPieces values body rest) → piece rest ≡ None → MatchOption found (pointwise eqb (take 1 rest) (34 ∷ []) ≡ false) (λ x. (pointwise eqb (take 1 rest) (34 ∷ []) ≡ true) × (x.now ≡ drop 1 rest) × (length x.now + 1 ≡ length rest)) → MatchOption found ((values behind : List ℕ) → ReadsPieces values body (34 ∷ behind) → ⊥) (λ x. (values : List ℕ) × ReadsPieces values body (34 ∷ x.now))
+body_read body rest None read stop k = λ values behind h. begins_not 34 rest behind k (pieces_stop read.0 values body rest behind read.1 stop h)
+body_read body rest (Some x) read stop k =
+    let at : List ℕ → Type 0 = λ t. ReadsPieces read.0 body t in
+    (read.0, subst at (begins 34 rest x.now k.0 k.1) read.1)
+
+-- a quoted text takes a byte at least
+pub quoted_starts : (bytes : List ℕ) (from : ℕ) (values : List ℕ) (behind : ℕ) → IsQuotedAt bytes from values behind → from < length bytes
+quoted_starts bytes from values behind h =
+    let e = ap length h.2.1 in
+    omega (arith, e, length-drop from bytes)
+
+-- what a quoted text stands for is told by its pieces as far as they go
+pub quoted_whole : (bytes : List ℕ) (from behind : ℕ) (others values tail : List ℕ) → IsQuotedAt bytes from others behind → ReadsPieces values (take (length bytes - (from + 1)) (drop (from + 1) bytes)) tail → piece tail ≡ None → IsQuotedAt bytes from values behind
+quoted_whole bytes from behind others values tail h read stop =
+    let quoted = h.2 in
+    let body : take (length bytes - (from + 1)) (drop (from + 1) bytes) ≡ quoted.0 = take_rest bytes (from + 1) ∙ (sym (drop-drop 1 from bytes) ∙ ap (λ b. drop 1 b) quoted.1) in
+    let of_body : List ℕ → Type 0 = λ b. ReadsPieces values b tail in
+    let of_tail : List ℕ → Type 0 = λ t. ReadsPieces values quoted.0 t in
+    let reads = subst of_body body read in
+    (h.0, h.1, (quoted.0, quoted.1, subst of_tail (pieces_stop values others quoted.0 tail (drop behind bytes) reads stop quoted.2) reads))
 
 -- A byte that is written is read again.
 hexadecimal_back : (byte : ℕ) (rest : List ℕ) → byte < 256 → hexadecimal (digit_char (byte / 16) ∷ digit_char (byte % 16) ∷ rest) ≡ Some (byte, rest)

@@ -1,9 +1,9 @@
 -- Durations: how their text splits, and that it does so in one way.
-use Rattle.std.proofs.Common.{◌≡◌, ℕ, ◌+◌, ◌*◌, ◌<◌, ◌≤◌, ◌/◌, ◌^◌, List, [], ◌∷◌, ◌++◌, length, sym, ap, ◌∙◌, subst, refl, arith}
-use Rattle.std.specs.Prelude.{Some, ◌≢◌}
+use Rattle.std.proofs.Common.{◌≡◌, ℕ, ◌+◌, ◌*◌, ◌<◌, ◌≤◌, ◌/◌, ◌^◌, List, [], ◌∷◌, ◌++◌, length, sym, ap, ◌∙◌, subst, refl, arith, eqb, false}
+use Rattle.std.specs.Prelude.{Some, None, ◌≢◌}
 use Rattle.std.specs.Char.{digit_value}
 use Rattle.std.specs.Str.Parse.{digits_value, IsNumeral, AllDigits}
-use Rattle.std.proofs.lemmas.Option.{same_Some}
+use Rattle.std.proofs.lemmas.Option.{same_Some, none-some}
 use Rattle.std.proofs.lemmas.Str.Parse.{digit_from_value}
 use Rattle.std.proofs.lemmas.Bool.Decides.{nat_tests}
 use native.Mathlib.Decide.{dec_le}
@@ -28,16 +28,19 @@ digits_end (c ∷ a) (d ∷ b) x y p q s t e =
     (cc, r.1)
 
 -- a unit begins with no digit and no point
-unit_one : (c : ℕ) (each : ℕ) → c < 58 → unit_millis (c ∷ []) ≡ Some each → ⊥
-unit_one c each small e = grind (arith, nat_tests)
+later_letter : (c letter : ℕ) → c < 58 → 58 ≤ letter → eqb c letter ≡ false
+later_letter c letter small large = grind (arith, nat_tests)
 
-unit_two : (c d : ℕ) (each : ℕ) → c < 58 → unit_millis (c ∷ d ∷ []) ≡ Some each → ⊥
-unit_two c d each small e = grind (arith, nat_tests)
-
-unit_first : (c : ℕ) (cs : List ℕ) (each : ℕ) → (c < 58) → unit_millis (c ∷ cs) ≡ Some each → ⊥
-unit_first c [] each small e = unit_one c each small e
-unit_first c (d ∷ []) each small e = unit_two c d each small e
-unit_first c (d ∷ f ∷ cs) each small e = cc
+unit_first : (c : ℕ) (cs : List ℕ) (each : ℕ) → c < 58 → unit_millis (c ∷ cs) ≡ Some each → ⊥
+unit_first c cs each small e =
+    let m = later_letter c 109 small (omega arith) in
+    let s = later_letter c 115 small (omega arith) in
+    let h = later_letter c 104 small (omega arith) in
+    let d = later_letter c 100 small (omega arith) in
+    let w = later_letter c 119 small (omega arith) in
+    let y = later_letter c 121 small (omega arith) in
+    let none : unit_millis (c ∷ cs) ≡ None = rw (m, s, h, d, w, y) refl in
+    none-some each (sym none ∙ e)
 
 unit_stops : (unit : List ℕ) (each : ℕ) → unit_millis unit ≡ Some each → Stops unit
 unit_stops [] each e = tt

@@ -2,10 +2,6 @@
 use Rattle.std.specs.Prelude.{ℕ, List, map}
 use Rattle.std.specs.Char.{to_ascii_lowercase}
 
--- a byte with a capital letter made small: 'A' to 'Z' become 'a' to 'z', and every other byte stays
-abbrev pub fold_byte : ℕ → ℕ
-fold_byte byte = to_ascii_lowercase byte
-
--- a text with each byte folded
+-- a text with each capital letter made small: 'A' to 'Z' become 'a' to 'z', and every other byte stays
 abbrev pub folded : List ℕ → List ℕ
 folded text = map to_ascii_lowercase text

@@ -1,3 +1,4 @@
+pub mod Signs
 pub mod Folding
 pub mod Numbers
 pub mod Durations

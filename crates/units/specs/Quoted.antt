@@ -1,11 +1,28 @@
 -- Quoted texts: `"`, pieces that stand for one byte each, `"`.
-use Rattle.std.specs.Prelude.{ℕ, ◌≡◌, ◌≤◌, ◌+◌, ◌*◌, ◌/◌, ◌%◌, ◌==◌, ◌&&◌, ◌||◌, nat_lt, nat_le, List, [], ◌∷◌, ◌++◌, length, drop, Option, Some, None, option_map, if◌then◌else◌}
+use Rattle.std.specs.Prelude.{ℕ, ◌≡◌, ◌≤◌, ◌+◌, ◌*◌, ◌/◌, ◌%◌, ◌==◌, ◌&&◌, ◌||◌, nat_lt, nat_le, List, [], ◌∷◌, ◌++◌, length, drop, map, Option, Some, None, option_map, if◌then◌else◌}
 use Rattle.std.specs.List.{flat_map}
+use Rattle.std.specs.Map.{lookup}
+use Rattle.std.specs.Option.{option_map_or}
 use Rattle.std.specs.Char.{digit_value, digit_char}
+use Rattle.std.specs.Str.{byte}
+use Rattle.units.specs.Signs.{tab, line_feed, carriage_return, blank, quote_mark, backslash, tilde}
 
--- what a sign behind a backslash stands for: `\\`, `\"`, `\n`, `\r`, `\t`
+-- the signs that stand behind a backslash, and the byte that each stands for
+abbrev pub signs : List (ℕ × ℕ)
+signs =
+    (backslash, backslash)
+    ∷ (quote_mark, quote_mark)
+    ∷ (byte "n", line_feed)
+    ∷ (byte "r", carriage_return)
+    ∷ (byte "t", tab)
+    ∷ []
+
 abbrev pub sign_byte : ℕ → Option ℕ
-sign_byte sign = if sign == 92 then Some 92 else (if sign == 34 then Some 34 else (if sign == 110 then Some 10 else (if sign == 114 then Some 13 else (if sign == 116 then Some 9 else None))))
+sign_byte sign = lookup (λ s. sign == s) signs
+
+-- the sign of a byte that has one
+abbrev pub sign_of : ℕ → Option ℕ
+sign_of written = lookup (λ b. written == b) (map (λ pair. (pair.1, pair.0)) signs)
 
 -- two hexadecimal digits
 abbrev pub hexadecimal : List ℕ → Option (ℕ × List ℕ)
@@ -20,13 +37,13 @@ octal _ = None
 -- what stands behind a backslash: `x` with two hexadecimal digits, three octal digits, or one of the signs
 abbrev pub escape : List ℕ → Option (ℕ × List ℕ)
 escape [] = None
-escape (sign ∷ rest) = if sign == 120 then hexadecimal rest else (if nat_lt (digit_value sign) 10 then octal (sign ∷ rest) else option_map (λ byte. (byte, rest)) (sign_byte sign))
+escape (sign ∷ rest) = if sign == byte "x" then hexadecimal rest else (if nat_lt (digit_value sign) 10 then octal (sign ∷ rest) else option_map (λ b. (b, rest)) (sign_byte sign))
 
 -- the byte that the first piece of the bytes stands for, and what is behind the piece: an escape, or a
 -- byte other than `"`, `\` and LF, which stands for itself
 abbrev pub piece : List ℕ → Option (ℕ × List ℕ)
 piece [] = None
-piece (first ∷ rest) = if first == 92 then escape rest else (if first == 34 || first == 10 then None else Some (first, rest))
+piece (first ∷ rest) = if first == backslash then escape rest else (if first == quote_mark || first == line_feed then None else Some (first, rest))
 
 -- The bytes are pieces that stand for these values, and then the rest.
 abbrev pub ReadsPieces : List ℕ → List ℕ → List ℕ → Type 0
@@ -35,16 +52,20 @@ ReadsPieces (value ∷ values) bytes rest = (behind : List ℕ) × (piece bytes 
 
 -- The bytes begin with a quoted text of these values, `"`, the pieces, `"`, and the rest is behind it.
 abbrev pub IsQuoted : List ℕ → List ℕ → List ℕ → Type 0
-IsQuoted values bytes rest = (body : List ℕ) × (bytes ≡ 34 ∷ body) × ReadsPieces values body (34 ∷ rest)
+IsQuoted values bytes rest = (body : List ℕ) × (bytes ≡ quote_mark ∷ body) × ReadsPieces values body (quote_mark ∷ rest)
 
 -- A quoted text of these values stands at the place `from` of the bytes, and `behind` is the place behind it.
 abbrev pub IsQuotedAt : List ℕ → ℕ → List ℕ → ℕ → Type 0
 IsQuotedAt bytes from values behind = (from ≤ length bytes) × (behind ≤ length bytes) × IsQuoted values (drop from bytes) (drop behind bytes)
 
+-- how a byte is written that has no sign: as it is where it prints, else by two hexadecimal digits
+abbrev pub unsigned_piece : ℕ → List ℕ
+unsigned_piece b = if nat_le blank b && nat_le b tilde then b ∷ [] else backslash ∷ byte "x" ∷ digit_char (b / 16) ∷ digit_char (b % 16) ∷ []
+
 -- how a byte is written within a quoted text
 abbrev pub piece_of : ℕ → List ℕ
-piece_of byte = if byte == 92 then 92 ∷ 92 ∷ [] else (if byte == 34 then 92 ∷ 34 ∷ [] else (if byte == 10 then 92 ∷ 110 ∷ [] else (if byte == 13 then 92 ∷ 114 ∷ [] else (if byte == 9 then 92 ∷ 116 ∷ [] else (if nat_le 32 byte && nat_le byte 126 then byte ∷ [] else 92 ∷ 120 ∷ digit_char (byte / 16) ∷ digit_char (byte % 16) ∷ [])))))
+piece_of b = option_map_or (λ sign. backslash ∷ sign ∷ []) (sign_of b) (unsigned_piece b)
 
 -- the one way in which a text is quoted when it is written
 abbrev pub quote_of : List ℕ → List ℕ
-quote_of text = 34 ∷ flat_map piece_of text ++ 34 ∷ []
+quote_of text = quote_mark ∷ flat_map piece_of text ++ quote_mark ∷ []

@@ -1,7 +1,7 @@
 // Durations, in milliseconds.
 ghost use Rattle.std.specs.Prelude.{◌≡◌, ◌≤◌, ◌<◌, ◌∷◌, ◌++◌, [], ◌^◌, ◌*◌, ◌/◌, ◌+◌, SomeIff, List, ℕ, pos, length, MatchOption, IfNone, IfSome};
 ghost use Rattle.std.specs.Str.Parse.{digits_value, AllDigits};
-ghost use Rattle.units.specs.Durations.{IsDuration, IsSplit, Stops, unit_millis};
+ghost use Rattle.units.specs.Durations.{IsDuration, IsSplit, Stops, unit_millis, longest_unit, millis_limit};
 
 use crate::numbers::value_of_digits;
 
@@ -13,16 +13,10 @@ pub fn read_millis(bytes: &[u8]) -> Option<i64>
         ((n : ℕ) → IsDuration bytes.now n → ⊥)
         (λ millis. (n : ℕ) × (millis ≡ pos n) × IsDuration bytes.now n) }
 {
-    let Some(parts) = split_duration(bytes) else {
-        return None;
-    };
-    let Some(unit) = millis_of_unit(parts.unit) else {
-        return None;
-    };
-    match total(parts.whole, parts.fraction, unit) {
-        Some(millis) => Some(millis as i64),
-        None => None,
-    }
+    let parts = split_duration(bytes)?;
+    let unit = millis_of_unit(parts.unit)?;
+    let millis = total(parts.whole, parts.fraction, unit)?;
+    Some(millis as i64)
 }
 
 /// The bytes are a duration of one length at most.
@@ -36,9 +30,9 @@ fn total(whole: &[u8], fraction: &[u8], unit: u64) -> Option<u64>
     requires fraction { AllDigits 10 fraction.now }
     requires short { length fraction.now ≤ 3 }
     requires some { 0 < unit }
-    requires small { unit ≤ 31536000000 }
+    requires small { unit ≤ longest_unit }
     ensures { let millis = digits_value 10 whole.now * unit + (digits_value 10 fraction.now * unit) / 10 ^ length fraction.now in
-        SomeIff result (millis ≤ 10000000000000) millis }
+        SomeIff result (millis ≤ millis_limit) millis }
 {
     let whole = value_of_digits(whole)?;
     let whole = whole.checked_mul(unit)?;
@@ -70,7 +64,7 @@ fn split_duration(bytes: &[u8]) -> Option<Parts<'_>>
     if whole.is_empty() {
         return None;
     }
-    let Some(behind) = after_point(rest) else {
+    let Some(behind) = rest.strip_prefix(b".") else {
         return Some(Parts {
             whole,
             fraction: &[],
@@ -78,11 +72,7 @@ fn split_duration(bytes: &[u8]) -> Option<Parts<'_>>
         });
     };
     let (fraction, unit) = leading_digits(behind);
-    let len = fraction.len();
-    if len == 0 {
-        return None;
-    }
-    if len > 3 {
+    if fraction.is_empty() || fraction.len() > 3 {
         return None;
     }
     Some(Parts {
@@ -106,21 +96,11 @@ fn leading_digits(bytes: &[u8]) -> (&[u8], &[u8])
     (bytes, &[])
 }
 
-// What is behind a point.
-fn after_point(bytes: &[u8]) -> Option<&[u8]>
-    ensures { MatchOption result ((rest : List ℕ) → bytes.now ≡ 46 ∷ rest → ⊥) (λ rest. bytes.now ≡ 46 ∷ rest.now) }
-{
-    match bytes {
-        [first, rest @ ..] => if *first == b'.' { Some(rest) } else { None },
-        [] => None,
-    }
-}
-
 // The part of a unit that a fraction is, cut to whole milliseconds.
 fn part_of_unit(fraction: &[u8], unit: u64) -> u64
     requires digits { AllDigits 10 fraction.now }
     requires short { length fraction.now ≤ 3 }
-    requires small { unit ≤ 31536000000 }
+    requires small { unit ≤ longest_unit }
     ensures { result ≡ (digits_value 10 fraction.now * unit) / 10 ^ length fraction.now }
 {
     let Some(value) = value_of_digits(fraction) else {
@@ -138,7 +118,7 @@ fn part_of_unit(fraction: &[u8], unit: u64) -> u64
 fn millis_of_unit(name: &[u8]) -> Option<u64>
     ensures value { result ≡ unit_millis name.now }
     ensures some { IfSome result (λ millis. 0 < millis) }
-    ensures small { IfSome result (λ millis. millis ≤ 31536000000) }
+    ensures small { IfSome result (λ millis. millis ≤ longest_unit) }
 {
     match name {
         b"ms" => Some(1),

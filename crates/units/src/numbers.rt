@@ -29,10 +29,7 @@ pub fn value_of_digits(digits: &[u8]) -> Option<u64>
 {
     let mut value: u64 = 0;
     for digit in digits {
-        match with_digit(value, *digit) {
-            Some(longer) => value = longer,
-            None => return None,
-        }
+        value = with_digit(value, *digit)?;
     }
     Some(value)
 }
@@ -52,8 +49,7 @@ fn with_digit(value: u64, digit: u8) -> Option<u64>
 pub fn write_number(alloc: Global, n: u64) -> Result<Text, AllocError>
     ensures { IfOk result (λ t. IsNumber t n) }
 {
-    let digits = n.to_string(alloc)?;
-    Text::of(alloc, digits.as_bytes())
+    Text::from_vec(n.to_string(alloc)?.into_bytes())
 }
 
 /// Puts the decimal digits of a number at the end. Where memory is wanting, the bytes are as before.

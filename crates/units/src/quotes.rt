@@ -1,6 +1,7 @@
 // Texts between quotes, with escapes.
-ghost use Rattle.std.specs.Prelude.{◌≡◌, ◌≤◌, ◌<◌, ◌∷◌, ◌++◌, [], List, ℕ, length, IfOk, MatchOption, IfNone, IfSome, OnOk, SomeIff, option_map, Option, Some, None};
+ghost use Rattle.std.specs.Prelude.{◌≡◌, ◌≤◌, ◌<◌, ◌∷◌, ◌++◌, [], List, ℕ, length, IfOk, MatchOption, IfNone, IfSome, OnOk, OnErr, SomeIff, option_map, Option, Some, None};
 ghost use Rattle.std.specs.Char.{digit_value, digit_char};
+ghost use Rattle.units.specs.Signs.{quote_mark};
 ghost use Rattle.units.specs.Quoted.{IsQuoted, IsQuotedAt, ReadsPieces, escape, hexadecimal, octal, piece, piece_of, quote_of, sign_byte};
 
 use crate::text::Text;
@@ -17,36 +18,55 @@ pub fn quote(alloc: Global, bytes: &[u8]) -> Result<Text, AllocError>
         push_piece(&mut out, *byte)?;
     }
     out.push(b'"')?;
-    Text::of(alloc, out.as_slice())
+    Text::from_vec(out)
 }
 
 /// The quoted text that stands at a place of the bytes: the bytes that it stands for, and the place behind
-/// it. None where no quoted text stands there.
+/// it. None where no quoted text stands there; memory is taken, and wanting, only where one does.
 pub fn quoted(alloc: Global, bytes: &[u8], from: usize) -> Result<Option<(Text, usize)>, AllocError>
-    ensures { IfOk result (λ found. MatchOption found
+    ensures ok { IfOk result (λ found. MatchOption found
         ((values : List ℕ) (behind : ℕ) → IsQuotedAt bytes.now from values behind → ⊥)
         (λ x. IsQuotedAt bytes.now from x.0 x.1)) }
+    ensures wanting { OnErr result ((values : List ℕ) × (behind : ℕ) × IsQuotedAt bytes.now from values behind) }
 {
-    if from > bytes.len() {
-        return Ok(None);
-    }
-    let Some(body) = after_quote(&bytes[from..]) else {
+    let Some(behind) = end_of_quoted(bytes, from) else {
         return Ok(None);
     };
-    match read_body(alloc, body)? {
-        Some((values, rest)) => Ok(Some((
-            Text::of(alloc, values.as_slice())?,
-            bytes.len() - rest.len(),
-        ))),
-        None => Ok(None),
-    }
+    let values = values_of(alloc, &bytes[from + 1..])?;
+    Ok(Some((Text::from_vec(values)?, behind)))
 }
 
-// What a quoted text stands for, read from behind its first quote on, and the bytes behind it.
-fn read_body(alloc: Global, body: &[u8]) -> Result<Option<(Vec<u8>, &[u8])>, AllocError>
-    ensures { IfOk result (λ found. MatchOption found
-        ((values rest : List ℕ) → ReadsPieces values body.now (34 ∷ rest) → ⊥)
-        (λ x. ReadsPieces x.0.items body.now (34 ∷ x.1.now))) }
+/// The place behind the quoted text that stands at a place of the bytes. None where no quoted text stands
+/// there.
+pub fn end_of_quoted(bytes: &[u8], from: usize) -> Option<usize>
+    ensures { MatchOption result
+        ((values : List ℕ) (behind : ℕ) → IsQuotedAt bytes.now from values behind → ⊥)
+        (λ behind. (values : List ℕ) × IsQuotedAt bytes.now from values behind) }
+{
+    if from > bytes.len() {
+        return None;
+    }
+    let body = bytes[from..].strip_prefix(b"\"")?;
+    let rest = after_body(body)?;
+    Some(bytes.len() - rest.len())
+}
+
+// What is behind a quoted text, from behind its first quote on.
+fn after_body(body: &[u8]) -> Option<&[u8]>
+    ensures { MatchOption result
+        ((values rest : List ℕ) → ReadsPieces values body.now (quote_mark ∷ rest) → ⊥)
+        (λ rest. (values : List ℕ) × ReadsPieces values body.now (quote_mark ∷ rest.now)) }
+{
+    let mut rest = body;
+    while let Some((_, behind)) = read_piece(rest) {
+        rest = behind;
+    }
+    rest.strip_prefix(b"\"")
+}
+
+// What the pieces stand for, as far as pieces go.
+fn values_of(alloc: Global, body: &[u8]) -> Result<Vec<u8>, AllocError>
+    ensures { IfOk result (λ values. (rest : List ℕ) × ReadsPieces values.items body.now rest × (piece rest ≡ None)) }
 {
     let mut values = Vec::new(alloc);
     let mut rest = body;
@@ -54,10 +74,7 @@ fn read_body(alloc: Global, body: &[u8]) -> Result<Option<(Vec<u8>, &[u8])>, All
         values.push(value)?;
         rest = behind;
     }
-    match after_quote(rest) {
-        Some(behind) => Ok(Some((values, behind))),
-        None => Ok(None),
-    }
+    Ok(values)
 }
 
 /// No quoted text begins another: the bytes begin with at most one.
@@ -105,14 +122,11 @@ fn hexadecimal_digit(digit: u8) -> u8
 fn read_piece(bytes: &[u8]) -> Option<(u8, &[u8])>
     ensures { option_map (λ x. (x.0, x.1.now)) result ≡ piece bytes.now }
 {
-    let (first, rest) = split_first(bytes)?;
-    if first == b'\\' {
-        return read_escape(rest);
+    match bytes {
+        [] | [b'"' | b'\n', ..] => None,
+        [b'\\', rest @ ..] => read_escape(rest),
+        [first, rest @ ..] => Some((*first, rest)),
     }
-    if first == b'"' || first == b'\n' {
-        return None;
-    }
-    Some((first, rest))
 }
 
 /// The byte that an escape stands for, read from behind its backslash on, and what is behind the escape. None
@@ -120,16 +134,11 @@ fn read_piece(bytes: &[u8]) -> Option<(u8, &[u8])>
 pub fn read_escape(bytes: &[u8]) -> Option<(u8, &[u8])>
     ensures { option_map (λ x. (x.0, x.1.now)) result ≡ escape bytes.now }
 {
-    let (sign, rest) = split_first(bytes)?;
-    if sign == b'x' {
-        return read_hexadecimal(rest);
-    }
-    if sign.is_ascii_digit() {
-        return read_octal(bytes);
-    }
-    match byte_of_sign(sign) {
-        Some(byte) => Some((byte, rest)),
-        None => None,
+    match bytes {
+        [] => None,
+        [b'x', rest @ ..] => read_hexadecimal(rest),
+        [b'0'..=b'9', ..] => read_octal(bytes),
+        [sign, rest @ ..] => Some((byte_of_sign(*sign)?, rest)),
     }
 }
 
@@ -149,22 +158,23 @@ fn byte_of_sign(sign: u8) -> Option<u8>
 fn read_hexadecimal(bytes: &[u8]) -> Option<(u8, &[u8])>
     ensures { option_map (λ x. (x.0, x.1.now)) result ≡ hexadecimal bytes.now }
 {
-    let (high, rest) = split_first(bytes)?;
-    let (low, rest) = split_first(rest)?;
-    let high = digit_below(high, 16)?;
-    let low = digit_below(low, 16)?;
+    let [high, low, rest @ ..] = bytes else {
+        return None;
+    };
+    let high = digit_below(*high, 16)?;
+    let low = digit_below(*low, 16)?;
     Some((16 * high + low, rest))
 }
 
 fn read_octal(bytes: &[u8]) -> Option<(u8, &[u8])>
     ensures { option_map (λ x. (x.0, x.1.now)) result ≡ octal bytes.now }
 {
-    let (high, rest) = split_first(bytes)?;
-    let (middle, rest) = split_first(rest)?;
-    let (low, rest) = split_first(rest)?;
-    let high = digit_below(high, 4)?;
-    let middle = digit_below(middle, 8)?;
-    let low = digit_below(low, 8)?;
+    let [high, middle, low, rest @ ..] = bytes else {
+        return None;
+    };
+    let high = digit_below(*high, 4)?;
+    let middle = digit_below(*middle, 8)?;
+    let low = digit_below(*low, 8)?;
     Some((64 * high + 8 * middle + low, rest))
 }
 
@@ -180,22 +190,4 @@ fn digit_below(digit: u8, limit: u8) -> Option<u8>
         _ => return None,
     };
     if value < limit { Some(value) } else { None }
-}
-
-// What is behind a `"`.
-fn after_quote(bytes: &[u8]) -> Option<&[u8]>
-    ensures { MatchOption result ((rest : List ℕ) → bytes.now ≡ 34 ∷ rest → ⊥) (λ rest. bytes.now ≡ 34 ∷ rest.now) }
-{
-    let (first, rest) = split_first(bytes)?;
-    if first == b'"' { Some(rest) } else { None }
-}
-
-// The first byte and those behind it.
-fn split_first(bytes: &[u8]) -> Option<(u8, &[u8])>
-    ensures { MatchOption result (bytes.now ≡ []) (λ x. bytes.now ≡ x.0 ∷ x.1.now) }
-{
-    match bytes {
-        [first, rest @ ..] => Some((*first, rest)),
-        [] => None,
-    }
 }

@@ -1,5 +1,32 @@
 use super::*;
+use std::collections::HashSet;
 use std::test::Fail;
+
+#[test]
+fn texts(rt: HostRuntime) -> Result<(), Fail> {
+    let table: [(&[u8], &str); 4] = [
+        (b"", "b\"\""),
+        (b"a b~", "b\"a b~\""),
+        (b"\"\\\n\r\t", "b\"\\\"\\\\\\n\\r\\t\""),
+        (b"\x00\x7f\xff", "b\"\\x00\\x7f\\xff\""),
+    ];
+    for (bytes, shown) in table {
+        let text = Text::of(rt.alloc(), bytes)?;
+        let same = Text::from_vec(bytes.to_vec(rt.alloc())?)?;
+        assert_eq!(rt; text, same);
+        assert!(rt; text.copy()?.bytes() == bytes);
+        assert!(rt; format!(in rt.alloc(); "{text:?}")?.as_str() == shown);
+    }
+    let shorter = Text::of(rt.alloc(), b"a")?;
+    let longer = Text::of(rt.alloc(), b"ab")?;
+    assert_ne!(rt; shorter, longer);
+    assert!(rt; shorter < longer);
+    let mut seen = HashSet::new(rt.alloc());
+    assert!(rt; seen.insert(shorter.copy()?)?);
+    assert!(rt; !seen.insert(shorter)?);
+    assert!(rt; seen.insert(longer)?);
+    Ok(())
+}
 
 #[test]
 fn folds(rt: HostRuntime) {
@@ -103,6 +130,7 @@ fn quotes_are_read(rt: HostRuntime) -> Result<(), Fail> {
     ];
     for (bytes, from, want) in table {
         let found = quoted(rt.alloc(), bytes, from)?;
+        assert_eq!(rt; end_of_quoted(bytes, from), want.map(|(_, place)| place));
         match (found, want) {
             (Some((text, behind)), Some((value, place))) => {
                 assert!(rt; text.bytes() == value);
