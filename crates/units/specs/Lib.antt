@@ -1,4 +1,5 @@
 pub mod Signs
+pub mod Blanks
 pub mod Folding
 pub mod Numbers
 pub mod Durations

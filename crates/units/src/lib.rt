@@ -6,6 +6,7 @@
 //! has one.
 #![tactic(auto)]
 
+mod blanks;
 mod copied;
 mod durations;
 mod folding;
@@ -14,6 +15,7 @@ mod quotes;
 mod sequence;
 mod text;
 
+pub use blanks::trim_blanks;
 pub use copied::Copied;
 pub use durations::{one_duration, read_millis};
 pub use folding::fold_eq;

@@ -1,0 +1,4 @@
+pub mod Directives
+pub mod Timing
+pub mod Validators
+pub mod Merging

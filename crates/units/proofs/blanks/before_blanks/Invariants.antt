@@ -1,0 +1,14 @@
+-- Behind the end so far there are only blanks.
+use Rattle.std.proofs.Common.{◌≡◌, ◌≤◌, ◌+◌, length, take}
+use Rattle.std.specs.List.{suffix_len}
+use Rattle.units.specs.Blanks.{is_blank}
+use Rattle.units.proofs.blanks.before_blanks.Given as goal
+
+abbrev pub invariant-loop-end : goal.invariant-loop-end
+invariant-loop-end l = record {
+  within : l.end ≤ length l.text;
+  blanks : l.end + suffix_len is_blank l.text ≡ length l.text + suffix_len is_blank (take l.end l.text)
+}
+
+abbrev pub decreases-loop-end : goal.decreases-loop-end
+decreases-loop-end l = l.end
