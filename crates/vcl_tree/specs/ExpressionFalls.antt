@@ -32,7 +32,6 @@ falls (operation.Not place e) = omega arith
 falls (operation.Compare how a b) = omega arith
 falls (operation.Sum first second others) = let front = Node (sum_label (second.value).sign) first.value (second.value).term in omega (arith, most_sum front others.items, sum_longer front others.items)
 falls (operation.Group place e) = omega arith
-falls (operation.Negative place e) = omega arith
 falls (operation.String place text) = omega arith
 falls (operation.Integer place n) = omega arith
 falls (operation.Weight place text) = omega arith

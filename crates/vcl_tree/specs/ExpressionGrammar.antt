@@ -1,6 +1,6 @@
 -- The grammar of expressions. Each relation says that the tokens up to a rest are such a part, with its phrase.
 use Rattle.std.specs.Prelude.{ℕ, ◌≡◌, ℤ, Bool, true, false, List, ◌∷◌, Some}
-use Rattle.vcl_tree.specs.Phrase.{Phrase, Nothing, At, String, Weight, Integer, Duration, Node, More, Either, Both, Not, Compared, Added, Subtracted, Group, Negative, Called}
+use Rattle.vcl_tree.specs.Phrase.{Phrase, Nothing, At, String, Weight, Integer, Duration, Node, More, Either, Both, Not, Compared, Added, Subtracted, Group, Called}
 use Rattle.vcl_tree.specs.declared.token.Token.{Token}
 use Rattle.vcl_tree.specs.declared.token.Sign.{Sign}
 use Rattle.vcl_tree.specs.declared.token.Sign.TheVariants as sign
@@ -8,6 +8,7 @@ use Rattle.vcl_tree.specs.declared.expression.Comparison.{Comparison}
 use Rattle.vcl_tree.specs.Tokens.{a_sign, a_string, an_integer, a_duration, a_decimal, IsName}
 use Rattle.vcl_tree.specs.Signs.{first_is, comparison_of}
 use Rattle.vcl_tree.specs.Endings.{has_zeros}
+use Rattle.vcl_tree.specs.Numbers.{opposite}
 
 mutual
   -- expression = conjunction | expression "||" conjunction
@@ -51,8 +52,8 @@ mutual
     string_term : {rest : List Token} {p : ℕ} {t : List ℕ} → IsTerm (String p t) (a_string t p ∷ rest) rest
     integer_term : {rest : List Token} {p : ℕ} {n : ℤ} → IsTerm (Integer p n) (an_integer n p ∷ rest) rest
     duration_term : {rest : List Token} {p : ℕ} {n : ℤ} → IsTerm (Duration p n) (a_duration n p ∷ rest) rest
-    minus_integer : {rest : List Token} {p q : ℕ} {n : ℤ} → IsTerm (Node Negative (At p) (Integer q n)) (a_sign sign.Minus p ∷ an_integer n q ∷ rest) rest
-    minus_duration : {rest : List Token} {p q : ℕ} {n : ℤ} → IsTerm (Node Negative (At p) (Duration q n)) (a_sign sign.Minus p ∷ a_duration n q ∷ rest) rest
+    minus_integer : {rest : List Token} {p q : ℕ} {n : ℤ} → IsTerm (Integer p (opposite n)) (a_sign sign.Minus p ∷ an_integer n q ∷ rest) rest
+    minus_duration : {rest : List Token} {p q : ℕ} {n : ℤ} → IsTerm (Duration p (opposite n)) (a_sign sign.Minus p ∷ a_duration n q ∷ rest) rest
     variable : {e : Phrase} {x : Token} {rest : List Token} → IsName e x → first_is sign.OpenParenthesis rest ≡ false → IsTerm e (x ∷ rest) rest
     call : {e arguments : Phrase} {x : Token} {ts rest : List Token} →
         IsName e x → IsArguments false arguments ts rest → IsTerm (Node Called e arguments) (x ∷ ts) rest

@@ -1,6 +1,6 @@
 -- What a clause sees of an expression.
 use Rattle.std.specs.Prelude.{List, [], ◌∷◌}
-use Rattle.vcl_tree.specs.Phrase.{Phrase, Label, At, Named, String, Weight, Integer, Duration, Node, Either, Both, Not, Compared, Added, Subtracted, Group, Negative, Called, chain, list_of}
+use Rattle.vcl_tree.specs.Phrase.{Phrase, Label, At, Named, String, Weight, Integer, Duration, Node, Either, Both, Not, Compared, Added, Subtracted, Group, Called, chain, list_of}
 use Rattle.vcl_tree.specs.declared.expression.Operation.{Operation}
 use Rattle.vcl_tree.specs.declared.expression.Operation.TheVariants as operation
 use Rattle.vcl_tree.specs.declared.expression.Addition.{Addition}
@@ -23,7 +23,6 @@ expression_of (operation.Not place e) = Node Not (At place) e.value
 expression_of (operation.Compare how a b) = Node (Compared how) a.value b.value
 expression_of (operation.Sum first second others) = sum_of (Node (sum_label (second.value).sign) first.value (second.value).term) others.items
 expression_of (operation.Group place e) = Node Group (At place) e.value
-expression_of (operation.Negative place e) = Node Negative (At place) e.value
 expression_of (operation.String place text) = String place text
 expression_of (operation.Integer place n) = Integer place n
 expression_of (operation.Weight place text) = Weight place text

@@ -3,13 +3,16 @@ pub mod AttributeGrammar
 pub mod AttributeView
 pub mod Endings
 pub mod ExpressionFalls
+pub mod ExpressionForm
 pub mod ExpressionGrammar
 pub mod ExpressionView
+pub mod Faults
 pub mod Grammar
 pub mod Nesting
 pub mod Numbers
 pub mod Phrase
 pub mod PhraseCode
+pub mod Places
 pub mod Signs
 pub mod StatementFalls
 pub mod StatementGrammar

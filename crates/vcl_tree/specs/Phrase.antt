@@ -17,7 +17,6 @@ pub data Label : Type 0 where
   -- a place and an operand
   Not : Label
   Group : Label
-  Negative : Label
   -- a name and its arguments
   Called : Label
   -- a name and what it is given, or what belongs to it

@@ -4,7 +4,7 @@ use Rattle.std.specs.Prelude.{ℕ, ◌≡◌, ◌==◌, ℤ, pos, List, [], ◌�
 use Rattle.std.specs.Coded.{Coded, code_by, coded×, coded_ℕ, coded_ℤ, coded_list}
 use Rattle.std.proofs.Common.{◌∙◌, ap}
 use Rattle.vcl_tree.specs.declared.expression.Comparison.TheVariants as comparison
-use Rattle.vcl_tree.specs.Phrase.{Label, Phrase, Nothing, At, Named, String, Weight, Integer, Duration, Node, Compared, More, Either, Both, Added, Subtracted, Not, Group, Negative, Called, Bound, Set, Append, Unset, Jump, New, Return, Branch, If, ElseIf, Else, Attribute, Nested, Entry, Masked, Import, NoBackend, Backend, Probe, Acl, Sub}
+use Rattle.vcl_tree.specs.Phrase.{Label, Phrase, Nothing, At, Named, String, Weight, Integer, Duration, Node, Compared, More, Either, Both, Added, Subtracted, Not, Group, Called, Bound, Set, Append, Unset, Jump, New, Return, Branch, If, ElseIf, Else, Attribute, Nested, Entry, Masked, Import, NoBackend, Backend, Probe, Acl, Sub}
 
 abbrev pub label_number : Label → ℕ
 label_number More = 0
@@ -14,37 +14,36 @@ label_number Added = 3
 label_number Subtracted = 4
 label_number Not = 5
 label_number Group = 6
-label_number Negative = 7
-label_number Called = 8
-label_number Bound = 9
-label_number Set = 10
-label_number Append = 11
-label_number Unset = 12
-label_number Jump = 13
-label_number New = 14
-label_number Return = 15
-label_number Branch = 16
-label_number If = 17
-label_number ElseIf = 18
-label_number Else = 19
-label_number Attribute = 20
-label_number Nested = 21
-label_number Entry = 22
-label_number Masked = 23
-label_number Import = 24
-label_number NoBackend = 25
-label_number Backend = 26
-label_number Probe = 27
-label_number Acl = 28
-label_number Sub = 29
-label_number (Compared comparison.Equal) = 30
-label_number (Compared comparison.NotEqual) = 31
-label_number (Compared comparison.Less) = 32
-label_number (Compared comparison.LessOrEqual) = 33
-label_number (Compared comparison.Greater) = 34
-label_number (Compared comparison.GreaterOrEqual) = 35
-label_number (Compared comparison.Match) = 36
-label_number (Compared comparison.NotMatch) = 37
+label_number Called = 7
+label_number Bound = 8
+label_number Set = 9
+label_number Append = 10
+label_number Unset = 11
+label_number Jump = 12
+label_number New = 13
+label_number Return = 14
+label_number Branch = 15
+label_number If = 16
+label_number ElseIf = 17
+label_number Else = 18
+label_number Attribute = 19
+label_number Nested = 20
+label_number Entry = 21
+label_number Masked = 22
+label_number Import = 23
+label_number NoBackend = 24
+label_number Backend = 25
+label_number Probe = 26
+label_number Acl = 27
+label_number Sub = 28
+label_number (Compared comparison.Equal) = 29
+label_number (Compared comparison.NotEqual) = 30
+label_number (Compared comparison.Less) = 31
+label_number (Compared comparison.LessOrEqual) = 32
+label_number (Compared comparison.Greater) = 33
+label_number (Compared comparison.GreaterOrEqual) = 34
+label_number (Compared comparison.Match) = 35
+label_number (Compared comparison.NotMatch) = 36
 
 abbrev pub label_of : ℕ → Label
 label_of n =
@@ -55,37 +54,36 @@ label_of n =
     if n == 4 then Subtracted else (
     if n == 5 then Not else (
     if n == 6 then Group else (
-    if n == 7 then Negative else (
-    if n == 8 then Called else (
-    if n == 9 then Bound else (
-    if n == 10 then Set else (
-    if n == 11 then Append else (
-    if n == 12 then Unset else (
-    if n == 13 then Jump else (
-    if n == 14 then New else (
-    if n == 15 then Return else (
-    if n == 16 then Branch else (
-    if n == 17 then If else (
-    if n == 18 then ElseIf else (
-    if n == 19 then Else else (
-    if n == 20 then Attribute else (
-    if n == 21 then Nested else (
-    if n == 22 then Entry else (
-    if n == 23 then Masked else (
-    if n == 24 then Import else (
-    if n == 25 then NoBackend else (
-    if n == 26 then Backend else (
-    if n == 27 then Probe else (
-    if n == 28 then Acl else (
-    if n == 29 then Sub else (
-    if n == 30 then Compared comparison.Equal else (
-    if n == 31 then Compared comparison.NotEqual else (
-    if n == 32 then Compared comparison.Less else (
-    if n == 33 then Compared comparison.LessOrEqual else (
-    if n == 34 then Compared comparison.Greater else (
-    if n == 35 then Compared comparison.GreaterOrEqual else (
-    if n == 36 then Compared comparison.Match else (
-    Compared comparison.NotMatch)))))))))))))))))))))))))))))))))))))
+    if n == 7 then Called else (
+    if n == 8 then Bound else (
+    if n == 9 then Set else (
+    if n == 10 then Append else (
+    if n == 11 then Unset else (
+    if n == 12 then Jump else (
+    if n == 13 then New else (
+    if n == 14 then Return else (
+    if n == 15 then Branch else (
+    if n == 16 then If else (
+    if n == 17 then ElseIf else (
+    if n == 18 then Else else (
+    if n == 19 then Attribute else (
+    if n == 20 then Nested else (
+    if n == 21 then Entry else (
+    if n == 22 then Masked else (
+    if n == 23 then Import else (
+    if n == 24 then NoBackend else (
+    if n == 25 then Backend else (
+    if n == 26 then Probe else (
+    if n == 27 then Acl else (
+    if n == 28 then Sub else (
+    if n == 29 then Compared comparison.Equal else (
+    if n == 30 then Compared comparison.NotEqual else (
+    if n == 31 then Compared comparison.Less else (
+    if n == 32 then Compared comparison.LessOrEqual else (
+    if n == 33 then Compared comparison.Greater else (
+    if n == 34 then Compared comparison.GreaterOrEqual else (
+    if n == 35 then Compared comparison.Match else (
+    Compared comparison.NotMatch))))))))))))))))))))))))))))))))))))
 
 label_back : (l : Label) → label_of (label_number l) ≡ l
 label_back More = refl
@@ -95,7 +93,6 @@ label_back Added = refl
 label_back Subtracted = refl
 label_back Not = refl
 label_back Group = refl
-label_back Negative = refl
 label_back Called = refl
 label_back Bound = refl
 label_back Set = refl

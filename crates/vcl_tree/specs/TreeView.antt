@@ -24,7 +24,7 @@ item_of (item.Backend place name attributes) = Node Backend (At place) (Node Bou
 item_of (item.NoBackend place name) = Node NoBackend (At place) (name_of name)
 item_of (item.Probe place name attributes) = Node Probe (At place) (Node Bound (name_of name) (list_of attributes))
 item_of (item.Acl place name entries) = Node Acl (At place) (Node Bound (name_of name) (list_of (map entry_of entries)))
-item_of (item.Sub place name block) = Node Sub (At place) (Node Bound (name_of name) (list_of block))
+item_of (item.Sub place name block) = Node Sub (At place) (Node Bound (name_of name) block)
 
 abbrev pub items_of : List Item → Phrase
 items_of items = list_of (map item_of items)

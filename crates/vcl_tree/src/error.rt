@@ -1,8 +1,10 @@
 // Why a text isn't taken.
-ghost use Rattle.std.specs.Prelude.{◌≡◌, ℕ};
-ghost use Rattle.vcl_tree.specs.declared.error.VclError.TheVariants.{NoMemory};
+ghost use Rattle.std.specs.Prelude.{◌≡◌, ◌⊎◌, ℕ, IsTrue};
+ghost use Rattle.vcl_tree.specs.declared.error.VclError.TheVariants.{NoMemory, Refused};
 
 use std::alloc::{AllocError, AllocFailed};
+use std::error::Error;
+use std::fmt;
 
 /// What is wrong with a VCL text.
 #[derive(Clone, Copy, Debug, PartialEq, Eq)]
@@ -56,6 +58,45 @@ impl Refusal {
 }
 
 ghost use Rattle.vcl_tree.specs.Numbers.{number_of};
+ghost use Rattle.vcl_tree.specs.Faults.{comes_before};
+ghost use Rattle.vcl_tree.specs.declared.error.Fault as fault;
+
+impl fmt::Display for Refusal {
+    fn fmt<W: fmt::Write>(&self, f: &mut fmt::Formatter<W>) -> fmt::Result {
+        let text = match self {
+            Refusal::Token => "no token",
+            Refusal::Syntax => "not in the grammar",
+            Refusal::Version => "no version 4.0 or 4.1",
+            Refusal::TooDeep => "nested more than 64 deep",
+            Refusal::Unknown => "not declared",
+            Refusal::Twice => "declared twice",
+            Refusal::Kind => "of another type or number of arguments",
+            Refusal::NotHere => "not allowed here",
+            Refusal::Recursion => "a subroutine that reaches itself",
+            Refusal::Pattern => "no pattern",
+            Refusal::NoBackend => "no backend",
+            Refusal::TooLong => "too long",
+        };
+        write!(f, "{text}")
+    }
+}
+
+/// A refusal at a place of the text.
+#[derive(Clone, Copy, Debug, PartialEq, Eq)]
+pub struct Fault {
+    pub place: u32,
+    pub kind: Refusal,
+}
+
+impl Fault {
+    /// Whether it is told before the other: at a lesser place, or there with a lesser number.
+    pub fn comes_before(self, other: Fault) -> bool
+        ensures { result ≡ comes_before self other }
+    {
+        self.place < other.place
+            || self.place == other.place && self.kind.number() < other.kind.number()
+    }
+}
 
 /// Why a VCL text gave no answer.
 #[derive(Clone, Copy, Debug, PartialEq, Eq)]
@@ -64,6 +105,28 @@ pub enum VclError {
     Refused { kind: Refusal, place: u32 },
     /// There was no memory for the answer.
     NoMemory,
+}
+
+impl fmt::Display for VclError {
+    fn fmt<W: fmt::Write>(&self, f: &mut fmt::Formatter<W>) -> fmt::Result {
+        match self {
+            VclError::Refused { kind, place } => write!(f, "{kind}, at byte {place}"),
+            VclError::NoMemory => write!(f, "out of memory"),
+        }
+    }
+}
+
+impl Error for VclError {}
+
+impl From<Fault> for VclError {
+    ghost from_gives = { λ f e. e ≡ Refused f.kind f.place };
+
+    fn from(fault: Fault) -> VclError {
+        VclError::Refused {
+            kind: fault.kind,
+            place: fault.place,
+        }
+    }
 }
 
 impl From<AllocError> for VclError {
@@ -82,13 +145,50 @@ impl<T: Drop> From<AllocFailed<T>> for VclError {
     }
 }
 
+/// Of two faults that differ, one comes before the other, and of three the first before the last.
+pub fn one_order()
+    ensures not_itself { (a : fault.Fault) → ¬ IsTrue (comes_before a a) }
+    ensures in_turn { (a b c : fault.Fault) → IsTrue (comes_before a b) → IsTrue (comes_before b c) → IsTrue (comes_before a c) }
+    ensures one_first { (a b : fault.Fault) → (a ≡ b) ⊎ (IsTrue (comes_before a b) ⊎ IsTrue (comes_before b a)) }
+{}
+
 #[cfg(test)]
 mod tests {
     use super::*;
 
     #[test]
+    fn refusals_shown(rt: HostRuntime) {
+        let refused = VclError::Refused {
+            kind: Refusal::TooLong,
+            place: 1048576,
+        };
+        let shown = format!(in rt.alloc(); "{refused}").unwrap();
+        assert!(rt; shown.as_str() == "too long, at byte 1048576");
+    }
+
+    #[test]
     fn numbers_of_refusals(rt: HostRuntime) {
         assert_eq!(rt; Refusal::Token.number(), 1);
         assert_eq!(rt; Refusal::TooLong.number(), 12);
+    }
+
+    #[test]
+    fn faults_in_order(rt: HostRuntime) {
+        let first = Fault {
+            place: 3,
+            kind: Refusal::NotHere,
+        };
+        let second = Fault {
+            place: 7,
+            kind: Refusal::Unknown,
+        };
+        let third = Fault {
+            place: 7,
+            kind: Refusal::Kind,
+        };
+        assert!(rt; first.comes_before(second));
+        assert!(rt; second.comes_before(third));
+        assert!(rt; !third.comes_before(second));
+        assert!(rt; !third.comes_before(third));
     }
 }

@@ -1,8 +1,12 @@
 // Expressions.
+ghost use Rattle.std.specs.Prelude.{◌≡◌, Some};
+ghost use Rattle.vcl_tree.specs.Places.{place_of};
+
 use std::marker::Model;
 use units::Text;
 
-/// An expression. Chains of one operator are lists, so that a tree is no deeper than its text nests.
+/// An expression. Chains of one operator are lists, so that a tree is no deeper than its text nests, and the first operand
+/// of a chain binds tighter than the chain's operator: an expression has one form.
 #[cycle(expression)]
 #[derive(Drop)]
 pub struct Expression {
@@ -23,13 +27,12 @@ pub enum Operation {
     Sum(Box<Expression>, Box<Addend>, Vec<Addend>),
     /// An expression in parentheses.
     Group(u32, Box<Expression>),
-    /// A minus sign before an integer or a duration.
-    Negative(u32, Box<Expression>),
     String(u32, Text),
+    /// An integer; one below 0 has its place at the minus sign.
     Integer(u32, i64),
     /// A decimal as it is written, with a fraction of zeros.
     Weight(u32, Text),
-    /// A duration in milliseconds.
+    /// A duration in milliseconds, likewise.
     Duration(u32, i64),
     /// A variable, or another name.
     Name(u32, Text),
@@ -76,9 +79,35 @@ impl Model for Expression {
 
     ghost view = { λ e. expression_of e.operation };
 
+    ghost use Rattle.vcl_tree.specs.ExpressionForm.{HasOneForm};
+
+    ghost invariant = { λ e. HasOneForm e.operation };
+
     ghost size = { phrase_size };
 
     ghost use Rattle.vcl_tree.specs.ExpressionFalls.{falls};
 
     ghost size_decreases = { λ a h. falls a.operation };
+}
+
+impl Expression {
+    /// The place of its first token.
+    pub fn place(&self) -> u32
+        ensures { place_of self.now ≡ Some result }
+    {
+        match &self.operation {
+            Operation::Any(first, _, _) => first.place(),
+            Operation::All(first, _, _) => first.place(),
+            Operation::Compare(_, left, _) => left.place(),
+            Operation::Sum(first, _, _) => first.place(),
+            Operation::Not(place, _)
+            | Operation::Group(place, _)
+            | Operation::String(place, _)
+            | Operation::Integer(place, _)
+            | Operation::Weight(place, _)
+            | Operation::Duration(place, _)
+            | Operation::Name(place, _)
+            | Operation::Call(place, _, _) => *place,
+        }
+    }
 }

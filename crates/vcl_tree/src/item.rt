@@ -1,7 +1,7 @@
 // A whole text: its version and its items.
 use crate::attribute::Attribute;
 use crate::name::Name;
-use crate::statement::Statement;
+use crate::statement::Block;
 use units::{Sequence, Text};
 
 /// What a VCL text reads as.
@@ -26,7 +26,7 @@ pub enum Item {
     NoBackend(u32, Name),
     Probe(u32, Name, Sequence<Attribute>),
     Acl(u32, Name, Sequence<AclEntry>),
-    Sub(u32, Name, Sequence<Statement>),
+    Sub(u32, Name, Block),
 }
 
 /// An entry of an ACL.

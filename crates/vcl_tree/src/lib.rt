@@ -10,13 +10,15 @@ mod error;
 mod expression;
 mod item;
 mod name;
+mod places;
 mod statement;
 mod token;
 
 pub use attribute::{Attribute, AttributeValue};
-pub use error::{Refusal, VclError};
+pub use error::{Fault, Refusal, VclError, one_order};
 pub use expression::{Addend, Addition, Comparison, Expression, Operation};
 pub use item::{AclEntry, Item, Mask, Tree, Version};
 pub use name::Name;
-pub use statement::{Action, Branch, Statement};
+pub use places::first_tokens;
+pub use statement::{Action, Block, Branch, Statement};
 pub use token::{Sign, Token, TokenKind, Word};
