@@ -215,8 +215,8 @@ mutual
   term_on string_term s vs = refl
   term_on integer_term s vs = refl
   term_on duration_term s vs = refl
-  term_on (minus_integer {rest} {p} {q} {n}) s vs = join_on _ s _ rest
-  term_on (minus_duration {rest} {p} {q} {n}) s vs = join_on _ s _ rest
+  term_on minus_integer s vs = refl
+  term_on minus_duration s vs = refl
   term_on (variable {e} {x} {rest} n f) s vs = name_as_term rest s vs n ∙ calls_end rest f s (e ∷ vs)
   term_on (call {e} {arguments = l} {x} {ts} {rest} n h) s vs = name_as_term ts s vs n ∙ open_calls s (e ∷ vs) h ∙ arguments_on h (Join Called ∷ s) (e ∷ vs) ∙ join_on Called s (l ∷ e ∷ vs) rest
 

@@ -1,6 +1,7 @@
 -- Whatever is wanted, some tokens are that.
 use Rattle.std.proofs.Common.{List, [], ◌∷◌, refl}
 use Rattle.std.specs.Prelude.{pos}
+use Rattle.vcl_tree.specs.Numbers.{opposite}
 use Rattle.vcl_tree.specs.Phrase.{Phrase, Nothing, Named, String, Integer, Node, Set, Bound, Branch, Else, NoBackend, Called}
 use Rattle.vcl_tree.specs.declared.token.Token.{Token}
 use Rattle.vcl_tree.specs.declared.token.Sign.TheVariants as sign
@@ -11,7 +12,7 @@ use Rattle.vcl_tree.specs.StatementGrammar.{IsBlock, block, no_statements, set, 
 use Rattle.vcl_tree.specs.AttributeGrammar.{no_attributes, integer_value, nested}
 use Rattle.vcl_tree.specs.Grammar as grammar
 use Rattle.vcl_tree.specs.Grammar.{no_entries, no_backend, probe, acl}
-use Rattle.vcl_parse.specs.Machine.{Part, Tail, Want, Take, AnyName, NewName, Number, Read, Go, Join, Any, All, Negation, Comparing, Sum, Term, Literal, Arguments, Argument, Assignment, Ending, Condition, Block, AfterElse, Value, Attributes, BackendBody, Address, Entries, MoreAny, MoreAll, Compares, MoreSum, Calls, FirstArgument, MoreArguments, MoreStatements, MoreElse, MoreAttributes, Semicolon, MoreEntries, Mask, MoreItems}
+use Rattle.vcl_parse.specs.Machine.{Part, Tail, Want, Take, AnyName, NewName, Number, Read, Go, Join, Any, All, Negation, Comparing, Sum, Term, Negated, Arguments, Argument, Assignment, Ending, Condition, Block, AfterElse, Value, Attributes, BackendBody, Address, Entries, MoreAny, MoreAll, Compares, MoreSum, Calls, FirstArgument, MoreArguments, MoreStatements, MoreElse, MoreAttributes, Semicolon, MoreEntries, Mask, MoreItems}
 use Rattle.vcl_parse.proofs.Meaning.{Stack, push, pop, joined, Fits, under, Carries, Sem}
 
 abbrev digit : Token
@@ -46,7 +47,7 @@ fitting Negation v = (a, λ rest. (digit ∷ rest, one_negation rest))
 fitting Comparing v = (a, λ rest. (digit ∷ rest, one_comparison rest))
 fitting Sum v = (a, λ rest. (digit ∷ rest, one_sum rest))
 fitting Term v = (a, λ rest. (digit ∷ rest, integer_term))
-fitting Literal v = (a, λ rest. (digit ∷ rest, λ p. minus_integer))
+fitting (Negated p) v = (Integer p (opposite (pos 1)), λ rest. (digit ∷ rest, minus_integer))
 fitting (Arguments w) v = (Nothing, λ rest. (a_sign sign.OpenParenthesis 0 ∷ a_sign sign.CloseParenthesis 0 ∷ rest, no_arguments))
 fitting (Argument w) v = (a, λ rest. (digit ∷ rest, λ l start p before. next_argument before (one_expression rest)))
 fitting Assignment v = (

@@ -8,11 +8,11 @@ use Rattle.vcl_tree.specs.declared.token.TokenKind.TheVariants as kind
 use Rattle.vcl_tree.specs.declared.token.Sign.{Sign}
 use Rattle.vcl_tree.specs.Signs.{is_sign}
 use Rattle.vcl_tree.specs.Tokens.{plain_name, word_name, new_name}
-use Rattle.vcl_parse.specs.Machine.{Part, Tail, Want, Config, Take, AnyName, NewName, Number, Read, Go, Join, Any, All, Negation, Comparing, Sum, Term, Literal, Arguments, Argument, Assignment, Ending, Condition, Block, AfterElse, Value, Attributes, BackendBody, Address, Entries, MoreAny, MoreAll, Compares, MoreSum, Calls, FirstArgument, MoreArguments, MoreStatements, MoreElse, MoreAttributes, Semicolon, MoreEntries, Mask, MoreItems, go, name_move, new_name_move, number_move, step, read, carry, join}
+use Rattle.vcl_parse.specs.Machine.{Part, Tail, Want, Config, Take, AnyName, NewName, Number, Read, Go, Join, Any, All, Negation, Comparing, Sum, Term, Negated, Arguments, Argument, Assignment, Ending, Condition, Block, AfterElse, Value, Attributes, BackendBody, Address, Entries, MoreAny, MoreAll, Compares, MoreSum, Calls, FirstArgument, MoreArguments, MoreStatements, MoreElse, MoreAttributes, Semicolon, MoreEntries, Mask, MoreItems, go, name_move, new_name_move, number_move, step, read, carry, join}
 use Rattle.vcl_parse.proofs.SameSign.{as_sign}
 use Rattle.vcl_parse.proofs.Meaning.{Stack, stack_of, Sem}
 use Rattle.vcl_parse.proofs.Keeping.{at, Keeps}
-use Rattle.vcl_parse.proofs.KeptExpressions.{expression_kept, conjunction_kept, negation_kept, comparison_kept, sum_kept, term_kept, literal_kept, arguments_kept, argument_kept, any_kept, all_kept, compares_kept, more_sum_kept, calls_kept, first_argument_kept, more_arguments_kept}
+use Rattle.vcl_parse.proofs.KeptExpressions.{expression_kept, conjunction_kept, negation_kept, comparison_kept, sum_kept, term_kept, negated_kept, arguments_kept, argument_kept, any_kept, all_kept, compares_kept, more_sum_kept, calls_kept, first_argument_kept, more_arguments_kept}
 use Rattle.vcl_parse.proofs.KeptStatements.{statements_kept, else_kept, after_else_kept, block_kept, condition_kept, assignment_kept, ending_kept}
 use Rattle.vcl_parse.proofs.KeptItems.{value_kept, attributes_kept, entries_kept, backend_kept, address_kept, more_entries_kept, more_attributes_kept, semicolon_kept, mask_kept, items_kept}
 
@@ -23,7 +23,7 @@ read_kept Negation x s vs ts last = negation_kept x s vs ts last
 read_kept Comparing x s vs ts last = comparison_kept x s vs ts last
 read_kept Sum x s vs ts last = sum_kept x s vs ts last
 read_kept Term x s vs ts last = term_kept x.kind x.place s vs ts last
-read_kept Literal x s vs ts last = literal_kept x.kind x.place s vs ts last
+read_kept (Negated p) x s vs ts last = negated_kept x.kind p x.place s vs ts last
 read_kept (Arguments w) x s vs ts last = arguments_kept w x s vs ts last
 read_kept (Argument w) x s vs ts last = argument_kept w x s vs ts last
 read_kept Assignment x s vs ts last = assignment_kept x s vs ts last

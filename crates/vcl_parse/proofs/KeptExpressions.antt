@@ -1,7 +1,7 @@
 -- A token that begins or carries on an expression keeps the meaning of what is wanted.
 use Rattle.std.proofs.Common.{◌≡◌, ℕ, List, [], ◌∷◌, refl}
 use Rattle.std.specs.Prelude.{Bool, true, false, Option, Some, None, if◌then◌else◌}
-use Rattle.vcl_tree.specs.Phrase.{Phrase, Nothing, At, String, Weight, Integer, Duration, Node, More, Either, Both, Not, Compared, Added, Subtracted, Group, Negative, Called}
+use Rattle.vcl_tree.specs.Phrase.{Phrase, Nothing, At, String, Weight, Integer, Duration, Node, More, Either, Both, Not, Compared, Added, Subtracted, Group, Called}
 use Rattle.vcl_tree.specs.declared.token.Token.{Token}
 use Rattle.vcl_tree.specs.declared.token.TokenKind.{TokenKind}
 use Rattle.vcl_tree.specs.declared.token.TokenKind.TheVariants as kind
@@ -10,10 +10,11 @@ use Rattle.vcl_tree.specs.declared.token.Sign.TheVariants as sign
 use Rattle.vcl_tree.specs.declared.expression.Comparison.{Comparison}
 use Rattle.vcl_tree.specs.Signs.{is_sign, comparison_of}
 use Rattle.vcl_tree.specs.Endings.{has_zeros}
+use Rattle.vcl_tree.specs.Numbers.{opposite}
 use Rattle.vcl_tree.specs.Tokens.{a_sign, plain_name, word_name}
 use Rattle.vcl_tree.specs.ExpressionGrammar.{conjunction, either, negation, both, comparison, not, sum, compared, term, added, subtracted, side_by_side, group, string_term, integer_term, duration_term, minus_integer, minus_duration, variable, call, no_arguments, arguments, first_argument, next_argument, weight_argument}
 use Rattle.vcl_parse.specs.Machine as machine
-use Rattle.vcl_parse.specs.Machine.{Want, Config, Take, Read, Go, Join, Any, All, Negation, Comparing, Sum, Term, Literal, Arguments, Argument, MoreAny, MoreAll, Compares, MoreSum, Calls, FirstArgument, MoreArguments, go, or_on, term_move, sign_term, literal_move, weight_move, from_sum, from_comparing, from_negation, from_all, from_any, at_sign, starts_term, compares, carry, read}
+use Rattle.vcl_parse.specs.Machine.{Want, Config, Take, Read, Go, Join, Any, All, Negation, Comparing, Sum, Term, Negated, Arguments, Argument, MoreAny, MoreAll, Compares, MoreSum, Calls, FirstArgument, MoreArguments, go, or_on, term_move, sign_term, negated_move, weight_move, from_sum, from_comparing, from_negation, from_all, from_any, at_sign, starts_term, compares, carry, read}
 use Rattle.vcl_parse.specs.Starts.{term_sign_of}
 use Rattle.vcl_parse.proofs.Meaning.{Stack, stack_of, Sem}
 use Rattle.vcl_parse.proofs.Keeping.{at, Keeps, by, or_sign, at_one, by_test, same_stack}
@@ -21,7 +22,7 @@ use Rattle.vcl_parse.proofs.Keeping.{at, Keeps, by, or_sign, at_one, by_test, sa
 sign_term_kept : (u : Sign) (p : ℕ) (s : List Want) (vs : List Phrase) (ts : List Token) (last : Stack) →
     Keeps (Sem (Read Term ∷ s) (stack_of vs) (a_sign u p ∷ ts) last) ts last (go (sign_term (term_sign_of u) p) s vs)
 sign_term_kept sign.OpenParenthesis p s vs ts last = λ h. (Node Group (At p) (h.0), h.3.1, group (rw (h.3.2) at (h.2)), h.3.3)
-sign_term_kept sign.Minus p s vs ts last = λ h. (Node Negative (At p) (h.0), h.1, h.2 p, h.3)
+sign_term_kept sign.Minus p s vs ts last = λ h. (h.0, h.1, h.2, h.3)
 sign_term_kept _ p s vs ts last = tt
 
 pub term_kept : (k : TokenKind) (p : ℕ) (s : List Want) (vs : List Phrase) (ts : List Token) (last : Stack) →
@@ -34,11 +35,11 @@ term_kept (kind.Duration n) p s vs ts last = λ h. (Duration p n, ts, duration_t
 term_kept (kind.String t) p s vs ts last = λ h. (String p t, ts, string_term, h)
 term_kept (kind.Sign u) p s vs ts last = sign_term_kept u p s vs ts last
 
-pub literal_kept : (k : TokenKind) (p : ℕ) (s : List Want) (vs : List Phrase) (ts : List Token) (last : Stack) →
-    Keeps (Sem (Read Literal ∷ s) (stack_of vs) (at p k ∷ ts) last) ts last (go (literal_move k p) s vs)
-literal_kept (kind.Integer n) p s vs ts last = λ h. (Integer p n, ts, (λ q. minus_integer), h)
-literal_kept (kind.Duration n) p s vs ts last = λ h. (Duration p n, ts, (λ q. minus_duration), h)
-literal_kept _ p s vs ts last = tt
+pub negated_kept : (k : TokenKind) (minus p : ℕ) (s : List Want) (vs : List Phrase) (ts : List Token) (last : Stack) →
+    Keeps (Sem (Read (Negated minus) ∷ s) (stack_of vs) (at p k ∷ ts) last) ts last (go (negated_move k minus) s vs)
+negated_kept (kind.Integer n) minus p s vs ts last = λ h. (Integer minus (opposite n), ts, minus_integer, h)
+negated_kept (kind.Duration n) minus p s vs ts last = λ h. (Duration minus (opposite n), ts, minus_duration, h)
+negated_kept _ minus p s vs ts last = tt
 
 to_sum : (s : List Want) (v : Stack) (ts : List Token) (last : Stack) → Sem (Read Term ∷ Go MoreSum ∷ s) v ts last → Sem (Read Sum ∷ s) v ts last
 to_sum s v ts last h = (h.3.0, h.3.1, h.3.2 ts (term (h.2)), h.3.3)

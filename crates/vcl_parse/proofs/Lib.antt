@@ -2,6 +2,7 @@ pub mod AcceptedExpressions
 pub mod AcceptedItems
 pub mod AcceptedStatements
 pub mod Alive
+pub mod Binding
 pub mod Faults
 pub mod Files
 pub mod Keeping

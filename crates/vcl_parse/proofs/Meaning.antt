@@ -1,6 +1,6 @@
 -- What the grammar says of tokens that stand where these parts are wanted.
 use Rattle.std.proofs.Common.{◌≡◌, ℕ, zero, suc, List, [], ◌∷◌, refl}
-use Rattle.vcl_tree.specs.Phrase.{Phrase, Label, Node, Nothing, At, More, Bound, Return, Negative, Probe, Acl}
+use Rattle.vcl_tree.specs.Phrase.{Phrase, Label, Node, Nothing, At, More, Bound, Return, Probe, Acl}
 use Rattle.vcl_tree.specs.declared.token.Token.{Token}
 use Rattle.vcl_tree.specs.declared.token.Sign.TheVariants as sign
 use Rattle.vcl_tree.specs.declared.token.Word.TheVariants as word
@@ -11,7 +11,7 @@ use Rattle.vcl_tree.specs.ExpressionGrammar.{IsExpression, IsConjunction, IsNega
 use Rattle.vcl_tree.specs.StatementGrammar.{IsBlock, IsStatements, IsStatement, IsConditional, IsBranch}
 use Rattle.vcl_tree.specs.AttributeGrammar.{IsAttributes, IsValue, IsBraced}
 use Rattle.vcl_tree.specs.Grammar.{IsAddress, IsEntries, IsItem, IsItems}
-use Rattle.vcl_parse.specs.Machine.{Part, Tail, Want, Take, AnyName, NewName, Number, Read, Go, Join, Any, All, Negation, Comparing, Sum, Term, Literal, Arguments, Argument, Assignment, Ending, Condition, Block, AfterElse, Value, Attributes, BackendBody, Address, Entries, MoreAny, MoreAll, Compares, MoreSum, Calls, FirstArgument, MoreArguments, MoreStatements, MoreElse, MoreAttributes, Semicolon, MoreEntries, Mask, MoreItems}
+use Rattle.vcl_parse.specs.Machine.{Part, Tail, Want, Take, AnyName, NewName, Number, Read, Go, Join, Any, All, Negation, Comparing, Sum, Term, Negated, Arguments, Argument, Assignment, Ending, Condition, Block, AfterElse, Value, Attributes, BackendBody, Address, Entries, MoreAny, MoreAll, Compares, MoreSum, Calls, FirstArgument, MoreArguments, MoreStatements, MoreElse, MoreAttributes, Semicolon, MoreEntries, Mask, MoreItems}
 
 -- what has been read, the last first, with nothing below
 abbrev pub Stack : Type 0
@@ -46,7 +46,7 @@ Fits Negation v e ts rest = IsNegation e ts rest
 Fits Comparing v e ts rest = IsComparison e ts rest
 Fits Sum v e ts rest = IsSum e ts rest
 Fits Term v e ts rest = IsTerm e ts rest
-Fits Literal v e ts rest = (p : ℕ) → IsTerm (Node Negative (At p) e) (a_sign sign.Minus p ∷ ts) rest
+Fits (Negated p) v e ts rest = IsTerm e (a_sign sign.Minus p ∷ ts) rest
 Fits (Arguments w) v e ts rest = IsArguments w e ts rest
 Fits (Argument w) v e ts rest = (l : Phrase) (start : List Token) (p : ℕ) → IsArgumentList w l start (a_sign sign.Comma p ∷ ts) → IsArgumentList w (Node More l e) start rest
 Fits Assignment v e ts rest = (x : Token) (t : List ℕ) (p : ℕ) → IsName (v 0) x → v 1 ≡ At p → IsStatement e (a_word word.Set t p ∷ x ∷ ts) rest

@@ -1,7 +1,7 @@
 -- Steps of the reading of single tokens, as the functions take them.
 use Rattle.std.proofs.Common.{◌≡◌, ℕ, suc, pred, ◌<◌, List, [], ◌∷◌, ◌++◌, length, refl, ◌∙◌}
 use Rattle.std.specs.Prelude.{Bool, true, false, cond, ◌&&◌, nat_le, Some, None}
-use Rattle.vcl_tree.specs.Phrase.{Phrase, Label, Node, chain, Nothing, At, More, Either, Both, Not, Negative, Group, Called, Unset, Jump, New, Bound, Return, Branch, If, ElseIf, Else, Attribute, Nested, Entry, Masked, Import, NoBackend, Backend, Acl, Probe, Sub, list_of}
+use Rattle.vcl_tree.specs.Phrase.{Phrase, Label, Node, chain, Nothing, At, More, Either, Both, Not, Group, Called, Unset, Jump, New, Bound, Return, Branch, If, ElseIf, Else, Attribute, Nested, Entry, Masked, Import, NoBackend, Backend, Acl, Probe, Sub, list_of}
 use Rattle.vcl_tree.specs.ExpressionView.{sum_of, sum_label}
 use Rattle.vcl_tree.specs.declared.expression.Addend.{Addend}
 use Rattle.vcl_tree.specs.declared.token.Token.{Token}
@@ -14,15 +14,13 @@ use Rattle.std.specs.Prelude.{map, ◌==◌}
 use Rattle.std.proofs.lemmas.List.{map-append}
 use Rattle.vcl_tree.specs.declared.token.Sign.{Sign}
 use Rattle.vcl_tree.specs.declared.token.Sign.TheVariants as sign
-use Rattle.vcl_tree.specs.StatementView.{branch_of, branches_of}
-use Rattle.vcl_tree.specs.declared.statement.Branch as branch
 use Rattle.vcl_tree.specs.declared.token.Word.{Word}
 use Rattle.vcl_parse.specs.Starts.{statement_word_of, else_word_of, item_word_of}
 use Rattle.vcl_parse.specs.declared.starts.ItemWord.TheVariants as item
 use Rattle.vcl_parse.specs.declared.starts.StatementWord.TheVariants as statement
 use Rattle.vcl_parse.specs.declared.starts.ElseWord.TheVariants as otherwise
 use Rattle.vcl_parse.specs.declared.stop.Stop.{Stop}
-use Rattle.vcl_parse.specs.Machine.{Want, Take, Read, Go, Join, Any, All, Negation, Comparing, Sum, Term, Literal, Arguments, Argument, MoreAny, MoreAll, Compares, MoreSum, Calls, FirstArgument, MoreArguments, AnyName, NewName, Assignment, Ending, Condition, Block, AfterElse, MoreElse, MoreStatements, Attributes, Value, Address, Entries, MoreAttributes, Semicolon, MoreEntries, Mask, Number, BackendBody, MoreItems, is_none, is_if, Config, Move, first_of, moved, go, Outcome, Refused, Deep, watch, join}
+use Rattle.vcl_parse.specs.Machine.{Want, Take, Read, Go, Join, Any, All, Negation, Comparing, Sum, Term, Negated, Arguments, Argument, MoreAny, MoreAll, Compares, MoreSum, Calls, FirstArgument, MoreArguments, AnyName, NewName, Assignment, Ending, Condition, Block, AfterElse, MoreElse, MoreStatements, Attributes, Value, Address, Entries, MoreAttributes, Semicolon, MoreEntries, Mask, Number, BackendBody, MoreItems, is_none, is_if, Config, Move, first_of, moved, go, Outcome, Refused, Deep, watch, join}
 use Rattle.vcl_tree.specs.Signs.{is_kind_of_sign, same_sign, is_sign}
 use Rattle.vcl_tree.specs.Nesting.{opens, level}
 use Rattle.vcl_parse.specs.Steps.{Stops, IsStopped, IsRead, BeginsWith, sign_level, is_string, first_is_string, first_at}
@@ -149,7 +147,7 @@ pub back_brace : (d deeper : ℕ) → deeper ≡ suc d → sign_level sign.Close
 back_brace d deeper e = rw e refl
 
 pub negative_on : (d p : ℕ) (s : List Want) (vs : List Phrase) (ts : List Token) →
-    watch d (Read Term ∷ s) vs (record { kind = kind.Sign sign.Minus; place = p } ∷ ts) ≡ watch d (Read Literal ∷ Join Negative ∷ s) (At p ∷ vs) ts
+    watch d (Read Term ∷ s) vs (record { kind = kind.Sign sign.Minus; place = p } ∷ ts) ≡ watch d (Read (Negated p) ∷ s) vs ts
 negative_on d p s vs ts = refl
 
 pub on_set : (d p : ℕ) (w : Word) (t : List ℕ) (s : List Want) (vs : List Phrase) (ts : List Token) → statement_word_of w ≡ statement.Set →
@@ -235,10 +233,6 @@ pub ending_with : (d : ℕ) (s : List Want) (vs : List Phrase) (ts : List Token)
     watch d (Read Ending ∷ s) vs ts ≡ watch d (Read (Arguments false) ∷ Join Called ∷ Take sign.CloseParenthesis ∷ Take sign.Semicolon ∷ s) vs ts
 ending_with d s vs [] e = cc
 ending_with d s vs (x ∷ ts) e = rw e refl
-
-pub branches_of-more : (front : Phrase) (xs : List branch.Branch) (x : branch.Branch) → branches_of front (xs ++ x ∷ []) ≡ Node ElseIf (branches_of front xs) (branch_of x)
-branches_of-more front [] x = refl
-branches_of-more front (y ∷ xs) x = branches_of-more (Node ElseIf front (branch_of y)) xs x
 
 pub stop_attributes : (d : ℕ) (s : List Want) (vs : List Phrase) (ts : List Token) → first_is sign.Dot ts ≡ false → watch d (Go MoreAttributes ∷ s) vs ts ≡ watch d s vs ts
 stop_attributes d s vs [] e = refl
@@ -370,4 +364,4 @@ pub nothing_wanted : (d : ℕ) (vs : List Phrase) (ts : List Token) → (length 
 nothing_wanted d vs [] e = cc
 nothing_wanted d vs (x ∷ ts) e = refl
 
-pub ruleset reading = (joins, enter_any, enter_all, enter_comparing, enter_sum, plain_negation, stop_any, stop_all, stop_calls, more_any, more_all, negates, calls_on, chain-more, sum_of-more, group_on, group_deep, arguments_on, no_arguments, first_argument, more_arguments, stop_arguments, back, back_brace, negative_on, on_set, on_unset, on_call, on_new, on_if, on_return, on_no_statement, on_else_if, on_else, on_no_else, after_else_if, after_else_word, after_else_sign, block_on, condition_on, return_on, ending_plain, ending_with, branches_of-more, stop_attributes, stop_semicolon, stop_mask, attributes_on, entries_on, nested_on, attribute_on, past_on, mask_on, entry_not, entry_string, stop_entries, map-more, on_import, on_backend, on_acl, on_probe, on_sub, on_no_item, none_on, not_none, backend_sign, items-more, nothing_wanted)
+pub ruleset reading = (joins, enter_any, enter_all, enter_comparing, enter_sum, plain_negation, stop_any, stop_all, stop_calls, more_any, more_all, negates, calls_on, chain-more, sum_of-more, group_on, group_deep, arguments_on, no_arguments, first_argument, more_arguments, stop_arguments, back, back_brace, negative_on, on_set, on_unset, on_call, on_new, on_if, on_return, on_no_statement, on_else_if, on_else, on_no_else, after_else_if, after_else_word, after_else_sign, block_on, condition_on, return_on, ending_plain, ending_with, stop_attributes, stop_semicolon, stop_mask, attributes_on, entries_on, nested_on, attribute_on, past_on, mask_on, entry_not, entry_string, stop_entries, map-more, on_import, on_backend, on_acl, on_probe, on_sub, on_no_item, none_on, not_none, backend_sign, items-more, nothing_wanted)

@@ -1,4 +1,3 @@
-pub mod Elses
 pub mod Machine
 pub mod Parsing
 pub mod Starts

@@ -1,6 +1,6 @@
 -- A reading of tokens one at a time, with what is wanted next on a stack, and what has been read on another.
 use Rattle.std.specs.Prelude.{ℕ, nat_le, Bool, true, false, ◌&&◌, List, [], ◌∷◌, ◌++◌, length, Option, Some, None, if◌then◌else◌}
-use Rattle.vcl_tree.specs.Phrase.{Phrase, Label, Nothing, At, Named, String, Weight, Integer, Duration, Node, More, Either, Both, Not, Compared, Added, Subtracted, Group, Negative, Called, Bound, Set, Append, Unset, Jump, New, Return, Branch, If, ElseIf, Else, Attribute, Nested, Entry, Masked, Import, NoBackend, Backend, Probe, Acl, Sub}
+use Rattle.vcl_tree.specs.Phrase.{Phrase, Label, Nothing, At, Named, String, Weight, Integer, Duration, Node, More, Either, Both, Not, Compared, Added, Subtracted, Group, Called, Bound, Set, Append, Unset, Jump, New, Return, Branch, If, ElseIf, Else, Attribute, Nested, Entry, Masked, Import, NoBackend, Backend, Probe, Acl, Sub}
 use Rattle.vcl_tree.specs.declared.token.Token.{Token}
 use Rattle.vcl_tree.specs.declared.token.TokenKind.{TokenKind}
 use Rattle.vcl_tree.specs.declared.token.TokenKind.TheVariants as kind
@@ -12,6 +12,7 @@ use Rattle.vcl_tree.specs.declared.expression.Comparison.{Comparison}
 use Rattle.vcl_parse.specs.Starts.{term_sign_of, statement_word_of, item_word_of, else_word_of}
 use Rattle.vcl_tree.specs.Signs.{is_sign, same_sign, comparison_of}
 use Rattle.vcl_tree.specs.Endings.{has_zeros, adds_backend}
+use Rattle.vcl_tree.specs.Numbers.{opposite}
 use Rattle.vcl_tree.specs.Nesting.{opens, level}
 use Rattle.vcl_parse.specs.declared.starts.TermSign.{TermSign}
 use Rattle.vcl_parse.specs.declared.starts.TermSign.TheVariants as term
@@ -30,7 +31,8 @@ pub data Part : Type 0 where
   Comparing : Part
   Sum : Part
   Term : Part
-  Literal : Part
+  -- a literal behind a minus sign at this place
+  Negated : ℕ → Part
   Arguments : Bool → Part
   Argument : Bool → Part
   Assignment : Part
@@ -102,7 +104,7 @@ number_move _ p = None
 
 abbrev pub sign_term : TermSign → ℕ → Option Move
 sign_term term.Group p = Some (At p ∷ [], Read Any ∷ Take sign.CloseParenthesis ∷ Join Group ∷ [])
-sign_term term.Negative p = Some (At p ∷ [], Read Literal ∷ Join Negative ∷ [])
+sign_term term.Negative p = Some ([], Read (Negated p) ∷ [])
 sign_term term.Nothing p = None
 
 abbrev pub term_move : TokenKind → ℕ → Option Move
@@ -114,10 +116,11 @@ term_move (kind.Duration n) p = Some (Duration p n ∷ [], [])
 term_move (kind.String t) p = Some (String p t ∷ [], [])
 term_move (kind.Sign s) p = sign_term (term_sign_of s) p
 
-abbrev pub literal_move : TokenKind → ℕ → Option Move
-literal_move (kind.Integer n) p = Some (Integer p n ∷ [], [])
-literal_move (kind.Duration n) p = Some (Duration p n ∷ [], [])
-literal_move _ p = None
+-- a literal behind a minus sign at this place
+abbrev pub negated_move : TokenKind → ℕ → Option Move
+negated_move (kind.Integer n) p = Some (Integer p (opposite n) ∷ [], [])
+negated_move (kind.Duration n) p = Some (Duration p (opposite n) ∷ [], [])
+negated_move _ p = None
 
 -- a weight stands alone as an argument, where there may be one
 abbrev pub weight_move : Bool → TokenKind → ℕ → Option Move
@@ -244,7 +247,7 @@ read Negation x s vs = from_negation x s vs
 read Comparing x s vs = from_comparing x s vs
 read Sum x s vs = from_sum x s vs
 read Term x s vs = go (term_move x.kind x.place) s vs
-read Literal x s vs = go (literal_move x.kind x.place) s vs
+read (Negated p) x s vs = go (negated_move x.kind p) s vs
 read (Arguments weight) x s vs = go (at_sign sign.OpenParenthesis x (Nothing ∷ []) (Go (FirstArgument weight) ∷ Take sign.CloseParenthesis ∷ [])) s vs
 read (Argument weight) x s vs = or_on (weight_move weight x.kind x.place) s vs (from_any x s vs)
 read Assignment x s vs = go (first_of (at_sign sign.Assign x [] (Read Any ∷ Take sign.Semicolon ∷ Join Bound ∷ Join Set ∷ [])) (at_sign sign.AddAssign x [] (Read Any ∷ Take sign.Semicolon ∷ Join Bound ∷ Join Append ∷ []))) s vs

@@ -1,14 +1,15 @@
 // Expressions.
 #![tactic(auto, using(crate::proofs::Reading::reading))]
 
-ghost use Rattle.std.specs.Prelude.{◌≡◌, ◌∷◌, [], ◌<◌, ◌≤◌, ℕ, Bool, false, List, MatchOption, MatchResult, length};
+ghost use Rattle.std.specs.Prelude.{◌≡◌, ◌∷◌, [], ◌<◌, ◌≤◌, ℕ, Bool, false, List, IfOk, MatchOption, MatchResult, length};
 ghost use Rattle.vcl_tree.specs.Phrase.{Named, list_of};
 ghost use Rattle.vcl_tree.specs.declared.token.Sign.TheVariants as sign;
-ghost use Rattle.vcl_parse.specs.Machine.{Read, Go, Any, All, Negation, Comparing, Sum, Term, Literal, Arguments, Argument, MoreSum, Compares, Calls};
+ghost use Rattle.vcl_parse.specs.Machine.{Read, Go, Any, All, Negation, Comparing, Sum, Term, Negated, Arguments, Argument, MoreSum, Compares, Calls};
 ghost use Rattle.vcl_parse.specs.Steps.{IsRead, IsReadOn, IsStopped, ReadsOne, StopsOne, Adds, ComparesWith, Ends, HasNoWeight, first_starts_term};
 ghost use Rattle.vcl_tree.specs.Signs.{first_is};
+ghost use Rattle.vcl_tree.specs.ExpressionForm.{looseness};
 
-use crate::making::{all_of, any_of, call_of, compared, group_of, negative_of, not_of, sum_from};
+use crate::making::{all_of, any_of, call_of, compared, group_of, not_of, opposite_of, sum_from};
 use crate::names::has_zero_fraction;
 use crate::signs::{begins, behind_sign, enter, expect, split};
 use crate::starts::comparison;
@@ -36,9 +37,10 @@ pub fn any(alloc: Global, depth: u32, tokens: &[Token]) -> Result<(Expression, &
 
 #[cycle(expression)]
 fn all(alloc: Global, depth: u32, tokens: &[Token]) -> Result<(Expression, &[Token]), Stop>
-    ensures { MatchResult result
+    ensures read { MatchResult result
         (λ x. IsRead (Read All) depth tokens.now x.0 x.1.now)
         (λ why. IsStopped (Read All) depth tokens.now why) }
+    ensures binds { IfOk result (λ x. looseness x.0 ≤ 4) }
 {
     let (first, mut rest) = negation(alloc, depth, tokens)?;
     let mut others = Vec::new(alloc);
@@ -52,9 +54,10 @@ fn all(alloc: Global, depth: u32, tokens: &[Token]) -> Result<(Expression, &[Tok
 
 #[cycle(expression)]
 fn negation(alloc: Global, depth: u32, tokens: &[Token]) -> Result<(Expression, &[Token]), Stop>
-    ensures { MatchResult result
+    ensures read { MatchResult result
         (λ x. IsRead (Read Negation) depth tokens.now x.0 x.1.now)
         (λ why. IsStopped (Read Negation) depth tokens.now why) }
+    ensures binds { IfOk result (λ x. looseness x.0 ≤ 3) }
 {
     let Some((place, behind)) = behind_sign(tokens, Sign::Not) else {
         return comparing(alloc, depth, tokens);
@@ -65,9 +68,10 @@ fn negation(alloc: Global, depth: u32, tokens: &[Token]) -> Result<(Expression, 
 
 #[cycle(expression)]
 fn comparing(alloc: Global, depth: u32, tokens: &[Token]) -> Result<(Expression, &[Token]), Stop>
-    ensures { MatchResult result
+    ensures read { MatchResult result
         (λ x. IsRead (Read Comparing) depth tokens.now x.0 x.1.now)
         (λ why. IsStopped (Read Comparing) depth tokens.now why) }
+    ensures binds { IfOk result (λ x. looseness x.0 ≤ 2) }
 {
     let (left, rest) = sum(alloc, depth, tokens)?;
     let Some((how, behind)) = comparison_at(rest) else {
@@ -79,9 +83,10 @@ fn comparing(alloc: Global, depth: u32, tokens: &[Token]) -> Result<(Expression,
 
 #[cycle(expression)]
 fn sum(alloc: Global, depth: u32, tokens: &[Token]) -> Result<(Expression, &[Token]), Stop>
-    ensures { MatchResult result
+    ensures read { MatchResult result
         (λ x. IsRead (Read Sum) depth tokens.now x.0 x.1.now)
         (λ why. IsStopped (Read Sum) depth tokens.now why) }
+    ensures binds { IfOk result (λ x. looseness x.0 ≤ 1) }
 {
     let (first, mut rest) = term(alloc, depth, tokens)?;
     let mut others = Vec::new(alloc);
@@ -95,9 +100,10 @@ fn sum(alloc: Global, depth: u32, tokens: &[Token]) -> Result<(Expression, &[Tok
 
 #[cycle(expression)]
 fn term(alloc: Global, depth: u32, tokens: &[Token]) -> Result<(Expression, &[Token]), Stop>
-    ensures { MatchResult result
+    ensures read { MatchResult result
         (λ x. IsRead (Read Term) depth tokens.now x.0 x.1.now)
         (λ why. IsStopped (Read Term) depth tokens.now why) }
+    ensures binds { IfOk result (λ x. looseness x.0 ≤ 0) }
 {
     let Some((place, behind)) = behind_sign(tokens, Sign::OpenParenthesis) else {
         return plain_term(alloc, depth, tokens);
@@ -112,9 +118,10 @@ fn term(alloc: Global, depth: u32, tokens: &[Token]) -> Result<(Expression, &[To
 #[cycle(expression)]
 fn plain_term(alloc: Global, depth: u32, tokens: &[Token]) -> Result<(Expression, &[Token]), Stop>
     requires { first_is sign.OpenParenthesis tokens.now ≡ false }
-    ensures { MatchResult result
+    ensures read { MatchResult result
         (λ x. IsRead (Read Term) depth tokens.now x.0 x.1.now)
         (λ why. IsStopped (Read Term) depth tokens.now why) }
+    ensures binds { IfOk result (λ x. looseness x.0 ≤ 0) }
 {
     let Some((first, rest)) = split(tokens) else {
         return Err(Stop::Syntax(0));
@@ -139,8 +146,7 @@ fn plain_term(alloc: Global, depth: u32, tokens: &[Token]) -> Result<(Expression
             if *sign != Sign::Minus {
                 return Err(Stop::Syntax(tokens.len()));
             }
-            let (operand, rest) = literal(rest)?;
-            Ok((negative_of(alloc, first.place, operand)?, rest))
+            negated(first.place, rest)
         }
     }
 }
@@ -154,9 +160,10 @@ fn named<'a>(
     name: &Text,
     tokens: &'a [Token],
 ) -> Result<(Expression, &'a [Token]), Stop>
-    ensures { MatchResult result
+    ensures read { MatchResult result
         (λ x. IsReadOn (Go Calls) depth (Named place name.now) tokens.now x.0 x.1.now)
         (λ why. IsStopped (Go Calls) depth tokens.now why) }
+    ensures binds { IfOk result (λ x. looseness x.0 ≤ 0) }
 {
     if !begins(tokens, Sign::OpenParenthesis) {
         let operation = Operation::Name(place, name.copy()?);
@@ -234,18 +241,19 @@ fn weight_at(weight: bool, tokens: &[Token]) -> Result<Option<(Expression, &[Tok
     Ok(Some((Expression { operation }, rest)))
 }
 
-// An integer or a duration.
-fn literal(tokens: &[Token]) -> Result<(Expression, &[Token]), Stop>
-    ensures { MatchResult result
-        (λ x. ReadsOne (Read Literal) tokens.now x.0 x.1.now)
-        (λ why. StopsOne (Read Literal) tokens.now why) }
+// The integer or the duration behind a minus sign at this place.
+fn negated(place: u32, tokens: &[Token]) -> Result<(Expression, &[Token]), Stop>
+    ensures read { MatchResult result
+        (λ x. ReadsOne (Read (Negated place)) tokens.now x.0 x.1.now)
+        (λ why. StopsOne (Read (Negated place)) tokens.now why) }
+    ensures binds { IfOk result (λ x. looseness x.0 ≤ 0) }
 {
     let Some((first, rest)) = split(tokens) else {
         return Err(Stop::Syntax(0));
     };
     let operation = match first.kind {
-        TokenKind::Integer(n) => Operation::Integer(first.place, n),
-        TokenKind::Duration(n) => Operation::Duration(first.place, n),
+        TokenKind::Integer(n) => Operation::Integer(place, opposite_of(n)),
+        TokenKind::Duration(n) => Operation::Duration(place, opposite_of(n)),
         _ => return Err(Stop::Syntax(tokens.len())),
     };
     Ok((Expression { operation }, rest))

@@ -163,6 +163,6 @@ fn sub(alloc: Global, place: u32, tokens: &[Token]) -> Result<(Item, &[Token]), 
         (λ why. IsStoppedAll (NewName ∷ Read Block ∷ Join Bound ∷ Join Sub ∷ []) 0 (At place) tokens.now why) }
 {
     let (name, rest) = new_name(tokens)?;
-    let (statements, rest) = block(alloc, 0, rest)?;
-    Ok((Item::Sub(place, name, Sequence::from_vec(statements)), rest))
+    let (block, rest) = block(alloc, 0, rest)?;
+    Ok((Item::Sub(place, name, block), rest))
 }

@@ -1,23 +1,26 @@
 // Expressions from their parts.
-ghost use Rattle.std.specs.Prelude.{◌≡◌, ◌∷◌, [], IfOk};
-ghost use Rattle.vcl_tree.specs.Phrase.{Either, Both, Not, Group, Negative, Called, Compared, Node, At, Named, chain, list_of};
+ghost use Rattle.std.specs.Prelude.{◌≡◌, ◌∷◌, [], ◌<◌, ◌≤◌, IfOk};
+ghost use Rattle.vcl_tree.specs.Phrase.{Either, Both, Not, Group, Called, Compared, Node, At, Named, chain, list_of};
 ghost use Rattle.std.specs.Prelude.{Option};
-ghost use Rattle.vcl_tree.specs.Phrase.{Bound, New, Return, Jump, Unset, If};
+ghost use Rattle.vcl_tree.specs.Phrase.{Bound, New, Return, Jump, Unset, If, ElseIf};
 ghost use Rattle.vcl_tree.specs.ExpressionView.{sum_of};
-ghost use Rattle.vcl_tree.specs.StatementView.{name_of, branch_of, branches_of};
+ghost use Rattle.vcl_tree.specs.StatementView.{name_of, with_else};
+ghost use Rattle.vcl_tree.specs.ExpressionForm.{looseness};
+ghost use Rattle.vcl_tree.specs.Numbers.{opposite};
 ghost use Rattle.vcl_parse.specs.Steps.{set_label};
-ghost use Rattle.vcl_parse.specs.Elses.{with_else};
 
 use std::alloc::{AllocError, Global};
 use units::Text;
-use vcl_tree::{Action, Addend, Branch, Comparison, Expression, Name, Operation, Statement};
+use vcl_tree::{Action, Addend, Block, Branch, Comparison, Expression, Name, Operation, Statement};
 
+#[tactic(auto, using(crate::proofs::Binding::binding))]
 pub fn any_of(
     alloc: Global,
     first: Expression,
     mut others: Vec<Expression>,
 ) -> Result<Expression, AllocError>
-    ensures { IfOk result (λ e. e ≡ chain Either first others.items) }
+    requires { looseness first < 5 }
+    ensures made { IfOk result (λ e. e ≡ chain Either first others.items) }
 {
     if others.is_empty() {
         return Ok(first);
@@ -27,12 +30,15 @@ pub fn any_of(
     Ok(Expression { operation })
 }
 
+#[tactic(auto, using(crate::proofs::Binding::binding))]
 pub fn all_of(
     alloc: Global,
     first: Expression,
     mut others: Vec<Expression>,
 ) -> Result<Expression, AllocError>
-    ensures { IfOk result (λ e. e ≡ chain Both first others.items) }
+    requires { looseness first < 4 }
+    ensures made { IfOk result (λ e. e ≡ chain Both first others.items) }
+    ensures binds { IfOk result (λ e. looseness e ≤ 4) }
 {
     if others.is_empty() {
         return Ok(first);
@@ -42,12 +48,15 @@ pub fn all_of(
     Ok(Expression { operation })
 }
 
+#[tactic(auto, using(crate::proofs::Binding::binding))]
 pub fn sum_from(
     alloc: Global,
     first: Expression,
     mut others: Vec<Addend>,
 ) -> Result<Expression, AllocError>
-    ensures { IfOk result (λ e. e ≡ sum_of first others.items) }
+    requires { looseness first < 1 }
+    ensures made { IfOk result (λ e. e ≡ sum_of first others.items) }
+    ensures binds { IfOk result (λ e. looseness e ≤ 1) }
 {
     if others.is_empty() {
         return Ok(first);
@@ -71,13 +80,6 @@ pub fn group_of(alloc: Global, place: u32, operand: Expression) -> Result<Expres
     Ok(Expression { operation })
 }
 
-pub fn negative_of(alloc: Global, place: u32, operand: Expression) -> Result<Expression, AllocError>
-    ensures { IfOk result (λ e. e ≡ Node Negative (At place) operand) }
-{
-    let operation = Operation::Negative(place, Box::new(alloc, operand)?);
-    Ok(Expression { operation })
-}
-
 pub fn compared(
     alloc: Global,
     how: Comparison,
@@ -88,6 +90,14 @@ pub fn compared(
 {
     let operation = Operation::Compare(how, Box::new(alloc, left)?, Box::new(alloc, right)?);
     Ok(Expression { operation })
+}
+
+/// The number with a minus sign before it.
+#[tactic(auto, unfolding(vcl_tree::specs::Numbers::opposite))]
+pub fn opposite_of(n: i64) -> i64
+    ensures { result ≡ opposite n }
+{
+    n.wrapping_neg()
 }
 
 pub fn call_of(place: u32, name: Text, arguments: Vec<Expression>) -> Expression
@@ -165,17 +175,12 @@ pub fn if_of(
     place: u32,
     first: Branch,
     others: Vec<Branch>,
-    otherwise: Option<Vec<Statement>>,
+    otherwise: Option<Block>,
 ) -> Result<Statement, AllocError>
-    ensures { IfOk result (λ e. e ≡ with_else (branches_of (Node If (At place) (branch_of first)) others.items) otherwise) }
+    ensures { IfOk result (λ e. e ≡ with_else (chain ElseIf (Node If (At place) first) others.items) otherwise) }
 {
     let first = Box::new(alloc, first)?;
-    match otherwise {
-        Some(block) => Ok(Statement {
-            action: Action::If(place, first, others, Some(block)),
-        }),
-        None => Ok(Statement {
-            action: Action::If(place, first, others, None),
-        }),
-    }
+    Ok(Statement {
+        action: Action::If(place, first, others, otherwise),
+    })
 }

@@ -2,10 +2,9 @@
 #![tactic(auto, using(crate::proofs::Reading::reading))]
 
 ghost use Rattle.std.specs.Prelude.{◌≡◌, ◌∷◌, ◌++◌, [], ◌≤◌, ℕ, List, false, MatchOption, MatchResult, length};
-ghost use Rattle.vcl_tree.specs.Phrase.{Phrase, Named, At, list_of};
-ghost use Rattle.vcl_tree.specs.StatementView.{branch_of, branches_of};
+ghost use Rattle.vcl_tree.specs.Phrase.{Phrase, Named, At};
 ghost use Rattle.vcl_tree.specs.declared.token.Sign.TheVariants as sign;
-ghost use Rattle.vcl_parse.specs.Machine.{Want, Read, Go, Join, Take, AnyName, NewName, Assignment, Arguments, Ending, Condition, Block, AfterElse, MoreElse, MoreStatements, watch};
+ghost use Rattle.vcl_parse.specs.Machine.{Want, Read, Go, Join, Take, AnyName, NewName, Assignment, Arguments, Ending, Condition, AfterElse, MoreElse, MoreStatements, watch};
 ghost use Rattle.vcl_tree.specs.Endings.{adds_backend};
 ghost use Rattle.vcl_parse.specs.Machine as machine;
 ghost use Rattle.vcl_tree.specs.Phrase.{Called, Bound, New, Unset, Jump, Return, If};
@@ -21,18 +20,14 @@ use crate::starts::{ElseWord, StatementWord, else_word, statement_word};
 use crate::stop::Stop;
 use std::alloc::Global;
 use units::Text;
-use vcl_tree::{Branch, Sign, Statement, Token, TokenKind};
+use vcl_tree::{Block, Branch, Sign, Statement, Token, TokenKind};
 
 /// Statements in braces.
 #[cycle(statement)]
-pub fn block(
-    alloc: Global,
-    depth: u32,
-    tokens: &[Token],
-) -> Result<(Vec<Statement>, &[Token]), Stop>
+pub fn block(alloc: Global, depth: u32, tokens: &[Token]) -> Result<(Block, &[Token]), Stop>
     ensures { MatchResult result
-        (λ x. IsRead (Read Block) depth tokens.now (list_of x.0.items) x.1.now)
-        (λ why. IsStopped (Read Block) depth tokens.now why) }
+        (λ x. IsRead (Read machine.Block) depth tokens.now x.0 x.1.now)
+        (λ why. IsStopped (Read machine.Block) depth tokens.now why) }
 {
     let Some((_, behind)) = behind_sign(tokens, Sign::OpenBrace) else {
         return Err(Stop::Syntax(tokens.len()));
@@ -44,7 +39,7 @@ pub fn block(
         statements.push(statement)?;
         rest = later;
     }
-    Ok((statements, expect(rest, Sign::CloseBrace)?))
+    Ok((Block { statements }, expect(rest, Sign::CloseBrace)?))
 }
 
 // The statement at the front, if one begins there.
@@ -138,7 +133,7 @@ fn conditional(
 #[cycle(statement)]
 fn branch(alloc: Global, depth: u32, tokens: &[Token]) -> Result<(Branch, &[Token]), Stop>
     ensures { MatchResult result
-        (λ x. IsRead (Read Condition) depth tokens.now (branch_of x.0) x.1.now)
+        (λ x. IsRead (Read Condition) depth tokens.now x.0 x.1.now)
         (λ why. IsStopped (Read Condition) depth tokens.now why) }
 {
     let Some((_, behind)) = behind_sign(tokens, Sign::OpenParenthesis) else {

@@ -181,11 +181,11 @@ fn push_item(out: &mut String, item: &Item) -> Result<(), AllocError> {
             attributes.as_slice().len(),
         )?,
         Item::Acl(_, name, entries) => push_counted(out, "acl", name, entries.as_slice().len())?,
-        Item::Sub(_, name, statements) => push_counted(
+        Item::Sub(_, name, block) => push_counted(
             out,
             "sub",
             name,
-            statements.as_slice().len(),
+            block.statements.as_slice().len(),
         )?,
     }
     out.push_str(", ")

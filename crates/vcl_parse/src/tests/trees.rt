@@ -32,14 +32,14 @@ const EXPRESSIONS: [(&str, &str); 35] = [
     ("\"a\" + \"b\"", "sum string + string"),
     ("a - b + c d", "sum name - name + name + name"),
     ("a -1", "sum name - integer"),
-    ("a - -1", "sum name - negative"),
-    ("a + -1s", "sum name + negative"),
-    ("-1 -1", "sum negative - integer"),
+    ("a - -1", "sum name - -integer"),
+    ("a + -1s", "sum name + -duration"),
+    ("-1 -1", "sum -integer - integer"),
     ("1 (a)", "sum integer + group"),
     ("f (a)", "call name"),
     ("f() (a)", "sum call + group"),
     ("f(a b, c || d, g())", "call sum any call"),
-    ("-1s", "negative duration"),
+    ("-1s", "-duration"),
     ("((a))", "group group"),
     ("true", "name"),
 ];
@@ -118,7 +118,7 @@ fn statement_shown(alloc: Global, text: &str) -> Result<String, AllocError> {
 
 fn first_statement(tree: &Tree) -> Option<&Statement> {
     match tree.items.as_slice().first()? {
-        Item::Sub(_, _, statements) => statements.as_slice().first(),
+        Item::Sub(_, _, block) => block.statements.as_slice().first(),
         _ => None,
     }
 }
@@ -149,7 +149,6 @@ fn push_expression(out: &mut String, expression: &Expression) -> Result<(), Allo
         }
         Operation::Not(_, operand) => push_part(out, operand),
         Operation::Group(_, operand) => push_part(out, operand),
-        Operation::Negative(_, operand) => push_part(out, operand),
         Operation::Call(_, _, arguments) => push_all(out, arguments.as_slice()),
         _ => Ok(()),
     }
@@ -188,10 +187,11 @@ fn word_of(expression: &Expression) -> &'static str {
         Operation::Compare(_, _, _) => "compare",
         Operation::Sum(_, _, _) => "sum",
         Operation::Group(_, _) => "group",
-        Operation::Negative(_, _) => "negative",
         Operation::String(_, _) => "string",
+        Operation::Integer(_, n) if *n < 0 => "-integer",
         Operation::Integer(_, _) => "integer",
         Operation::Weight(_, _) => "weight",
+        Operation::Duration(_, n) if *n < 0 => "-duration",
         Operation::Duration(_, _) => "duration",
         Operation::Name(_, _) => "name",
         Operation::Call(_, _, _) => "call",
@@ -203,14 +203,14 @@ fn push_statement(out: &mut String, statement: &Statement) -> Result<(), AllocEr
     match &statement.action {
         Action::If(_, first, others, otherwise) => {
             out.push_str("if")?;
-            push_block(out, first.block.as_slice())?;
+            push_block(out, first.block.statements.as_slice())?;
             for branch in others.as_slice() {
                 out.push_str(" elseif")?;
-                push_block(out, branch.block.as_slice())?;
+                push_block(out, branch.block.statements.as_slice())?;
             }
             if let Some(block) = otherwise {
                 out.push_str(" else")?;
-                push_block(out, block.as_slice())?;
+                push_block(out, block.statements.as_slice())?;
             }
             Ok(())
         }

@@ -1,6 +1,5 @@
 use Rattle.std.proofs.Common.{◌≡◌, ◌∷◌, ◌<◌, ◌+◌, ◌*◌, List, length}
-use Rattle.vcl_tree.specs.Phrase.{Phrase, Node, At, If, list_of}
-use Rattle.vcl_tree.specs.StatementView.{branch_of, branches_of}
+use Rattle.vcl_tree.specs.Phrase.{Phrase, Node, At, If, ElseIf, chain, list_of}
 use Rattle.vcl_parse.specs.Machine.{Want, Read, Go, Join, Block, Condition, MoreElse, MoreStatements, Take, watch}
 use Rattle.vcl_tree.specs.declared.token.Sign.TheVariants as sign
 use Rattle.vcl_parse.proofs.statements.+statement.Given as goal
@@ -29,7 +28,7 @@ decreases-block-loop-statements l = length l.rest
 abbrev pub invariant-conditional-branches : goal.invariant-conditional-branches
 invariant-conditional-branches l = record {
   shorter : length l.rest < length l.tokens;
-  watched : (s : List Want) (vs : List Phrase) → watch l.depth (Read Condition ∷ Join If ∷ Go MoreElse ∷ s) (At l.place ∷ vs) l.tokens ≡ watch l.depth (Go MoreElse ∷ s) (branches_of (Node If (At l.place) (branch_of l.first)) l.others.items ∷ vs) l.rest;
+  watched : (s : List Want) (vs : List Phrase) → watch l.depth (Read Condition ∷ Join If ∷ Go MoreElse ∷ s) (At l.place ∷ vs) l.tokens ≡ watch l.depth (Go MoreElse ∷ s) (chain ElseIf (Node If (At l.place) l.first) l.others.items ∷ vs) l.rest;
 }
 
 abbrev pub decreases-conditional-branches : goal.decreases-conditional-branches
