@@ -28,10 +28,10 @@ living : (place : Place) (room : ℕ) → IsSound place room → Living place
 living Whole room sound = record { text = []; added = []; left = (refl, refl); size = refl }
 living (Sized n) room sound = record { text = zeros n; added = zeros n; left = (refl, zeros_length n); size = zeros_length n }
 living Open room sound = record { text = []; added = []; left = refl; size = refl }
-living (Data n) room sound = record {
+living (Data n spare) room sound = record {
   text = zeros n ++ 13 ∷ 10 ∷ 48 ∷ 13 ∷ 10 ∷ 10 ∷ [];
   added = zeros n ++ [];
-  left = data_lives n;
+  left = data_lives n spare;
   size = omega (arith, length-append (zeros n) [], zeros_length n);
 }
 living (Line part) room sound =
@@ -60,14 +60,14 @@ goes_on (Sized zero) kept limit room sound other = absurd (omega (arith, sound.w
 goes_on (Sized (suc n)) kept limit room sound other =
     (0, zeros n, kept ++ 0 ∷ zeros n, record { added = 0 ∷ zeros n; left = (refl, omega (arith, zeros_length n)); whole = refl })
 goes_on Open kept limit room sound other = (0, [], kept ++ 0 ∷ [], record { added = 0 ∷ []; left = refl; whole = refl })
-goes_on (Data zero) kept limit room sound other = absurd (omega (arith, sound.waits))
-goes_on (Data (suc n)) kept limit room sound other = (
+goes_on (Data zero spare) kept limit room sound other = absurd (omega (arith, sound.waits))
+goes_on (Data (suc n) spare) kept limit room sound other = (
   0,
   zeros n ++ 13 ∷ 10 ∷ 48 ∷ 13 ∷ 10 ∷ 10 ∷ [],
   kept ++ (0 ∷ zeros n ++ []),
   record {
     added = 0 ∷ zeros n ++ [];
-    left = (0 ∷ zeros n, 48 ∷ 13 ∷ 10 ∷ 10 ∷ [], [], refl, omega (arith, zeros_length n), last_chunk, refl);
+    left = (0 ∷ zeros n, 48 ∷ 13 ∷ 10 ∷ 10 ∷ [], [], refl, omega (arith, zeros_length n), last_chunk spare, refl);
     whole = refl;
   },
 )
@@ -164,7 +164,7 @@ kinds_are NoMemory s bytes kind = absurd kind
 
 -- a line isn't over before its end
 line_some : (part : LinePart) (added : List ℕ) → ¬ (LineLeft part [] added)
-line_some (Size digits size) added e =
+line_some (Size digits size spare) added e =
     omega (
       arith,
       ap length e.reads,
@@ -172,11 +172,11 @@ line_some (Size digits size) added e =
       ap length e.line.reads,
       length-append (e.line.pad ++ print_extension e.line.extension) (13 ∷ 10 ∷ e.line.rest),
     )
-line_some (Blanks size left) added e = omega (arith, ap length e.reads, length-append (e.pad ++ print_extension e.extension) (13 ∷ 10 ∷ e.rest))
-line_some (Extension size left) added e = omega (arith, ap length e.reads, length-append e.more (13 ∷ 10 ∷ e.rest))
-line_some (LineFeed size) added e = omega (arith, ap length e.1)
-line_some DataReturn added e = omega (arith, ap length e.1)
-line_some DataFeed added e = omega (arith, ap length e.1)
+line_some (Blanks size left spare) added e = omega (arith, ap length e.reads, length-append (e.pad ++ print_extension e.extension) (13 ∷ 10 ∷ e.rest))
+line_some (Extension size left spare) added e = omega (arith, ap length e.reads, length-append e.more (13 ∷ 10 ∷ e.rest))
+line_some (LineFeed size spare) added e = omega (arith, ap length e.1)
+line_some (DataReturn spare) added e = omega (arith, ap length e.1)
+line_some (DataFeed spare) added e = omega (arith, ap length e.1)
 line_some (TrailerLine fields left) added e = omega (arith, section_some fields [] e.0)
 line_some (FieldName fields left) added e = omega (arith, name_some fields [] e.0)
 line_some (FieldValue fields left) added e = omega (arith, value_some fields [] e.0)
@@ -189,7 +189,7 @@ pub finished : (place : Place) (kept : List ℕ) (limit room : ℕ) → IsSound 
 finished Whole kept limit room sound body m = inl refl
 finished (Sized n) kept limit room sound body m = absurd (omega (arith, sound.waits, m.ends.left.1, ap length m.ends.left.0))
 finished Open kept limit room sound body m = inr refl
-finished (Data n) kept limit room sound body m = absurd (omega (arith, ap length m.ends.left.3, length-append m.ends.left.0 (13 ∷ 10 ∷ m.ends.left.1)))
+finished (Data n spare) kept limit room sound body m = absurd (omega (arith, ap length m.ends.left.3, length-append m.ends.left.0 (13 ∷ 10 ∷ m.ends.left.1)))
 finished (Line part) kept limit room sound body m = absurd (line_some part m.ends.added m.ends.left)
 finished (Refused e) kept limit room sound body m = absurd m.ends.left
 
@@ -218,8 +218,8 @@ takes_body a b piece at within whole follows sound fits = record {
 -- ---- at the start of the bytes
 
 -- before the first chunk
-pub chunks_end : (limit : ℕ) (text body : List ℕ) → Ends (state (Line (Size 0 0)) [] limit) text body ↔ IsChunked text body
+pub chunks_end : (limit : ℕ) (text body : List ℕ) → Ends (state (Line (Size 0 0 32768)) [] limit) text body ↔ IsChunked 32768 text body
 chunks_end limit text body = (
-  λ e. subst (λ (b : List ℕ). IsChunked text b) (sym e.whole) ((chunks_left text e.added).0 e.left),
-  λ b. record { added = body; left = (chunks_left text body).1 b; whole = refl },
+  λ e. subst (λ (b : List ℕ). IsChunked 32768 text b) (sym e.whole) ((chunks_left 32768 text e.added).0 e.left),
+  λ b. record { added = body; left = (chunks_left 32768 text body).1 b; whole = refl },
 )

@@ -20,8 +20,8 @@ trailer : IsTrailer (10 ∷ [])
 trailer = record { fields = []; last = lf; reads = ((λ k d lt. absurd (omega (arith, lt))), refl); few = omega arith; short = omega arith }
 
 -- the end of a chunk's line, where the size is 0
-zero_line : LineLeft (Size 1 0) (13 ∷ 10 ∷ 10 ∷ []) []
-zero_line = record {
+zero_line : (spare : ℕ) → LineLeft (Size 1 0 spare) (13 ∷ 10 ∷ 10 ∷ []) []
+zero_line spare = record {
   more = [];
   rest = 13 ∷ 10 ∷ 10 ∷ [];
   reads = refl;
@@ -38,12 +38,14 @@ zero_line = record {
     blanks = pass_nil is_ows;
     plain = tt;
     short = omega arith;
+    later = spare;
+    spends = omega arith;
     behind = inl (refl, trailer, refl);
   };
 }
 
-pub last_chunk : IsChunked (48 ∷ 13 ∷ 10 ∷ 10 ∷ []) []
-last_chunk = (chunks_left (48 ∷ 13 ∷ 10 ∷ 10 ∷ []) []).0 ((size_digit 0 0 48 refl (13 ∷ 10 ∷ 10 ∷ []) []).0 zero_line)
+pub last_chunk : (spare : ℕ) → IsChunked spare (48 ∷ 13 ∷ 10 ∷ 10 ∷ []) []
+last_chunk spare = (chunks_left spare (48 ∷ 13 ∷ 10 ∷ 10 ∷ []) []).0 ((size_digit 0 0 spare 48 refl (13 ∷ 10 ∷ 10 ∷ []) []).0 (zero_line spare))
 
 pub zeros : ℕ → List ℕ
 zeros n = replicate n 0
@@ -53,15 +55,15 @@ unfolding zeros
 zeros_length n = length-replicate n 0
 
 -- so many bytes of data and the last chunk
-pub data_lives : (n : ℕ) → DataRest n (zeros n ++ 13 ∷ 10 ∷ 48 ∷ 13 ∷ 10 ∷ 10 ∷ []) (zeros n ++ [])
-data_lives n = (zeros n, 48 ∷ 13 ∷ 10 ∷ 10 ∷ [], [], refl, zeros_length n, last_chunk, refl)
+pub data_lives : (n spare : ℕ) → DataRest n spare (zeros n ++ 13 ∷ 10 ∷ 48 ∷ 13 ∷ 10 ∷ 10 ∷ []) (zeros n ++ [])
+data_lives n spare = (zeros n, 48 ∷ 13 ∷ 10 ∷ 10 ∷ [], [], refl, zeros_length n, last_chunk spare, refl)
 
-pub behind_lives : (size : ℕ) → (text : List ℕ) × (added : List ℕ) × BehindLine size text added × (length added ≡ size)
-behind_lives zero = (10 ∷ [], [], inl (refl, trailer, refl), refl)
-behind_lives (suc n) = (
+pub behind_lives : (size spare : ℕ) → (text : List ℕ) × (added : List ℕ) × BehindLine size spare text added × (length added ≡ size)
+behind_lives zero spare = (10 ∷ [], [], inl (refl, trailer, refl), refl)
+behind_lives (suc n) spare = (
   zeros (suc n) ++ 13 ∷ 10 ∷ 48 ∷ 13 ∷ 10 ∷ 10 ∷ [],
   zeros (suc n) ++ [],
-  inr (omega arith, data_lives (suc n)),
+  inr (omega arith, data_lives (suc n) spare),
   omega (arith, length-append (zeros (suc n)) [], zeros_length (suc n)),
 )
 
@@ -76,8 +78,8 @@ empty_value : (most : ℕ) → ValueRest most (10 ∷ 10 ∷ [])
 empty_value most = record { raw = []; last = lf; rest = 10 ∷ []; reads = refl; plain = pass_nil is_value_byte; section = no_fields most }
 
 -- nothing more before the line's end
-plain_end : (size left : ℕ) → 2 ≤ left → (text added : List ℕ) → BehindLine size text added → BlanksRest size left (13 ∷ 10 ∷ text) added
-plain_end size left wide text added behind = record {
+plain_end : (size left spare : ℕ) → 2 ≤ left → (text added : List ℕ) → BehindLine size spare text added → BlanksRest size left spare (13 ∷ 10 ∷ text) added
+plain_end size left spare wide text added behind = record {
   pad = [];
   extension = None;
   rest = text;
@@ -85,21 +87,23 @@ plain_end size left wide text added behind = record {
   blanks = pass_nil is_ows;
   plain = tt;
   short = omega arith;
+  later = spare;
+  spends = omega arith;
   behind = behind;
 }
 
 pub line_lives : (part : LinePart) → LineWaits part → Lives part
-line_lives (Size zero size) waits =
+line_lives (Size zero size spare) waits =
     let zero_size : size ≡ 0 = waits.1 refl in
     record {
       byte = 48;
       text = 13 ∷ 10 ∷ 10 ∷ [];
       added = [];
-      left = subst (λ (n : ℕ). LineLeft (Size 0 n) (48 ∷ 13 ∷ 10 ∷ 10 ∷ []) []) (sym zero_size) ((size_digit 0 0 48 refl (13 ∷ 10 ∷ 10 ∷ []) []).0 zero_line);
+      left = subst (λ (n : ℕ). LineLeft (Size 0 n spare) (48 ∷ 13 ∷ 10 ∷ 10 ∷ []) []) (sym zero_size) ((size_digit 0 0 spare 48 refl (13 ∷ 10 ∷ 10 ∷ []) []).0 (zero_line spare));
       size = omega (arith, zero_size);
     }
-line_lives (Size (suc digits) size) waits =
-    let behind = behind_lives size in
+line_lives (Size (suc digits) size spare) waits =
+    let behind = behind_lives size spare in
     record {
       byte = 13;
       text = 10 ∷ behind.0;
@@ -113,27 +117,36 @@ line_lives (Size (suc digits) size) waits =
         few = omega (arith, waits.0);
         left = 32768 - suc digits;
         total = omega (arith, waits.0);
-        line = plain_end size (32768 - suc digits) (omega (arith, waits.0)) behind.0 behind.1 behind.2;
+        line = plain_end size (32768 - suc digits) spare (omega (arith, waits.0)) behind.0 behind.1 behind.2;
       };
       size = behind.3;
     }
-line_lives (Blanks size left) waits =
-    let behind = behind_lives size in
-    record { byte = 13; text = 10 ∷ behind.0; added = behind.1; left = plain_end size left waits behind.0 behind.1 behind.2; size = behind.3 }
-line_lives (Extension size left) waits =
-    let behind = behind_lives size in
+line_lives (Blanks size left spare) waits =
+    let behind = behind_lives size spare in
+    record { byte = 13; text = 10 ∷ behind.0; added = behind.1; left = plain_end size left spare waits behind.0 behind.1 behind.2; size = behind.3 }
+line_lives (Extension size left spare) waits =
+    let behind = behind_lives size spare in
     record {
       byte = 13;
       text = 10 ∷ behind.0;
       added = behind.1;
-      left = record { more = []; rest = behind.0; reads = refl; plain = pass_nil is_extension_byte; short = omega (arith, waits); behind = behind.2 };
+      left = record {
+        more = [];
+        rest = behind.0;
+        reads = refl;
+        plain = pass_nil is_extension_byte;
+        short = omega (arith, waits);
+        later = spare;
+        spends = omega arith;
+        behind = behind.2;
+      };
       size = behind.3;
     }
-line_lives (LineFeed size) waits =
-    let behind = behind_lives size in
+line_lives (LineFeed size spare) waits =
+    let behind = behind_lives size spare in
     record { byte = 10; text = behind.0; added = behind.1; left = (behind.0, refl, behind.2); size = behind.3 }
-line_lives DataReturn waits = record { byte = 13; text = 10 ∷ 48 ∷ 13 ∷ 10 ∷ 10 ∷ []; added = []; left = (48 ∷ 13 ∷ 10 ∷ 10 ∷ [], refl, last_chunk); size = refl }
-line_lives DataFeed waits = record { byte = 10; text = 48 ∷ 13 ∷ 10 ∷ 10 ∷ []; added = []; left = (48 ∷ 13 ∷ 10 ∷ 10 ∷ [], refl, last_chunk); size = refl }
+line_lives (DataReturn spare) waits = record { byte = 13; text = 10 ∷ 48 ∷ 13 ∷ 10 ∷ 10 ∷ []; added = []; left = (48 ∷ 13 ∷ 10 ∷ 10 ∷ [], refl, last_chunk spare); size = refl }
+line_lives (DataFeed spare) waits = record { byte = 10; text = 48 ∷ 13 ∷ 10 ∷ 10 ∷ []; added = []; left = (48 ∷ 13 ∷ 10 ∷ 10 ∷ [], refl, last_chunk spare); size = refl }
 line_lives (TrailerLine fields left) waits = record { byte = 10; text = []; added = []; left = (no_fields fields, omega (arith, waits), refl); size = refl }
 line_lives (FieldName fields left) waits = record {
   byte = 58;

@@ -16,11 +16,11 @@ use Rattle.http_bodies.proofs.LivingFacts.{line_lives}
 
 -- ---- data
 
-pub data_more : (n : ℕ) (d kept : List ℕ) (limit : ℕ) → length d ≤ n
-    → Follows (state (Data n) kept limit) (state (Data (n - length d)) (kept ++ d) limit) d
-data_more n d kept limit fits = record { limit = refl; ends = λ text body. (there text body, back text body) }
+pub data_more : (n spare : ℕ) (d kept : List ℕ) (limit : ℕ) → length d ≤ n
+    → Follows (state (Data n spare) kept limit) (state (Data (n - length d) spare) (kept ++ d) limit) d
+data_more n spare d kept limit fits = record { limit = refl; ends = λ text body. (there text body, back text body) }
   where
-    there : (text body : List ℕ) → Ends (state (Data (n - length d)) (kept ++ d) limit) text body → Ends (state (Data n) kept limit) (d ++ text) body
+    there : (text body : List ℕ) → Ends (state (Data (n - length d) spare) (kept ++ d) limit) text body → Ends (state (Data n spare) kept limit) (d ++ text) body
     there text body m =
         let e = m.left.0 in
         let next = m.left.1 in
@@ -39,7 +39,7 @@ data_more n d kept limit fits = record { limit = refl; ends = λ text body. (the
           whole = m.whole ∙ append_assoc kept d m.added;
         }
 
-    back : (text body : List ℕ) → Ends (state (Data n) kept limit) (d ++ text) body → Ends (state (Data (n - length d)) (kept ++ d) limit) text body
+    back : (text body : List ℕ) → Ends (state (Data n spare) kept limit) (d ++ text) body → Ends (state (Data (n - length d) spare) (kept ++ d) limit) text body
     back text body m =
         let e = m.left.0 in
         let next = m.left.1 in
@@ -52,18 +52,18 @@ data_more n d kept limit fits = record { limit = refl; ends = λ text body. (the
           whole = m.whole ∙ ap (λ (l : List ℕ). kept ++ l) (m.left.6 ∙ ap (λ (l : List ℕ). l ++ more) split.1 ∙ append_assoc d rest more) ∙ sym (append_assoc kept d (rest ++ more));
         }
 
-pub data_end : (n : ℕ) (d kept : List ℕ) (limit : ℕ) → length d ≡ n
-    → Follows (state (Data n) kept limit) (state (Line DataReturn) (kept ++ d) limit) d
-data_end n d kept limit fits = record { limit = refl; ends = λ text body. (there text body, back text body) }
+pub data_end : (n spare : ℕ) (d kept : List ℕ) (limit : ℕ) → length d ≡ n
+    → Follows (state (Data n spare) kept limit) (state (Line (DataReturn spare)) (kept ++ d) limit) d
+data_end n spare d kept limit fits = record { limit = refl; ends = λ text body. (there text body, back text body) }
   where
-    there : (text body : List ℕ) → Ends (state (Line DataReturn) (kept ++ d) limit) text body → Ends (state (Data n) kept limit) (d ++ text) body
+    there : (text body : List ℕ) → Ends (state (Line (DataReturn spare)) (kept ++ d) limit) text body → Ends (state (Data n spare) kept limit) (d ++ text) body
     there text body m = record {
       added = d ++ m.added;
       left = (d, m.left.0, m.added, ap (λ (l : List ℕ). d ++ l) m.left.1, fits, m.left.2, refl);
       whole = m.whole ∙ append_assoc kept d m.added;
     }
 
-    back : (text body : List ℕ) → Ends (state (Data n) kept limit) (d ++ text) body → Ends (state (Line DataReturn) (kept ++ d) limit) text body
+    back : (text body : List ℕ) → Ends (state (Data n spare) kept limit) (d ++ text) body → Ends (state (Line (DataReturn spare)) (kept ++ d) limit) text body
     back text body m =
         let e = m.left.0 in
         let next = m.left.1 in

@@ -21,12 +21,12 @@ IsRefusal part byte room error =
 
 -- there are bytes left for the rest of a line
 abbrev pub LineWaits : LinePart → Type 0
-LineWaits (Size digits size) = (digits ≤ 16) × (digits ≡ 0 → size ≡ 0)
-LineWaits (Blanks size left) = 2 ≤ left
-LineWaits (Extension size left) = 2 ≤ left
-LineWaits (LineFeed size) = ⊤
-LineWaits DataReturn = ⊤
-LineWaits DataFeed = ⊤
+LineWaits (Size digits size spare) = (digits ≤ 16) × (digits ≡ 0 → size ≡ 0)
+LineWaits (Blanks size left spare) = 2 ≤ left
+LineWaits (Extension size left spare) = 2 ≤ left
+LineWaits (LineFeed size spare) = ⊤
+LineWaits (DataReturn spare) = ⊤
+LineWaits (DataFeed spare) = ⊤
 LineWaits (TrailerLine fields left) = 1 ≤ left
 LineWaits (FieldName fields left) = 3 ≤ left
 LineWaits (FieldValue fields left) = 2 ≤ left
@@ -38,18 +38,18 @@ abbrev pub Waits : Place → Type 0
 Waits Whole = ⊤
 Waits (Sized n) = 0 < n
 Waits Open = ⊤
-Waits (Data n) = 0 < n
+Waits (Data n spare) = 0 < n
 Waits (Line part) = LineWaits part
 Waits (Refused error) = ⊥
 
 -- how many bytes of the body are due at least behind a front of a line
 abbrev pub line_due : LinePart → ℕ
-line_due (Size digits size) = size
-line_due (Blanks size left) = size
-line_due (Extension size left) = size
-line_due (LineFeed size) = size
-line_due DataReturn = 0
-line_due DataFeed = 0
+line_due (Size digits size spare) = size
+line_due (Blanks size left spare) = size
+line_due (Extension size left spare) = size
+line_due (LineFeed size spare) = size
+line_due (DataReturn spare) = 0
+line_due (DataFeed spare) = 0
 line_due (TrailerLine fields left) = 0
 line_due (FieldName fields left) = 0
 line_due (FieldValue fields left) = 0
@@ -61,7 +61,7 @@ abbrev pub due : Place → ℕ
 due Whole = 0
 due (Sized n) = n
 due Open = 0
-due (Data n) = n
+due (Data n spare) = n
 due (Line part) = line_due part
 due (Refused error) = 0
 

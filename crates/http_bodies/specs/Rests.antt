@@ -1,35 +1,38 @@
 -- What may still come of a chunk's line, of its data and of a trailer, once a front of them has come (RFC 9112,
--- section 7.1). `added` is what this adds to the body.
+-- section 7.1). `added` is what this adds to the body, and `spare` how many bytes the lines may still have together beyond
+-- their digits and ends.
 use Rattle.std.specs.Prelude.{◌≡◌, ℕ, ◌+◌, ◌<◌, ◌≤◌, ◌⊎◌, List, [], ◌∷◌, ◌++◌, length, Option, All}
 use Rattle.std.specs.Char.{is_ascii_hexdigit}
 use Rattle.std.specs.Str.Parse.{digits_value_after}
 use Rattle.httparse.specs.Grammar.{AllPass, is_ows, is_token_byte, is_value_byte, is_extension_byte, IsExtension, print_extension, Field as FieldTree, LineEnd, print_end, print_section, IsField}
-use Rattle.http_bodies.specs.Bodies.{IsTrailer, IsChunked}
+use Rattle.http_bodies.specs.Bodies.{line_limit, IsTrailer, IsChunked}
 
 -- so many bytes of a chunk's data, and the chunks behind it
-abbrev pub DataRest : ℕ → List ℕ → List ℕ → Type 0
-DataRest n text added =
-    (d : List ℕ) × (next : List ℕ) × (more : List ℕ) × (text ≡ d ++ 13 ∷ 10 ∷ next) × (length d ≡ n) × IsChunked next more × (added ≡ d ++ more)
+abbrev pub DataRest : ℕ → ℕ → List ℕ → List ℕ → Type 0
+DataRest n spare text added =
+    (d : List ℕ) × (next : List ℕ) × (more : List ℕ) × (text ≡ d ++ 13 ∷ 10 ∷ next) × (length d ≡ n) × IsChunked spare next more × (added ≡ d ++ more)
 
 -- behind the line of a chunk of this size
-abbrev pub BehindLine : ℕ → List ℕ → List ℕ → Type 0
-BehindLine size text added = ((size ≡ 0) × IsTrailer text × (added ≡ [])) ⊎ ((0 < size) × DataRest size text added)
+abbrev pub BehindLine : ℕ → ℕ → List ℕ → List ℕ → Type 0
+BehindLine size spare text added = ((size ≡ 0) × IsTrailer text × (added ≡ [])) ⊎ ((0 < size) × DataRest size spare text added)
 
 -- the line's LF
-abbrev pub LineFeedRest : ℕ → List ℕ → List ℕ → Type 0
-LineFeedRest size text added = (rest : List ℕ) × (text ≡ 10 ∷ rest) × BehindLine size rest added
+abbrev pub LineFeedRest : ℕ → ℕ → List ℕ → List ℕ → Type 0
+LineFeedRest size spare text added = (rest : List ℕ) × (text ≡ 10 ∷ rest) × BehindLine size spare rest added
 
 -- bytes of the extension and the line's end, within so many bytes
-pub record ExtensionRest (size left : ℕ) (text added : List ℕ) : Type 0 where
+pub record ExtensionRest (size left spare : ℕ) (text added : List ℕ) : Type 0 where
   pub more : List ℕ
   pub rest : List ℕ
   pub reads : text ≡ more ++ 13 ∷ 10 ∷ rest
   pub plain : AllPass is_extension_byte more
   pub short : length more + 2 ≤ left
-  pub behind : BehindLine size rest added
+  pub later : ℕ
+  pub spends : length more + later ≡ spare
+  pub behind : BehindLine size later rest added
 
 -- blanks, an extension or none, and the line's end, within so many bytes
-pub record BlanksRest (size left : ℕ) (text added : List ℕ) : Type 0 where
+pub record BlanksRest (size left spare : ℕ) (text added : List ℕ) : Type 0 where
   pub pad : List ℕ
   pub extension : Option (List ℕ)
   pub rest : List ℕ
@@ -37,10 +40,12 @@ pub record BlanksRest (size left : ℕ) (text added : List ℕ) : Type 0 where
   pub blanks : AllPass is_ows pad
   pub plain : IsExtension extension
   pub short : length pad + length (print_extension extension) + 2 ≤ left
-  pub behind : BehindLine size rest added
+  pub later : ℕ
+  pub spends : length pad + length (print_extension extension) + later ≡ spare
+  pub behind : BehindLine size later rest added
 
--- more digits behind so many with this value, at most 16 in all, and the rest of a line of at most 32,768 bytes
-pub record SizeRest (digits size : ℕ) (text added : List ℕ) : Type 0 where
+-- more digits behind so many with this value, at most 16 in all, and the rest of a line
+pub record SizeRest (digits size spare : ℕ) (text added : List ℕ) : Type 0 where
   pub more : List ℕ
   pub rest : List ℕ
   pub reads : text ≡ more ++ rest
@@ -48,8 +53,8 @@ pub record SizeRest (digits size : ℕ) (text added : List ℕ) : Type 0 where
   pub some : 0 < digits + length more
   pub few : digits + length more ≤ 16
   pub left : ℕ
-  pub total : digits + length more + left ≡ 32768
-  pub line : BlanksRest (digits_value_after 16 size more) left rest added
+  pub total : digits + length more + left ≡ line_limit
+  pub line : BlanksRest (digits_value_after 16 size more) left spare rest added
 
 -- field lines, at most so many, and the empty line
 pub record SectionRest (most : ℕ) (text : List ℕ) : Type 0 where

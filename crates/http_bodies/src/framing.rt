@@ -2,10 +2,14 @@
 ghost use Rattle.std.specs.Prelude.{◌≡◌, ◌≢◌, ◌↔◌, ◌<◌, ℕ, codes, not, ◌||◌, true, false, IsTrue, Ok, Err, IfOk, IfSome, IsSomeAnd, MatchOption};
 ghost use Rattle.units.specs.Folding.{folded};
 ghost use Rattle.http_heads.specs.Fields.{is_named, count_of, first_value};
-ghost use Rattle.http_bodies.specs.Framings.{length_name, coding_name, length_number, is_length, says_length, Frames};
+ghost use Rattle.http_bodies.specs.Framings.{length_name, coding_name, length_number, is_length, says_length, has_body, reply_kind, Frames};
 ghost use Rattle.http_bodies.specs.declared.framing.Framing.{Framing as Way};
+ghost use Rattle.http_bodies.specs.declared.framing.BodyError.TheVariants.{NoMemory};
 
 use http_heads::{Field, Fields};
+use std::alloc::AllocError;
+use std::error::Error;
+use std::fmt::{self, Display, Formatter, Write};
 use units::{fold_eq, value_of_digits};
 
 /// Whose body it is.
@@ -13,7 +17,9 @@ use units::{fold_eq, value_of_digits};
 pub enum Kind {
     Request,
     Reply,
-    /// A reply to HEAD, or one with the status 204 or 304.
+    /// A reply with a status of 1xx: it has no body, and the final reply stands behind it (behind 101 another protocol).
+    Interim,
+    /// A final reply to HEAD, or one with the status 204 or 304: it has no body, whatever its fields say.
     NoBody,
 }
 
@@ -37,7 +43,7 @@ pub enum BodyError {
     BadLength,
     /// Content-Length and Transfer-Encoding, or a coding other than one `chunked`.
     TwoFramings,
-    /// The bytes are no chunks.
+    /// The bytes are no chunks within the limits of their lines.
     BadChunk,
     /// The body is longer than the limit.
     TooLarge,
@@ -46,20 +52,56 @@ pub enum BodyError {
     NoMemory,
 }
 
-/// Where the body of a message with these fields ends (RFC 9112, section 6.3). `NoBody` looks at no
+impl From<AllocError> for BodyError {
+    ghost from_gives = { λ _ e. e ≡ NoMemory };
+
+    fn from(_: AllocError) -> BodyError {
+        BodyError::NoMemory
+    }
+}
+
+impl Display for BodyError {
+    fn fmt<W: Write>(&self, f: &mut Formatter<W>) -> fmt::Result {
+        f.write_str(match self {
+            BodyError::BadLength => "a Content-Length is no number, or two differ",
+            BodyError::TwoFramings => "both a length and a coding, or a coding other than chunked",
+            BodyError::BadChunk => "the bytes are no chunks",
+            BodyError::TooLarge => "the body is longer than the limit",
+            BodyError::Early => "the body isn't whole",
+            BodyError::NoMemory => "out of memory",
+        })
+    }
+}
+
+impl Error for BodyError {}
+
+/// The kind of a reply with this status, by its status and whether the request was HEAD (RFC 9112, section 6.3).
+pub fn kind_of_reply(status: u16, to_head: bool) -> Kind
+    ensures { result ≡ reply_kind status to_head }
+{
+    if (100..200).contains(&status) {
+        Kind::Interim
+    } else if to_head || status == 204 || status == 304 {
+        Kind::NoBody
+    } else {
+        Kind::Reply
+    }
+}
+
+/// Where the body of a message with these fields ends (RFC 9112, section 6.3). `Interim` and `NoBody` look at no
 /// field. It takes no memory.
 pub fn frame(fields: &Fields, kind: Kind) -> Result<Framing, BodyError>
     ensures framed { IfOk result (Frames kind fields.now) }
     ensures only { (framing : Way) → Frames kind fields.now framing → result ≡ Ok framing }
-    ensures both { kind ≢ Kind.NoBody → 0 < count_of length_name fields.now → 0 < count_of coding_name fields.now
+    ensures both { IsTrue (has_body kind) → 0 < count_of length_name fields.now → 0 < count_of coding_name fields.now
         → result ≡ Err BodyError.TwoFramings }
-    ensures other_coding { kind ≢ Kind.NoBody → count_of length_name fields.now ≡ 0 → count_of coding_name fields.now ≡ 1
+    ensures other_coding { IsTrue (has_body kind) → count_of length_name fields.now ≡ 0 → count_of coding_name fields.now ≡ 1
         → IfSome (first_value coding_name fields.now) (λ coding. folded coding ≢ codes "chunked" → result ≡ Err BodyError.TwoFramings) }
-    ensures codings { kind ≢ Kind.NoBody → 1 < count_of coding_name fields.now → result ≡ Err BodyError.TwoFramings }
-    ensures no_length { kind ≢ Kind.NoBody → 0 < count_of length_name fields.now → count_of coding_name fields.now ≡ 0
+    ensures codings { IsTrue (has_body kind) → 1 < count_of coding_name fields.now → result ≡ Err BodyError.TwoFramings }
+    ensures no_length { IsTrue (has_body kind) → 0 < count_of length_name fields.now → count_of coding_name fields.now ≡ 0
         → ((n : ℕ) → ¬ (IsTrue (says_length n fields.now))) → result ≡ Err BodyError.BadLength }
 {
-    if kind == Kind::NoBody {
+    if matches!(kind, Kind::Interim | Kind::NoBody) {
         return Ok(Framing::Nothing);
     }
     let lengths = fields.count(b"content-length");

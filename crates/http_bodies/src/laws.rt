@@ -1,6 +1,9 @@
 // Laws of the answers of readers, as contracts of functions that do nothing.
-ghost use Rattle.std.specs.Prelude.{◌≡◌, ◌⊎◌, ◌+◌, ◌↔◌, ◌++◌, ℕ, List, [], length};
-ghost use Rattle.http_bodies.specs.Bodies.{IsBody};
+ghost use Rattle.std.specs.Prelude.{◌≡◌, ◌≢◌, ◌⊎◌, ◌+◌, ◌↔◌, ◌++◌, ℕ, List, [], length};
+ghost use Rattle.http_bodies.specs.Bodies.{IsBody, BeginsWith};
+ghost use Rattle.http_bodies.specs.Framings.{Frames};
+ghost use Rattle.http_bodies.specs.declared.framing.Kind.{Kind};
+ghost use Rattle.http_heads.specs.declared.fields.Field.{Field};
 ghost use Rattle.http_bodies.specs.Reading.{ReaderState, Follows};
 ghost use Rattle.http_bodies.specs.Answers.{HasEndWithin, Takes, Refuses};
 ghost use Rattle.http_bodies.specs.declared.framing.BodyError.{BodyError as RefusalKind};
@@ -29,4 +32,18 @@ pub fn any_cut()
 pub fn one_end()
     ensures { (framing : Framing) (text more body other : List ℕ) → IsBody framing text body → IsBody framing (text ++ more) other
         → (more ≡ []) ⊎ (framing ≡ UntilEnd) }
+{}
+
+/// A text begins with one body at most, with one rest behind it; and it begins with it too where more stands behind it, unless
+/// the body goes on to the end of the connection.
+pub fn one_body()
+    ensures same { (framing : Framing) (text body rest other rests : List ℕ) → BeginsWith framing text body rest
+        → BeginsWith framing text other rests → (body ≡ other) × (rest ≡ rests) }
+    ensures longer { (framing : Framing) (text body rest more : List ℕ) → framing ≢ UntilEnd → BeginsWith framing text body rest
+        → BeginsWith framing (text ++ more) body (rest ++ more) }
+{}
+
+/// The fields of a message frame its body in one way at most.
+pub fn one_framing()
+    ensures { (kind : Kind) (fields : List Field) (a b : Framing) → Frames kind fields a → Frames kind fields b → a ≡ b }
 {}

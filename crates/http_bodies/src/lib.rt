@@ -15,8 +15,9 @@ mod steps;
 #[cfg(test)]
 mod tests;
 mod trailer;
+mod whole;
 
-pub use framing::{BodyError, Framing, Kind, frame};
-pub use laws::{any_cut, one_answer, one_end};
-pub use place::{LinePart, Place};
+pub use framing::{BodyError, Framing, Kind, frame, kind_of_reply};
+pub use laws::{any_cut, one_answer, one_body, one_end, one_framing};
 pub use reader::BodyReader;
+pub use whole::read_body;

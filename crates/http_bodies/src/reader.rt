@@ -1,13 +1,12 @@
 // A body, taken in pieces.
-ghost use Rattle.std.specs.Prelude.{◌≡◌, ◌≢◌, ◌-◌, ◌≤◌, ◌<◌, ◌⊎◌, ◌↔◌, ◌++◌, ℕ, List, [], take, length, IsTrue, IfOk, IfErr, IsErrOf, OnErr, Ok, Err};
-ghost use Rattle.http_bodies.specs.Bodies.{IsBody};
-ghost use Rattle.http_bodies.specs.Reading.{ReaderState, Ends, Makes, Follows, state};
+ghost use Rattle.std.specs.Prelude.{◌≡◌, ◌≢◌, ◌-◌, ◌≤◌, ◌<◌, ◌⊎◌, ◌↔◌, ◌++◌, ℕ, List, [], Some, None, take, length, IsTrue, IfOk, IfErr, IsErrOf, OnErr, Ok, Err};
+ghost use Rattle.http_bodies.specs.Reading.{ReaderState, Makes, Follows, Starts, refusal, is_whole, state};
 ghost use Rattle.http_bodies.specs.Places.{IsSound, IsReader};
 ghost use Rattle.http_bodies.specs.Answers.{HasEndWithin, GoesOn, Takes, Refuses};
 ghost use Rattle.http_bodies.specs.declared.place.Place.{Place};
 ghost use Rattle.http_bodies.specs.declared.framing.BodyError.{BodyError};
-ghost use Rattle.http_bodies.specs.declared.framing.Framing.{Framing};
 
+use crate::line::MOST_SPARE;
 use crate::place::{LinePart, Place};
 use crate::steps::step;
 use crate::{BodyError, Framing};
@@ -15,8 +14,8 @@ use std::alloc::Global;
 use std::marker::Model;
 use units::Text;
 
-/// A body that is taken in pieces, and the limit of its length. Clauses see the place in the body, the
-/// body so far and the limit.
+/// A body that is taken in pieces, and the limit of its length. Clauses see how it was refused, whether it is whole,
+/// and what may still come of it.
 #[derive(Drop)]
 pub struct BodyReader {
     place: Place,
@@ -38,12 +37,7 @@ impl Model for BodyReader {
 // Where a reader of a body begins.
 fn first_place(framing: Framing, limit: u64) -> Place
     ensures sound { IsReader result [] limit }
-    ensures ends { ((error : BodyError) → result ≢ Place.Refused error)
-        → (text body : List ℕ) → Ends (state result [] limit) text body ↔ IsBody framing text body }
-    ensures makes { (text body : List ℕ) → Makes (state result [] limit) text body ↔ (IsBody framing text body × (length body ≤ limit)) }
-    ensures large { (n : ℕ) → framing ≡ Framing.Length n → limit < n → result ≡ Place.Refused BodyError.TooLarge }
-    ensures refused { (error : BodyError) → result ≡ Place.Refused error
-        → (error ≡ BodyError.TooLarge) × (n : ℕ) × (framing ≡ Framing.Length n) × (limit < n) }
+    ensures starts { Starts framing limit (state result [] limit) }
 {
     match framing {
         Framing::Nothing => Place::Whole,
@@ -56,7 +50,11 @@ fn first_place(framing: Framing, limit: u64) -> Place
                 Place::Sized(length)
             }
         }
-        Framing::Chunked => Place::Line(LinePart::Size { digits: 0, size: 0 }),
+        Framing::Chunked => Place::Line(LinePart::Size {
+            digits: 0,
+            size: 0,
+            spare: MOST_SPARE,
+        }),
         Framing::UntilEnd => Place::Open,
     }
 }
@@ -65,13 +63,7 @@ impl BodyReader {
     /// A reader of a body with this framing, of at most `limit` bytes. Where the framing's length is over
     /// the limit, it has refused the body already.
     pub fn of(alloc: Global, framing: Framing, limit: u64) -> BodyReader
-        ensures limit { result.limit ≡ limit }
-        ensures ends { ((error : BodyError) → result.place ≢ Place.Refused error)
-            → (text body : List ℕ) → Ends result text body ↔ IsBody framing text body }
-        ensures makes { (text body : List ℕ) → Makes result text body ↔ (IsBody framing text body × (length body ≤ limit)) }
-        ensures large { (n : ℕ) → framing ≡ Framing.Length n → limit < n → result.place ≡ Place.Refused BodyError.TooLarge }
-        ensures refused { (error : BodyError) → result.place ≡ Place.Refused error
-            → (error ≡ BodyError.TooLarge) × (n : ℕ) × (framing ≡ Framing.Length n) × (limit < n) }
+        ensures starts { Starts framing limit result }
     {
         BodyReader {
             place: first_place(framing, limit),
@@ -85,10 +77,10 @@ impl BodyReader {
     /// of memory it is as before.
     pub fn feed(&mut self, piece: &[u8]) -> Result<usize, BodyError>
         ensures taken { IfOk result (λ n. Takes self.old piece.now n × Follows self.old self.new (take n piece.now)) }
-        ensures end { IfOk result (λ n. n < length piece.now → self.new.place ≡ Place.Whole) }
-        ensures refused { IfErr result (λ e. e ≢ BodyError.NoMemory → (self.new.place ≡ Place.Refused e)
-            × ((self.old.place ≡ Place.Refused e) ⊎ Refuses self.old piece.now e)) }
-        ensures again { (e : BodyError) → self.old.place ≡ Place.Refused e → (result ≡ Err e) × (self.new ≡ self.old) }
+        ensures end { IfOk result (λ n. n < length piece.now → IsTrue (is_whole self.new)) }
+        ensures refused { IfErr result (λ e. e ≢ BodyError.NoMemory → (refusal self.new ≡ Some e)
+            × ((refusal self.old ≡ Some e) ⊎ Refuses self.old piece.now e)) }
+        ensures again { (e : BodyError) → refusal self.old ≡ Some e → (result ≡ Err e) × (self.new ≡ self.old) }
         ensures no_memory { IsErrOf result BodyError.NoMemory → self.new ≡ self.old }
     {
         if let Place::Refused(error) = self.place {
@@ -115,8 +107,8 @@ impl BodyReader {
     /// Whether the body is whole, so that no byte more belongs to it. One that goes on to the end of the
     /// connection never is.
     pub fn done(&self) -> bool
-        ensures whole { IsTrue result ↔ (self.now.place ≡ Place.Whole) }
-        ensures over { ((error : BodyError) → self.now.place ≢ Place.Refused error) → IsTrue result ↔ ¬ (GoesOn self.now []) }
+        ensures whole { result ≡ is_whole self.now }
+        ensures over { refusal self.now ≡ None → IsTrue result ↔ ¬ (GoesOn self.now []) }
     {
         matches!(self.place, Place::Whole)
     }
@@ -125,15 +117,12 @@ impl BodyReader {
     pub fn finish(self, alloc: Global) -> Result<Text, BodyError>
         ensures whole { IfOk result (λ body. Makes self [] body) }
         ensures found { (body : List ℕ) → Makes self [] body → (result ≡ Ok body) ⊎ (result ≡ Err BodyError.NoMemory) }
-        ensures refused { (e : BodyError) → self.place ≡ Place.Refused e → result ≡ Err e }
+        ensures refused { (e : BodyError) → refusal self ≡ Some e → result ≡ Err e }
         ensures early { IsErrOf result BodyError.Early → HasEndWithin self [] }
-        ensures kinds { IfErr result (λ e. (e ≡ BodyError.Early) ⊎ (e ≡ BodyError.NoMemory) ⊎ (self.place ≡ Place.Refused e)) }
+        ensures kinds { IfErr result (λ e. (e ≡ BodyError.Early) ⊎ (e ≡ BodyError.NoMemory) ⊎ (refusal self ≡ Some e)) }
     {
         match self.place {
-            Place::Whole | Place::Open => match Text::of(alloc, self.kept.as_slice()) {
-                Ok(body) => Ok(body),
-                Err(_) => Err(BodyError::NoMemory),
-            },
+            Place::Whole | Place::Open => Ok(Text::of(alloc, self.kept.as_slice())?),
             Place::Refused(error) => Err(error),
             _ => Err(BodyError::Early),
         }

@@ -37,11 +37,11 @@ pub(crate) fn step(
         Place::Whole => Ok((0, Place::Whole)),
         Place::Sized(left) => sized_step(kept, piece, left),
         Place::Open => open_step(kept, piece, room),
-        Place::Data(left) => data_step(kept, piece, left),
-        Place::Line(part) => match line_byte(part, piece[0], room) {
-            Ok(next) => Ok((1, next)),
-            Err(error) => Err(error),
-        },
+        Place::Data { left, spare } => data_step(kept, piece, left, spare),
+        Place::Line(part) => {
+            let next = line_byte(part, piece[0], room)?;
+            Ok((1, next))
+        }
         Place::Refused(error) => Err(error),
     }
 }
@@ -58,40 +58,41 @@ fn sized_step(kept: &mut Vec<u8>, piece: &[u8], left: u64) -> Result<(usize, Pla
         (state r.1 kept.new.items limit) (take r.0 piece.now)) }
     ensures err { IfErr result (λ e. (e ≡ BodyError.NoMemory) × (kept.new.items ≡ kept.old.items)) }
 {
-    match keep(kept, piece, left) {
-        Ok(count) => {
-            if count as u64 == left {
-                Ok((count, Place::Whole))
-            } else {
-                Ok((count, Place::Sized(left - count as u64)))
-            }
-        }
-        Err(error) => Err(error),
+    let count = keep(kept, piece, left)?;
+    if count as u64 == left {
+        return Ok((count, Place::Whole));
     }
+    Ok((count, Place::Sized(left - count as u64)))
 }
 
 // Takes bytes of a chunk's data, of which `left` are due.
-fn data_step(kept: &mut Vec<u8>, piece: &[u8], left: u64) -> Result<(usize, Place), BodyError>
+fn data_step(
+    kept: &mut Vec<u8>,
+    piece: &[u8],
+    left: u64,
+    spare: u64,
+) -> Result<(usize, Place), BodyError>
     requires left { 0 < left }
     requires some { 0 < length piece.now }
     ensures count { IfOk result (λ r. (0 < r.0) × (r.0 ≤ length piece.now)) }
     ensures sound { IfOk result (λ r. (limit : ℕ) → left ≤ limit - length kept.old.items
         → IsSound r.1 (limit - length kept.new.items) × (length kept.new.items ≤ limit)) }
     ensures grows { IfOk result (λ r. kept.new.items ≡ kept.old.items ++ take r.0 piece.now) }
-    ensures follows { (limit : ℕ) → IfOk result (λ r. Follows (state (Place.Data left) kept.old.items limit)
+    ensures follows { (limit : ℕ) → IfOk result (λ r. Follows (state (Place.Data left spare) kept.old.items limit)
         (state r.1 kept.new.items limit) (take r.0 piece.now)) }
     ensures err { IfErr result (λ e. (e ≡ BodyError.NoMemory) × (kept.new.items ≡ kept.old.items)) }
 {
-    match keep(kept, piece, left) {
-        Ok(count) => {
-            if count as u64 == left {
-                Ok((count, Place::Line(LinePart::DataReturn)))
-            } else {
-                Ok((count, Place::Data(left - count as u64)))
-            }
-        }
-        Err(error) => Err(error),
+    let count = keep(kept, piece, left)?;
+    if count as u64 == left {
+        return Ok((count, Place::Line(LinePart::DataReturn { spare })));
     }
+    Ok((
+        count,
+        Place::Data {
+            left: left - count as u64,
+            spare,
+        },
+    ))
 }
 
 // Takes all, if there is room for it.
@@ -106,10 +107,8 @@ fn open_step(kept: &mut Vec<u8>, piece: &[u8], room: u64) -> Result<(usize, Plac
     if piece.len() as u64 > room {
         return Err(BodyError::TooLarge);
     }
-    match kept.extend_from_slice(piece) {
-        Ok(()) => Ok((piece.len(), Place::Open)),
-        Err(_) => Err(BodyError::NoMemory),
-    }
+    kept.extend_from_slice(piece)?;
+    Ok((piece.len(), Place::Open))
 }
 
 // Keeps the first bytes of the piece, at most `left`.
@@ -120,10 +119,8 @@ fn keep(kept: &mut Vec<u8>, piece: &[u8], left: u64) -> Result<usize, BodyError>
     ensures cause { IfErr result (λ e. e ≡ BodyError.NoMemory) }
 {
     let count = (piece.len() as u64).min(left) as usize;
-    match kept.extend_from_slice(&piece[..count]) {
-        Ok(()) => Ok(count),
-        Err(_) => Err(BodyError::NoMemory),
-    }
+    kept.extend_from_slice(&piece[..count])?;
+    Ok(count)
 }
 
 // A byte of a line, where the body may have `room` bytes more.
@@ -134,12 +131,16 @@ fn line_byte(part: LinePart, byte: u8, room: u64) -> Result<Place, BodyError>
     ensures refused { IfErr result (IsRefusal part byte room) }
 {
     match part {
-        LinePart::Size { digits, size } => size_byte(digits, size, byte, room),
-        LinePart::Blanks { size, left } => blanks_byte(size, left, byte, room),
-        LinePart::Extension { size, left } => extension_byte(size, left, byte, room),
-        LinePart::LineFeed { size } => line_feed_byte(size, byte, room),
-        LinePart::DataReturn => data_return_byte(byte, room),
-        LinePart::DataFeed => data_feed_byte(byte, room),
+        LinePart::Size {
+            digits,
+            size,
+            spare,
+        } => size_byte(digits, size, spare, byte, room),
+        LinePart::Blanks { size, left, spare } => blanks_byte(size, left, spare, byte, room),
+        LinePart::Extension { size, left, spare } => extension_byte(size, left, spare, byte, room),
+        LinePart::LineFeed { size, spare } => line_feed_byte(size, spare, byte, room),
+        LinePart::DataReturn { spare } => data_return_byte(spare, byte, room),
+        LinePart::DataFeed { spare } => data_feed_byte(spare, byte, room),
         LinePart::TrailerLine { fields, left } => trailer_byte(fields, left, byte, room),
         LinePart::FieldName { fields, left } => name_byte(fields, left, byte, room),
         LinePart::FieldValue { fields, left } => value_byte(fields, left, byte, room),

@@ -179,7 +179,7 @@ fn chunks(rt: HostRuntime) {
     assert!(rt; reader.done());
 }
 
-// A line or trailer of 32,768 bytes and 64 fields stays within its limits.
+// A line of 32,768 bytes and a trailer of 64 fields stay within their limits.
 #[test]
 fn longest_lines(rt: HostRuntime) {
     let alloc = rt.alloc();
@@ -206,6 +206,90 @@ fn longest_lines(rt: HostRuntime) {
         assert_eq!(rt; reader.feed(b"A: b\r\n"), Ok(6));
     }
     assert_eq!(rt; reader.feed(b"A"), Err(BodyError::BadChunk));
+}
+
+// A chunk of one byte, whose line has so many bytes beyond its digits and its end.
+fn feed_wide_chunk(reader: &mut BodyReader, spare: usize) -> Result<(), BodyError> {
+    reader.feed(b"1;")?;
+    for _ in 1..spare {
+        reader.feed(b"x")?;
+    }
+    reader.feed(b"\r\na\r\n")?;
+    Ok(())
+}
+
+// All of a body's lines have at most 32,768 bytes together beyond their digits and ends.
+#[test]
+fn widest_lines(rt: HostRuntime) -> Result<(), Fail> {
+    let alloc = rt.alloc();
+    let mut reader = BodyReader::of(alloc, Framing::Chunked, 9);
+    assert_eq!(rt; feed_wide_chunk(&mut reader, 20_000), Ok(()));
+    assert_eq!(rt; feed_wide_chunk(&mut reader, 12_768), Ok(()));
+    assert_eq!(rt; reader.feed(b"1\r\na\r\n0\r\n\r\n"), Ok(11));
+    assert_eq!(rt; reader.finish(alloc)?.bytes(), b"aaa".as_slice());
+    let mut reader = BodyReader::of(alloc, Framing::Chunked, 9);
+    assert_eq!(rt; feed_wide_chunk(&mut reader, 20_000), Ok(()));
+    assert_eq!(rt; feed_wide_chunk(&mut reader, 12_768), Ok(()));
+    assert_eq!(rt; reader.feed(b"0 \r\n\r\n"), Err(BodyError::BadChunk));
+    let mut reader = BodyReader::of(alloc, Framing::Chunked, 9);
+    assert_eq!(rt; feed_wide_chunk(&mut reader, 20_000), Ok(()));
+    assert_eq!(rt;
+        feed_wide_chunk(&mut reader, 12_769),
+        Err(BodyError::BadChunk)
+    );
+    Ok(())
+}
+
+// The framing, the text, its body and how many bytes of the text it takes.
+const FRONTS: [(Framing, &[u8], Result<(&[u8], usize), BodyError>); 8] = [
+    (Framing::Nothing, b"GET", Ok((b"", 0))),
+    (Framing::Length(3), b"abcGET", Ok((b"abc", 3))),
+    (Framing::UntilEnd, b"abcGET", Ok((b"abcGET", 6))),
+    (
+        Framing::Chunked,
+        b"2\r\nhi\r\n0\r\n\r\nGET",
+        Ok((b"hi", 12)),
+    ),
+    (Framing::Chunked, b"2\r\nhi\r\n", Err(BodyError::Early)),
+    (Framing::Length(3), b"ab", Err(BodyError::Early)),
+    (Framing::Chunked, b"2\nhi", Err(BodyError::BadChunk)),
+    (Framing::Length(10), b"", Err(BodyError::TooLarge)),
+];
+
+#[test]
+fn fronts(rt: HostRuntime) -> Result<(), Fail> {
+    let alloc = rt.alloc();
+    for (framing, text, wanted) in FRONTS {
+        match (read_body(alloc, framing, 9, text), wanted) {
+            (Ok((body, count)), Ok((bytes, length))) => {
+                assert_eq!(rt; body.bytes(), bytes, "{text:?}");
+                assert_eq!(rt; count, length, "{text:?}");
+            }
+            (Err(error), Err(other)) => assert_eq!(rt; error, other, "{text:?}"),
+            _ => assert!(rt; false, "{text:?}"),
+        }
+    }
+    Ok(())
+}
+
+#[test]
+fn kinds_of_replies(rt: HostRuntime) {
+    let kinds: [(u16, bool, Kind); 11] = [
+        (99, false, Kind::Reply),
+        (100, false, Kind::Interim),
+        (100, true, Kind::Interim),
+        (101, false, Kind::Interim),
+        (199, false, Kind::Interim),
+        (200, false, Kind::Reply),
+        (200, true, Kind::NoBody),
+        (204, false, Kind::NoBody),
+        (205, false, Kind::Reply),
+        (304, false, Kind::NoBody),
+        (404, true, Kind::NoBody),
+    ];
+    for (status, to_head, kind) in kinds {
+        assert_eq!(rt; kind_of_reply(status, to_head), kind, "{status}");
+    }
 }
 
 #[test]
@@ -283,6 +367,7 @@ fn frames(rt: HostRuntime) -> Result<(), Fail> {
         assert_eq!(rt; frame(&fields, Kind::Reply), wanted, "{lines:?}");
         assert_eq!(rt; frame(&fields, Kind::Request), wanted, "{lines:?}");
         assert_eq!(rt; frame(&fields, Kind::NoBody), Ok(Framing::Nothing));
+        assert_eq!(rt; frame(&fields, Kind::Interim), Ok(Framing::Nothing));
     }
     Ok(())
 }

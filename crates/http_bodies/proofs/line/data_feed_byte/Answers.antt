@@ -9,10 +9,10 @@ use Rattle.http_bodies.proofs.line.data_feed_byte.Goals as goal
 
 pub returns-clause-next : goal.returns-clause-next
 returns-clause-next c =
-    let feed : IsNext DataFeed 10 (Line (Size 0 0)) = λ text added. (
-      λ left. (text, refl, (chunks_left text added).0 left),
+    let feed : IsNext (DataFeed c.args.spare) 10 (Line (Size 0 0 c.args.spare)) = λ text added. (
+      λ left. (text, refl, (chunks_left c.args.spare text added).0 left),
       λ left.
           let same : left.0 ≡ text = cc in
-          (chunks_left text added).1 (subst (λ (t : List ℕ). IsChunked t added) same left.2),
+          (chunks_left c.args.spare text added).1 (subst (λ (t : List ℕ). IsChunked c.args.spare t added) same left.2),
     ) in
-    subst (λ b. IsNext DataFeed b (Line (Size 0 0))) (sym c.if-byte-ne10.false) feed
+    subst (λ b. IsNext (DataFeed c.args.spare) b (Line (Size 0 0 c.args.spare))) (sym c.if-byte-ne10.false) feed

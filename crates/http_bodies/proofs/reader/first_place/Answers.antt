@@ -1,11 +1,11 @@
 -- Where a body begins.
-use Rattle.std.proofs.Common.{◌≡◌, inr, refl, sym, subst, arith, ◌≤◌, ◌↔◌, length, []}
+use Rattle.std.proofs.Common.{◌≡◌, ◌↔◌, ◌≤◌, List, ℕ, length, [], inr, refl, sym, subst, arith}
 use Rattle.http_bodies.specs.declared.framing.BodyError.TheVariants.{TooLarge}
 use Rattle.http_bodies.specs.declared.framing.Framing.{Framing}
+use Rattle.http_bodies.specs.declared.framing.Framing.TheVariants.{Length, Chunked}
 use Rattle.http_bodies.specs.declared.place.Place.TheVariants.{Line}
 use Rattle.http_bodies.specs.declared.place.LinePart.TheVariants.{Size}
-use Rattle.http_bodies.specs.Bodies.{IsBody}
-use Rattle.http_bodies.specs.Reading.{Ends, Makes, state}
+use Rattle.http_bodies.specs.Reading.{Starts, state}
 use Rattle.http_bodies.proofs.AnswerFacts.{chunks_end}
 use Rattle.http_bodies.proofs.reader.first_place.Goals as goal
 
@@ -16,16 +16,16 @@ returns-then-length-limit-clause-sound c = record {
   refusal = λ error is. inr (let same : TooLarge ≡ error = cc in sym same);
 }
 
-pub returns-then-length-limit-clause-ends : goal.returns-then-length-limit-clause-ends
-returns-then-length-limit-clause-ends c open_place text body = absurd (open_place TooLarge refl)
-
-pub returns-in-Chunked-clause-ends : goal.returns-in-Chunked-clause-ends
-returns-in-Chunked-clause-ends c open_place text body =
-    subst (λ (f : Framing). Ends (state (Line (Size 0 0)) [] c.args.limit) text body ↔ IsBody f text body) (sym c.in-Chunked.is) (chunks_end c.args.limit text body)
-
-pub returns-in-Chunked-clause-makes : goal.returns-in-Chunked-clause-makes
-returns-in-Chunked-clause-makes c text body =
-    subst (λ (f : Framing). Makes (state (Line (Size 0 0)) [] c.args.limit) text body ↔ (IsBody f text body × (length body ≤ c.args.limit))) (sym c.in-Chunked.is) (
-      λ m. ((chunks_end c.args.limit text body).0 m.ends, m.within),
-      λ b. record { ends = (chunks_end c.args.limit text body).1 b.0; within = b.1 },
-    )
+pub returns-in-Chunked-clause-starts : goal.returns-in-Chunked-clause-starts
+returns-in-Chunked-clause-starts c =
+    let starts : Starts Chunked c.args.limit (state (Line (Size 0 0 32768)) [] c.args.limit) = record {
+      limit_is = refl;
+      ends = λ none text body. chunks_end c.args.limit text body;
+      makes = λ text body. (
+        λ m. ((chunks_end c.args.limit text body).0 m.ends, m.within),
+        λ b. record { ends = (chunks_end c.args.limit text body).1 b.0; within = b.1 },
+      );
+      large = λ n is. absurd (cc);
+      refused = λ error is. absurd (cc);
+    } in
+    subst (λ (f : Framing). Starts f c.args.limit (state (Line (Size 0 0 32768)) [] c.args.limit)) (sym c.in-Chunked.is) starts

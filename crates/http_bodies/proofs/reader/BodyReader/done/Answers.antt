@@ -2,16 +2,17 @@
 use Rattle.std.proofs.Common.{◌≢◌, ap, sym, ◌∙◌, subst, []}
 use Rattle.http_bodies.specs.declared.framing.BodyError.{BodyError}
 use Rattle.http_bodies.specs.declared.place.Place.TheVariants.{Refused}
-use Rattle.http_bodies.specs.Reading.{ReaderState}
+use Rattle.http_bodies.specs.Reading.{ReaderState, refusal}
 use Rattle.http_bodies.specs.Answers.{GoesOn}
+use Rattle.http_bodies.proofs.PlaceFacts.{open_place}
 use Rattle.http_bodies.proofs.AnswerFacts.{goes_on}
 use Rattle.http_bodies.proofs.reader.BodyReader.done.Goals as goal
 
 pub returns-in_default-clause-over : goal.returns-in_default-clause-over
-returns-in_default-clause-over c open_place =
+returns-in_default-clause-over c none =
     let r = c.self.inside in
     let open_inside : (error : BodyError) → c.self.inside.place ≢ Refused error =
-    λ error is. open_place error (ap (λ (s : ReaderState). s.place) (sym c.self.view_is) ∙ is) in
+    open_place c.self.inside.place (ap refusal c.self.view_is ∙ none) in
     let goes : GoesOn c.args.self.now [] = subst (λ (s : ReaderState). GoesOn s []) c.self.view_is
     (goes_on r.place r.kept.items r.limit _ (c.self.invariant.sound open_inside) c.in_default.not-Whole) in
     (λ never. absurd (let no : ⊥ = cc in no), λ over. absurd (over goes))
