@@ -6,5 +6,4 @@ pub mod Hearing
 pub mod Playing
 pub mod Ending
 pub mod Building
-pub mod Bodies
 pub mod Wholes

@@ -1,12 +1,19 @@
 -- The one message at the front of a text.
-use Rattle.std.proofs.Common.{◌≡◌, ◌≢◌, inl, inr, ℕ, ◌-◌, List, length, take, drop, Option, Some, None, Ok, Err, MatchOption, sym, ◌∙◌, ap, subst, arith}
+use Rattle.std.proofs.Common.{◌≡◌, ◌≢◌, inl, inr, ℕ, ◌-◌, ◌≤◌, List, length, take, drop, Option, Some, None, Result, Ok, Err, IfOk, MatchOption, sym, ◌∙◌, ap, subst, arith}
 use Rattle.std.proofs.lemmas.List.{take_all, length-drop}
 use Rattle.http_heads.specs.declared.message.RequestHead.{RequestHead}
 use Rattle.http_heads.specs.declared.message.ResponseHead.{ResponseHead}
 use Rattle.http_heads.specs.declared.message.HeadError.{HeadError}
 use Rattle.http_heads.specs.declared.message.HeadError.TheVariants.{NoMemory}
 use Rattle.http_heads.specs.Heads.{HasRequest, HasResponse, LacksRequest, LacksResponse, AnswersRequest, AnswersResponse, GivesUnlessNoMemory}
+use Rattle.http_heads.specs.declared.fields.Field.{Field}
+use Rattle.http_bodies.specs.declared.framing.Kind.{Kind}
 use Rattle.http_bodies.specs.declared.framing.Kind.TheVariants as kinds
+use Rattle.http_bodies.specs.declared.framing.Framing.{Framing}
+use Rattle.http_bodies.specs.declared.framing.BodyError.{BodyError}
+use Rattle.http_bodies.specs.Framings.{Frames}
+use Rattle.http_bodies.specs.Bodies.{BeginsWith}
+use Rattle.std.specs.declared.alloc.AllocError.{AllocError}
 use Rattle.replay.specs.Whole.{HasFramedBody, LacksWholeRequest, LacksWholeReply, IsTheRequest, IsTheResponse, IsTheWholeRequest, IsTheWholeReply}
 
 not_none : (A : Type 0) (value : A) → GivesUnlessNoMemory {T = Option A} (Ok None) (Some value) → ⊥
@@ -74,3 +81,22 @@ bodiless_reply text rest head count the behind none other more whole =
 -- the rest of a text behind a place
 pub rest_behind : (text : List ℕ) (count : ℕ) → take (length text - count) (drop count text) ≡ drop count text
 rest_behind text count = let len = length-drop count text in take_all (length text - count) (drop count text) (omega (arith, len))
+
+abbrev OkFraming : Framing → Result Framing BodyError
+OkFraming framing = Ok framing
+
+-- what is found of the framing is what is found of the fields, which frame no other
+pub framed_body : (kind : Kind) (limit : ℕ) (fields : List Field) (text : List ℕ) (framing : Framing) (result : Result (Option (List ℕ)) AllocError)
+    → Frames kind fields framing
+    → ((other : Framing) → Frames kind fields other → OkFraming framing ≡ OkFraming other)
+    → IfOk result (λ found. MatchOption found
+    ((body rest : List ℕ) → BeginsWith framing text body rest → length body ≤ limit → ⊥)
+    (λ body. (rest : List ℕ) × BeginsWith framing text body rest × (length body ≤ limit)))
+    → IfOk result (λ found. MatchOption found ((body : List ℕ) → HasFramedBody kind limit fields text body → ⊥)
+    (λ body. HasFramedBody kind limit fields text body))
+framed_body kind limit fields text framing (Err e) frames only told = tt
+framed_body kind limit fields text framing (Ok None) frames only told = λ body has.
+    let same : framing ≡ has.framing = let told_once = only has.framing has.frames in cc in
+    told body has.rest (subst (λ (f : Framing). BeginsWith f text body has.rest) (sym same) has.reads) has.short
+framed_body kind limit fields text framing (Ok (Some body)) frames only told =
+    record { framing = framing; frames = frames; rest = told.0; reads = told.1; short = told.2 }

@@ -1,5 +1,5 @@
 -- The message at the front of a text: a head, and behind it the body that its fields frame (RFC 9112, sections 2 and 6).
-use Rattle.std.specs.Prelude.{◌≡◌, ℕ, ◌≤◌, List, ◌++◌, length, drop}
+use Rattle.std.specs.Prelude.{◌≡◌, ℕ, ◌≤◌, List, length, drop}
 use Rattle.http_heads.specs.declared.fields.Field.{Field}
 use Rattle.http_heads.specs.declared.message.RequestHead.{RequestHead}
 use Rattle.http_heads.specs.declared.message.ResponseHead.{ResponseHead}
@@ -7,29 +7,15 @@ use Rattle.http_heads.specs.Heads.{HasRequest, HasResponse}
 use Rattle.http_bodies.specs.declared.framing.Kind.{Kind}
 use Rattle.http_bodies.specs.declared.framing.Kind.TheVariants as kinds
 use Rattle.http_bodies.specs.declared.framing.Framing.{Framing}
-use Rattle.http_bodies.specs.declared.framing.Framing.TheVariants.{Nothing, Length, Chunked, UntilEnd}
 use Rattle.http_bodies.specs.Framings.{Frames}
-use Rattle.http_bodies.specs.Bodies.{IsBody}
-
--- a body with this framing stands at the front of the text
-pub record BeginsWith (framing : Framing) (text body : List ℕ) : Type 0 where
-  pub front : List ℕ
-  pub rest : List ℕ
-  pub split : text ≡ front ++ rest
-  pub reads : IsBody framing front body
-
--- the text's body: one that goes on to the end of the connection is all of the text
-abbrev pub HasBody : Framing → List ℕ → List ℕ → Type 0
-HasBody Nothing text body = BeginsWith Nothing text body
-HasBody (Length n) text body = BeginsWith (Length n) text body
-HasBody Chunked text body = BeginsWith Chunked text body
-HasBody UntilEnd text body = IsBody UntilEnd text body
+use Rattle.http_bodies.specs.Bodies.{BeginsWith}
 
 -- the text has the body that the fields frame, within this limit
 pub record HasFramedBody (kind : Kind) (limit : ℕ) (fields : List Field) (text body : List ℕ) : Type 0 where
   pub framing : Framing
   pub frames : Frames kind fields framing
-  pub reads : HasBody framing text body
+  pub rest : List ℕ
+  pub reads : BeginsWith framing text body rest
   pub short : length body ≤ limit
 
 -- the text begins with a whole request with this head, its body of at most 1,048,576 bytes

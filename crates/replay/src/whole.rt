@@ -1,10 +1,10 @@
 // The message at the front of a text.
-ghost use Rattle.std.specs.Prelude.{◌≡◌, ◌≢◌, ◌≤◌, ℕ, List, length, None, IfOk, MatchOption};
-ghost use Rattle.http_bodies.specs.declared.framing.BodyError.TheVariants as Fault;
+ghost use Rattle.std.specs.Prelude.{◌≤◌, ℕ, List, length, IfOk, MatchOption};
+ghost use Rattle.http_bodies.specs.Bodies.{BeginsWith};
 ghost use Rattle.http_heads.specs.Heads.{LacksRequest, LacksResponse};
-ghost use Rattle.replay.specs.Whole.{HasBody, HasFramedBody, IsTheRequest, IsTheResponse, LacksWholeRequest, LacksWholeReply, IsTheWholeRequest, IsTheWholeReply};
+ghost use Rattle.replay.specs.Whole.{HasFramedBody, IsTheRequest, IsTheResponse, LacksWholeRequest, LacksWholeReply, IsTheWholeRequest, IsTheWholeReply};
 
-use http_bodies::{BodyError, BodyReader, Framing, Kind, frame, one_end};
+use http_bodies::{BodyError, Framing, Kind, frame, read_body};
 use http_heads::{Fields, HeadError, RequestHead, ResponseHead, read_request, read_response};
 use std::alloc::{AllocError, Global};
 use units::Text;
@@ -15,36 +15,26 @@ const REQUEST_BODY_LIMIT: u64 = 1_048_576;
 /// The greatest body of a reply.
 const REPLY_BODY_LIMIT: u64 = 8_388_608;
 
-// No body, unless memory is wanting.
-fn none_or_no_memory(error: BodyError) -> Result<Option<Text>, AllocError>
-    ensures { IfOk result (λ found. (found ≡ None) × (error ≢ Fault.NoMemory)) }
-{
-    if error == BodyError::NoMemory {
-        Err(AllocError)
-    } else {
-        Ok(None)
-    }
-}
-
 // The body with this framing at the front of the text, within the limit.
-fn read_body(
+fn find_body(
     alloc: Global,
     framing: Framing,
     limit: u64,
     text: &[u8],
 ) -> Result<Option<Text>, AllocError>
     ensures { IfOk result (λ found. MatchOption found
-        ((body : List ℕ) → HasBody framing text.now body → length body ≤ limit → ⊥)
-        (λ body. HasBody framing text.now body × (length body ≤ limit))) }
+        ((body rest : List ℕ) → BeginsWith framing text.now body rest → length body ≤ limit → ⊥)
+        (λ body. (rest : List ℕ) × BeginsWith framing text.now body rest × (length body ≤ limit))) }
 {
-    one_end();
-    let mut reader = BodyReader::of(alloc, framing, limit);
-    if let Err(error) = reader.feed(text) {
-        return none_or_no_memory(error);
-    }
-    match reader.finish(alloc) {
-        Ok(body) => Ok(Some(body)),
-        Err(error) => none_or_no_memory(error),
+    match read_body(alloc, framing, limit, text) {
+        Ok((body, _)) => Ok(Some(body)),
+        Err(error) => {
+            if error == BodyError::NoMemory {
+                Err(AllocError)
+            } else {
+                Ok(None)
+            }
+        }
     }
 }
 
@@ -61,7 +51,7 @@ fn read_framed_body(
         (λ body. HasFramedBody kind limit fields.now text.now body)) }
 {
     match frame(fields, kind) {
-        Ok(framing) => read_body(alloc, framing, limit, text),
+        Ok(framing) => find_body(alloc, framing, limit, text),
         Err(_) => Ok(None),
     }
 }
