@@ -7,3 +7,5 @@ pub mod Playing
 pub mod Ending
 pub mod Building
 pub mod Wholes
+pub mod Unique
+pub mod OneWay

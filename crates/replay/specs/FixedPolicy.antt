@@ -1,5 +1,6 @@
 -- The policy that plain GET requests are led by: look the page up, else fetch it, store it and deliver it.
 use Rattle.std.specs.Prelude.{◌≡◌, ℕ, Option, Some, None, List, [], ◌∷◌, ◌++◌, pos, min, codes}
+use Rattle.std.proofs.Common.{sym, ◌∙◌}
 use Rattle.std.specs.Fmt.{decimal}
 use Rattle.http_heads.specs.declared.fields.Field.{Field}
 use Rattle.http_heads.specs.declared.message.RequestHead.{RequestHead}
@@ -17,6 +18,7 @@ use Rattle.replay.specs.declared.policy.Given.{Given}
 use Rattle.replay.specs.declared.policy.Given.TheVariants.{Start, Told, Came, Sent}
 use Rattle.replay.specs.declared.policy.Want.{Want}
 use Rattle.replay.specs.declared.policy.Want.TheVariants.{Ask, Exchange, Respond, Done}
+use Rattle.replay.specs.Policy.{HasOneWant}
 use Rattle.replay.specs.Forms.{host_of}
 use Rattle.replay.specs.Messages.{field_of, bad_request, backend_request, delivered, age_of}
 
@@ -118,3 +120,8 @@ message_want client Unreadable given before = refusal_want given
 abbrev pub Wants : Request → List Given → Want → Type 0
 Wants request [] want = ⊥
 Wants request (given ∷ before) want = want ≡ message_want request.client request.message given before
+
+-- after the same givens it wants the same
+pub wants-one : HasOneWant Wants
+wants-one request [] one other p q = absurd p
+wants-one request (given ∷ before) one other p q = q ∙ sym p

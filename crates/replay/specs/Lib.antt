@@ -7,5 +7,6 @@ pub mod Endings
 pub mod Whole
 pub mod Forms
 pub mod Build
+pub mod Laws
 pub mod Went
 pub mod Replayed

@@ -27,12 +27,14 @@ fn refuse(alloc: Global, given: Given) -> Result<Want, AllocError>
 }
 
 impl Policy for Turn {
-    ghost use Rattle.replay.specs.FixedPolicy.{Wants};
+    ghost use Rattle.replay.specs.FixedPolicy.{Wants, wants-one};
     ghost use Rattle.replay.specs.Visit.{StandsAt};
 
     ghost wants = { Wants };
 
     ghost stands = { StandsAt };
+
+    ghost one_want = { wants-one };
 
     fn start(alloc: Global, request: Request) -> Result<Self, AllocError> {
         let Request { client, message } = request;

@@ -8,6 +8,7 @@
 mod event;
 mod fixed;
 mod forms;
+mod laws;
 mod lines;
 mod messages;
 mod policy;
@@ -19,6 +20,7 @@ mod whole;
 
 pub use event::{Event, NumberedEvent, Script};
 pub use fixed::Turn;
+pub use laws::{one_ending, one_history, one_text};
 pub use policy::{Arrival, Given, Message, Policy, Request, Want};
 pub use session::{ReplayError, Replayed, play_session, run_session};
 pub use visit::Visit;

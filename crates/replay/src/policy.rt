@@ -3,7 +3,7 @@ ghost use Rattle.std.specs.Prelude.{◌≡◌, List, [], ◌∷◌, IfOk, OnOk, 
 ghost use Rattle.replay.specs.declared.policy.Request.{Request as Asked};
 ghost use Rattle.replay.specs.declared.policy.Given.{Given as Gift};
 ghost use Rattle.replay.specs.declared.policy.Want.{Want as Wish};
-ghost use Rattle.replay.specs.Policy.{is_response};
+ghost use Rattle.replay.specs.Policy.{HasOneWant, is_response};
 
 use cache_law::{Call, Reply};
 use http_heads::{RequestHead, ResponseHead};
@@ -98,4 +98,7 @@ pub trait Policy: Drop {
         ensures stands { OnOk result ((request : Asked) (givens : List Gift) → stands self.old request givens → stands self.new request (given ∷ givens)) }
         ensures wanted { IfOk result (λ want. (request : Asked) (givens : List Gift) → stands self.old request givens → wants request (given ∷ givens) want) }
         ensures calm { given ≡ Given.Sent → IfOk result (λ want. is_response want ≡ false) };
+
+    /// After the same givens a round wants the same.
+    ghost one_want: { HasOneWant wants };
 }

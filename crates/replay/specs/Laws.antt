@@ -1,0 +1,60 @@
+-- What is one of a session: its text and its scene over given entries, its history where no insertion was refused,
+-- and its ending.
+use Rattle.std.specs.Prelude.{◌≡◌, ◌≢◌, ◌⊎◌, ℕ, Option, Some, None, List}
+use Rattle.std.specs.List.{AllByRecursion}
+use Rattle.std.specs.Io.KnownBytes.{Appends}
+use Rattle.cache_law.specs.declared.setting.Params.{Params}
+use Rattle.cache_law.specs.declared.setting.Boot.{Boot}
+use Rattle.cache_law.specs.declared.call.Entry.{Entry}
+use Rattle.cache_law.specs.declared.call.Reply.TheVariants.{Refused}
+use Rattle.cache_law.specs.History.{Legal}
+use Rattle.replay.specs.declared.policy.Request.{Request}
+use Rattle.replay.specs.declared.policy.Given.{Given}
+use Rattle.replay.specs.declared.policy.Want.{Want}
+use Rattle.replay.specs.declared.event.Event.{Event}
+use Rattle.replay.specs.declared.event.Script.{Script}
+use Rattle.replay.specs.declared.session.ReplayError.{ReplayError}
+use Rattle.replay.specs.declared.session.ReplayError.TheVariants.{NotBuilt, Idle, Unanswered, WriteFault, HistoryFull, NoMemory}
+use Rattle.replay.specs.Scene.{Scene, Run, opening_scene}
+use Rattle.replay.specs.Replayed.{EndsSo}
+
+-- no insertion was refused for want of memory
+abbrev pub NoneRefused : List Entry → Type 0
+NoneRefused entries = AllByRecursion (λ entry. entry.reply ≢ Refused) entries
+
+-- Over given entries a session has one scene and one text: two runs that read the same events, enter the same entries
+-- and come to rest are one.
+abbrev pub OneText : (Request → List Given → Want → Type 0) → Type 0
+OneText wants =
+    (events : List Event) (entries : List Entry) (scene other : Scene) (text said : List ℕ)
+    → Run wants opening_scene scene events entries text → Run wants opening_scene other events entries said
+    → scene.running ≡ None → other.running ≡ None → (other ≡ scene) × (said ≡ text)
+
+-- A session has one history without a refused insertion, and so one scene and one text with it.
+abbrev pub OneHistory : (Request → List Given → Want → Type 0) → Type 0
+OneHistory wants =
+    (params : Params) (boot : Boot) (events : List Event) (entries others : List Entry) (scene other : Scene) (text said : List ℕ)
+    → Run wants opening_scene scene events entries text → Run wants opening_scene other events others said
+    → scene.running ≡ None → other.running ≡ None
+    → Legal params boot entries → Legal params boot others → NoneRefused entries → NoneRefused others
+    → (others ≡ entries) × (other ≡ scene) × (said ≡ text)
+
+-- an ending that the session itself has: neither the sink's fault nor want of memory
+abbrev pub IsOwnEnding : Option ReplayError → Type 0
+IsOwnEnding None = Unit {0}
+IsOwnEnding (Some (Idle line)) = Unit {0}
+IsOwnEnding (Some (Unanswered line)) = Unit {0}
+IsOwnEnding (Some HistoryFull) = Unit {0}
+IsOwnEnding (Some (NotBuilt line)) = ⊥
+IsOwnEnding (Some WriteFault) = ⊥
+IsOwnEnding (Some NoMemory) = ⊥
+
+-- A session has one ending over a history, and over all histories without a refused insertion: whole, Idle at one line,
+-- Unanswered, or a call that doesn't fit at one place. History and text are one with it.
+abbrev pub OneEnding : (Request → List Given → Want → Type 0) → Type 0
+OneEnding wants =
+    (params : Params) (boot : Boot) (script : Script) (history other : List Entry) (before now before2 now2 : Option (List ℕ)) (ending ending2 : Option ReplayError)
+    → EndsSo wants params boot script history before now ending → EndsSo wants params boot script other before2 now2 ending2
+    → IsOwnEnding ending → IsOwnEnding ending2
+    → (other ≡ history) ⊎ (NoneRefused history × NoneRefused other)
+    → (ending2 ≡ ending) × (other ≡ history) × (text : List ℕ) × Appends before now text × Appends before2 now2 text
