@@ -1,0 +1,96 @@
+-- What a run leaves, for each way in which it may end.
+use Rattle.std.specs.Prelude.{◌≡◌, ◌⊎◌, ℕ, Option, Some, None, List, [], ◌∷◌, codes}
+use Rattle.wire.specs.Content.{ReadsUpTo}
+use Rattle.session_text.specs.declared.session.Session.{Session as TheSession}
+use Rattle.session_text.specs.declared.session.FaultKind.{FaultKind}
+use Rattle.session_text.specs.Faults.{kind_number}
+use Rattle.session_text.specs.Sessions.{IsSession, IsFault}
+use Rattle.cache_law.specs.declared.setting.Params.{Params}
+use Rattle.cache_law.specs.declared.setting.Boot.{Boot}
+use Rattle.cache_law.specs.declared.call.Entry.{Entry}
+use Rattle.replay.specs.declared.session.ReplayError.{ReplayError}
+use Rattle.replay.specs.declared.session.ReplayError.TheVariants as refusals
+use Rattle.replay.specs.FixedPolicy.{Wants}
+use Rattle.replay.specs.Replayed.{SessionEnds}
+use Rattle.varn_program.specs.declared.outcome.Status.{Status}
+use Rattle.varn_program.specs.declared.outcome.Status.TheVariants.{Done, Words, Session, ReadFault, WriteFault, NoMemory, HistoryFull}
+use Rattle.varn_program.specs.declared.outcome.Note.{Note}
+use Rattle.varn_program.specs.declared.outcome.Outcome.{Outcome}
+
+-- the words are `replay` alone
+abbrev pub IsReplay : List (List ℕ) → Type 0
+IsReplay words = words ≡ codes "replay" ∷ []
+
+-- the VCL that a session begins under, which declares one backend
+abbrev pub opening_text : List ℕ
+opening_text = codes "vcl 4.1; backend default { .host = \"127.0.0.1\"; .port = \"8080\"; }"
+
+abbrev pub opening_boot : Boot
+opening_boot = record { text = opening_text; backends = codes "default" ∷ [] }
+
+-- the limits that hold when none is given
+abbrev pub usual_limits : Params
+usual_limits = record { room = 268435456; history = 268435456 }
+
+abbrev pub note_of : ℕ → ℕ → Option Note
+note_of line kind = Some (record { line = line; kind = kind })
+
+-- the text of a session: all that the source had left, or its first 67,108,865 bytes where it had more
+abbrev pub IsText : Option (List ℕ) → Option (List ℕ) → List ℕ → Type 0
+IsText before after text = ReadsUpTo 67108864 before after text
+
+-- nothing was played, and nothing written
+pub record Nothing (held0 held1 : Option (List ℕ)) (history : List Entry) : Type 0 where
+  pub history_is : history ≡ []
+  pub held_is : held1 ≡ held0
+
+-- the source's text is a session, and playing it ended so
+abbrev pub PlayedTo : Params → Option (List ℕ) → Option (List ℕ) → Option (List ℕ) → Option (List ℕ) → List Entry → Option ReplayError → Type 0
+PlayedTo params left0 left1 held0 held1 history refusal =
+    (text : List ℕ) × (session : TheSession) × IsText left0 left1 text × IsSession text session
+    × SessionEnds Wants session params opening_boot history held0 held1 refusal
+
+-- the source's text is no session
+abbrev pub IsRefused : Option (List ℕ) → Option (List ℕ) → Option Note → Type 0
+IsRefused left0 left1 note =
+    (text : List ℕ) × (line : ℕ) × (kind : FaultKind) × IsText left0 left1 text × IsFault text line kind × (note ≡ note_of line (kind_number kind))
+
+-- a line of the session isn't built, is idle, or is its end with somebody unanswered
+abbrev pub IsStopped : Params → Option (List ℕ) → Option (List ℕ) → Option (List ℕ) → Option (List ℕ) → List Entry → Option Note → Type 0
+IsStopped params left0 left1 held0 held1 history note =
+    ((line : ℕ) × (note ≡ note_of line 2) × PlayedTo params left0 left1 held0 held1 history (Some (refusals.NotBuilt line)))
+    ⊎ (((line : ℕ) × (note ≡ note_of line 7) × PlayedTo params left0 left1 held0 held1 history (Some (refusals.Idle line)))
+    ⊎ ((line : ℕ) × (note ≡ note_of line 8) × PlayedTo params left0 left1 held0 held1 history (Some (refusals.Unanswered line))))
+
+-- how a replay ends, by its status
+abbrev pub EndsAs : Params → Option (List ℕ) → Option (List ℕ) → Option (List ℕ) → Option (List ℕ) → List Entry → Option Note → Status → Type 0
+-- the whole transcript over the history
+EndsAs params left0 left1 held0 held1 history told Done = (told ≡ None) × PlayedTo params left0 left1 held0 held1 history None
+EndsAs params left0 left1 held0 held1 history told Words = ⊥
+-- refused before anything was written, or stopped at the noted line
+EndsAs params left0 left1 held0 held1 history told Session =
+    (Nothing held0 held1 history × IsRefused left0 left1 told) ⊎ IsStopped params left0 left1 held0 held1 history told
+EndsAs params left0 left1 held0 held1 history told ReadFault = (told ≡ None) × Nothing held0 held1 history
+EndsAs params left0 left1 held0 held1 history told WriteFault = (told ≡ None) × PlayedTo params left0 left1 held0 held1 history (Some refusals.WriteFault)
+EndsAs params left0 left1 held0 held1 history told HistoryFull = (told ≡ None) × PlayedTo params left0 left1 held0 held1 history (Some refusals.HistoryFull)
+EndsAs params left0 left1 held0 held1 history told NoMemory =
+    (told ≡ None) × (Nothing held0 held1 history ⊎ PlayedTo params left0 left1 held0 held1 history (Some refusals.NoMemory))
+
+abbrev pub EndsReplay : Params → Option (List ℕ) → Option (List ℕ) → Option (List ℕ) → Option (List ℕ) → Outcome → Type 0
+EndsReplay params left0 left1 held0 held1 outcome = EndsAs params left0 left1 held0 held1 outcome.history outcome.note outcome.status
+
+-- How a run ends: status Words exactly for other words than `replay`, with nothing read or written; else as a replay.
+abbrev pub Ends : List (List ℕ) → Option (List ℕ) → Option (List ℕ) → Option (List ℕ) → Option (List ℕ) → Outcome → Type 0
+Ends words left0 left1 held0 held1 outcome =
+    ((IsReplay words → ⊥) × (outcome ≡ record { status = Words; note = None; history = [] }) × (left1 ≡ left0) × (held1 ≡ held0))
+    ⊎ (IsReplay words × EndsReplay usual_limits left0 left1 held0 held1 outcome)
+
+-- the outcome of a session that was played
+abbrev pub outcome_of : List Entry → Option ReplayError → Outcome
+outcome_of history None = record { status = Done; note = None; history = history }
+outcome_of history (Some (refusals.NotBuilt line)) = record { status = Session; note = note_of line 2; history = history }
+outcome_of history (Some (refusals.Idle line)) = record { status = Session; note = note_of line 7; history = history }
+outcome_of history (Some (refusals.Unanswered line)) = record { status = Session; note = note_of line 8; history = history }
+outcome_of history (Some refusals.WriteFault) = record { status = WriteFault; note = None; history = history }
+outcome_of history (Some refusals.HistoryFull) = record { status = HistoryFull; note = None; history = history }
+outcome_of history (Some refusals.NoMemory) = record { status = NoMemory; note = None; history = history }

@@ -1,0 +1,120 @@
+// The top call.
+ghost use Rattle.std.specs.Prelude.{◌≡◌, ◌≤◌, ◌∷◌, [], codes, IsTrue, ◌↔◌, IfOk, Some, None};
+ghost use Rattle.varn_program.specs.Run.{IsReplay, Ends, EndsReplay, opening_boot, outcome_of};
+ghost use Rattle.wire.specs.Causes.{Rose};
+
+use crate::outcome::{Note, Outcome, Status};
+use cache_law::{Boot, Params};
+use replay::{ReplayError, Replayed, run_session};
+use session_text::{SESSION_LIMIT, SessionError};
+use std::alloc::{AllocError, Global};
+use units::{Sequence, Text};
+use wire::{ReadError, Sink, Source, read_all};
+
+/// The VCL that a session begins under, and the name of its one backend.
+const BOOT_TEXT: &[u8] = b"vcl 4.1; backend default { .host = \"127.0.0.1\"; .port = \"8080\"; }";
+
+const BACKEND: &[u8] = b"default";
+
+fn is_replay(words: &[Text]) -> bool
+    ensures { IsTrue result ↔ IsReplay words.now }
+{
+    match words {
+        [word] => word.bytes() == b"replay".as_slice(),
+        _ => false,
+    }
+}
+
+fn make_boot(alloc: Global) -> Result<Boot, AllocError>
+    ensures { IfOk result (λ boot. boot ≡ opening_boot) }
+{
+    let mut backends = Sequence::new(alloc);
+    backends.push(Text::of(alloc, BACKEND)?)?;
+    Ok(Boot {
+        text: Text::of(alloc, BOOT_TEXT)?,
+        backends,
+    })
+}
+
+// A run in which nothing was played.
+fn stopped(alloc: Global, status: Status, note: Option<Note>) -> Outcome
+    ensures { result ≡ record { status = status; note = note; history = [] } }
+{
+    Outcome {
+        status,
+        note,
+        history: Sequence::new(alloc),
+    }
+}
+
+// How a session that was played ended.
+fn ended(replayed: Replayed) -> Outcome
+    ensures { result ≡ outcome_of replayed.history replayed.refusal }
+{
+    let (status, note) = match replayed.refusal {
+        None => (Status::Done, None),
+        Some(ReplayError::NotBuilt(line)) => (Status::Session, Some(Note { line, kind: 2 })),
+        Some(ReplayError::Idle(line)) => (Status::Session, Some(Note { line, kind: 7 })),
+        Some(ReplayError::Unanswered(line)) => (Status::Session, Some(Note { line, kind: 8 })),
+        Some(ReplayError::WriteFault) => (Status::WriteFault, None),
+        Some(ReplayError::HistoryFull) => (Status::HistoryFull, None),
+        Some(ReplayError::NoMemory) => (Status::NoMemory, None),
+    };
+    Outcome {
+        status,
+        note,
+        history: replayed.history,
+    }
+}
+
+/// Reads the session from the source, plays it within these limits and writes its transcript to the sink.
+pub fn replay<S: Source, K: Sink>(
+    alloc: Global,
+    params: &Params,
+    source: &mut S,
+    sink: &mut K,
+) -> Outcome
+    ensures ends { EndsReplay params.now (S.left source.old) (S.left source.new) (K.held sink.old) (K.held sink.new) result }
+    ensures read_fault { result.status ≡ Status.ReadFault → Rose (S.faults source.old) (S.faults source.new) }
+    ensures write_fault { result.status ≡ Status.WriteFault → Rose (K.faults sink.old) (K.faults sink.new) }
+{
+    let text = match read_all(alloc, source, SESSION_LIMIT) {
+        Ok(text) => text,
+        Err(ReadError::Failed) => return stopped(alloc, Status::ReadFault, None),
+        Err(ReadError::NoMemory) => return stopped(alloc, Status::NoMemory, None),
+    };
+    let session = match session_text::read(alloc, text.as_slice()) {
+        Ok(session) => session,
+        Err(SessionError::Refused { line, kind }) => {
+            let kind = kind.number();
+            return stopped(alloc, Status::Session, Some(Note { line, kind }));
+        }
+        Err(SessionError::NoMemory) => return stopped(alloc, Status::NoMemory, None),
+    };
+    let boot = match make_boot(alloc) {
+        Ok(boot) => boot,
+        Err(_) => return stopped(alloc, Status::NoMemory, None),
+    };
+    ended(run_session(alloc, &session, params, boot, sink))
+}
+
+/// Does what the words say: `replay` alone plays the session of the source, within the usual limits.
+pub fn run<S: Source, K: Sink>(
+    alloc: Global,
+    words: &[Text],
+    source: &mut S,
+    sink: &mut K,
+) -> Outcome
+    ensures ends { Ends words.now (S.left source.old) (S.left source.new) (K.held sink.old) (K.held sink.new) result }
+    ensures read_fault { result.status ≡ Status.ReadFault → Rose (S.faults source.old) (S.faults source.new) }
+    ensures write_fault { result.status ≡ Status.WriteFault → Rose (K.faults sink.old) (K.faults sink.new) }
+{
+    if !is_replay(words) {
+        return stopped(alloc, Status::Words, None);
+    }
+    let params = Params {
+        room: Params::DEFAULT_ROOM,
+        history: Params::DEFAULT_HISTORY,
+    };
+    replay(alloc, &params, source, sink)
+}

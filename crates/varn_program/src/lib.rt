@@ -1,0 +1,16 @@
+//! What the program does, from its words to its status.
+//!
+//! Contract for the programs above: `run` does what the words say over a source and a sink, and hands out its status
+//! and the history of its cache; `specs/` say what each status means. `perform` calls it with the process's own words
+//! and streams.
+#![tactic(auto)]
+
+mod command;
+mod outcome;
+mod process;
+#[cfg(test)]
+mod tests;
+
+pub use command::{replay, run};
+pub use outcome::{Note, Outcome, Status};
+pub use process::perform;
