@@ -3,7 +3,7 @@ ghost use Rattle.std.specs.Prelude.{◌≡◌, ◌↔◌, ◌<◌, ◌≤◌, �
 ghost use Rattle.std.specs.Io.{ReadsAtMost, WritesAtMost};
 ghost use Rattle.std.specs.Io.KnownBytes.{ReadConsumes, WriteAppends};
 ghost use Rattle.wire.specs.Causes.{HasCause, TakesOrRose};
-ghost use Rattle.wire.specs.Memory.{SourceState, SinkState, after_read, after_failed_read, after_write, after_fault};
+ghost use Rattle.wire.specs.Memory.{SourceState, SinkState, after_read, after_failed_read, after_write, after_failed_write};
 
 use crate::{Failed, Sink, Source};
 use std::alloc::Global;
@@ -148,8 +148,8 @@ impl Sink for FailingSink {
         ensures takes { TakesOrRose self.old.faults self.new.faults result piece.now }
         ensures fails { Contains self.old.failing self.old.calls → IsErr result }
         ensures count { IfOk result (λ count. count ≡ min (length piece.now) self.old.most) }
-        ensures took { IfOk result (λ count. 0 < count → self.new ≡ after_write self.old piece.now count) }
-        ensures err { OnErr result (self.new ≡ after_fault self.old) }
+        ensures took { IfOk result (λ count. self.new ≡ after_write self.old piece.now count) }
+        ensures err { OnErr result (self.new ≡ after_failed_write self.old) }
     {
         let fails = self.failing.contains(&self.calls);
         self.calls = self.calls.saturating_add(1);

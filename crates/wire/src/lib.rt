@@ -6,6 +6,7 @@
 //! front of the piece, and an error adds nothing. `write_all` and `read_all` keep that over many calls.
 #![tactic(auto)]
 
+mod command_line;
 mod copying;
 mod failing;
 mod stream;
@@ -14,6 +15,7 @@ mod tests;
 mod traits;
 mod unfailing;
 
+pub use command_line::{WordsError, read_words, tell};
 pub use copying::{ReadError, WriteFault, read_all, write_all};
 pub use failing::{FailingSink, FailingSource};
 pub use stream::{StreamSink, StreamSource};

@@ -1,11 +1,40 @@
 // Sources and sinks over std's readers and writers.
-ghost use Rattle.std.specs.Prelude.{◌≡◌};
+ghost use Rattle.std.specs.Prelude.{◌≡◌, ◌≤◌};
+ghost use Rattle.wire.specs.Causes.{Settles};
 
 use crate::{Failed, Sink, Source};
+use std::io;
 use std::io::{ErrorKind, Read, Write};
 
-// How often a call is made again where a signal interrupted it.
+// How often a call is made at most where signals interrupt it.
 const TRIES: u64 = 1 << 32;
+
+// What one answer of a reader or writer comes to. None where a signal interrupted the call, which is to be made again.
+fn settled(
+    answer: io::Result<usize>,
+    none_is_fault: bool,
+    faults: &mut u64,
+) -> Option<Result<usize, Failed>>
+    ensures settles { Settles answer none_is_fault result faults.old faults.new }
+    ensures later { faults.old ≤ faults.new }
+{
+    match answer {
+        Ok(count) => {
+            if count == 0 && none_is_fault {
+                *faults = faults.saturating_add(1);
+            }
+            Some(Ok(count))
+        }
+        Err(error) => {
+            *faults = faults.saturating_add(1);
+            if error.kind() == ErrorKind::Interrupted {
+                None
+            } else {
+                Some(Err(Failed))
+            }
+        }
+    }
+}
 
 /// A source over a reader. It tells of the bytes what the reader tells: standard input tells nothing.
 #[derive(Drop)]
@@ -29,18 +58,12 @@ impl<R: Read + Drop> Source for StreamSource<R> {
 
     /// A read that a signal interrupted counts as a fault, and is made again.
     fn read(&mut self, into: &mut [u8]) -> Result<usize, Failed> {
-        for _ in 0..TRIES {
-            match self.reader.read(into) {
-                Ok(count) => return Ok(count),
-                Err(error) => {
-                    self.faults = self.faults.saturating_add(1);
-                    if error.kind() != ErrorKind::Interrupted {
-                        return Err(Failed);
-                    }
-                }
+        for turn in 0..TRIES {
+            let answer = self.reader.read(into);
+            if let Some(settled) = settled(answer, false, &mut self.faults) {
+                return settled;
             }
         }
-        self.faults = self.faults.saturating_add(1);
         Err(Failed)
     }
 }
@@ -67,22 +90,12 @@ impl<W: Write + Drop> Sink for StreamSink<W> {
 
     /// A write that a signal interrupted counts as a fault, and is made again.
     fn write(&mut self, piece: &[u8]) -> Result<usize, Failed> {
-        for _ in 0..TRIES {
-            match self.writer.write(piece) {
-                Ok(0) if !piece.is_empty() => {
-                    self.faults = self.faults.saturating_add(1);
-                    return Ok(0);
-                }
-                Ok(count) => return Ok(count),
-                Err(error) => {
-                    self.faults = self.faults.saturating_add(1);
-                    if error.kind() != ErrorKind::Interrupted {
-                        return Err(Failed);
-                    }
-                }
+        for turn in 0..TRIES {
+            let answer = self.writer.write(piece);
+            if let Some(settled) = settled(answer, !piece.is_empty(), &mut self.faults) {
+                return settled;
             }
         }
-        self.faults = self.faults.saturating_add(1);
         Err(Failed)
     }
 }

@@ -1,6 +1,56 @@
+ghost use Rattle.std.specs.Prelude.{◌≤◌, IfOk};
+
 use super::*;
 use std::alloc::Global;
+use std::collections::VecDeque;
+use std::io;
+use std::io::{ErrorKind, Read, Write};
 use std::test::Fail;
+
+// A reader and writer of std that answers as it is told to: a number of bytes, or an error. With no answer left it
+// answers 0.
+#[derive(Drop)]
+struct Told {
+    answers: VecDeque<Result<usize, ErrorKind>>,
+}
+
+impl Told {
+    fn of(alloc: Global, answers: &[Result<usize, ErrorKind>]) -> Result<Told, Fail> {
+        let mut told = Told {
+            answers: VecDeque::new(alloc),
+        };
+        for answer in answers {
+            told.answers.push_back(*answer)?;
+        }
+        Ok(told)
+    }
+
+    fn next(&mut self, most: usize) -> io::Result<usize>
+        ensures { IfOk result (λ count. count ≤ most) }
+    {
+        match self.answers.pop_front() {
+            Some(Ok(count)) => Ok(count.min(most)),
+            Some(Err(kind)) => Err(io::Error::from(kind)),
+            None => Ok(0),
+        }
+    }
+}
+
+impl Read for Told {
+    fn read(&mut self, into: &mut [u8]) -> io::Result<usize> {
+        self.next(into.len())
+    }
+}
+
+impl Write for Told {
+    fn write(&mut self, piece: &[u8]) -> io::Result<usize> {
+        self.next(piece.len())
+    }
+
+    fn flush(&mut self) -> io::Result<()> {
+        Ok(())
+    }
+}
 
 // What is read of the bytes up to the limit, where one call fails; None where reading failed.
 fn read_of(
@@ -65,5 +115,40 @@ fn sinks(rt: HostRuntime) -> Result<(), Fail> {
     let mut stream = StreamSink::new(Vec::new(alloc));
     assert!(rt; write_all(&mut stream, b"abc").is_ok());
     assert!(rt; write_all(&mut stream, b"").is_ok());
+    Ok(())
+}
+
+#[test]
+fn streams_count_their_faults(rt: HostRuntime) -> Result<(), Fail> {
+    let interrupted = Err(ErrorKind::Interrupted);
+    let broken = Err(ErrorKind::BrokenPipe);
+    let answers = [Ok(2), interrupted, interrupted, Ok(1), broken, Ok(0)];
+    let mut source = StreamSource::new(Told::of(rt.alloc(), &answers)?);
+    let mut sink = StreamSink::new(Told::of(rt.alloc(), &answers)?);
+    let mut room = [0u8; 4];
+    let wanted = [
+        (Ok(2), 0, 0),
+        (Ok(1), 2, 2),
+        (Err(Failed), 3, 3),
+        (Ok(0), 3, 4),
+    ];
+    for (answer, read_faults, write_faults) in wanted {
+        assert!(rt; source.read(&mut room) == answer);
+        assert_eq!(rt; source.faults, read_faults);
+        assert!(rt; sink.write(b"abcd") == answer);
+        assert_eq!(rt; sink.faults, write_faults);
+    }
+    assert!(rt; source.read(&mut []) == Ok(0));
+    assert_eq!(rt; source.faults, 3);
+    assert!(rt; sink.write(b"") == Ok(0));
+    assert_eq!(rt; sink.faults, 4);
+    Ok(())
+}
+
+#[test]
+fn words_are_read(rt: HostRuntime) -> Result<(), Fail> {
+    let words = read_words(&rt)?;
+    tell(&rt, "a line");
+    assert!(rt; words.len() < 1_000_000);
     Ok(())
 }

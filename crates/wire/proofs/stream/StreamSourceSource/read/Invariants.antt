@@ -1,10 +1,12 @@
--- The count of faults has not fallen, and an error left the bytes as they were.
-use Rattle.std.proofs.Common.{◌≤◌}
+-- Every turn so far was a fault, and left the bytes as they were.
+use Rattle.std.proofs.Common.{◌≤◌, ◌<◌}
 use Rattle.std.specs.Io.KnownBytes.{Keeps}
+use Rattle.wire.specs.Causes.{Rose}
 use Rattle.wire.proofs.stream.StreamSourceSource.read.Given as goal
 
-abbrev pub invariant-loop : goal.invariant-loop
-invariant-loop g l = record {
+abbrev pub invariant-loop-turn : goal.invariant-loop-turn
+invariant-loop-turn g l = record {
   later : l.fn.self.faults ≤ l.self.faults;
+  rose : 0 < l.turn → Rose l.fn.self.faults l.self.faults;
   kept : Keeps (g.R.Read.remaining l.fn.self.reader) (g.R.Read.remaining l.self.reader);
 }
