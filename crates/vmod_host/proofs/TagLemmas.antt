@@ -1,7 +1,6 @@
 -- The tags that were met so far, as a set.
-use Rattle.std.proofs.Common.{Ordering, Less, Greater, ◌≡◌, ◌≢◌, ◌⊎◌, ℕ, ◌+◌, ◌<◌, ◌≤◌, Bool, true, false, cond, List, [], length, map, get_or, nat_eq, sym, ◌∙◌, ap, subst, refl, inl, inr, arith}
+use Rattle.std.proofs.Common.{Less, Greater, ◌≡◌, ◌≢◌, ℕ, ◌+◌, ◌<◌, ◌≤◌, true, false, List, [], length, map, get_or, nat_eq, sym, ◌∙◌, ap, subst, inl, inr, arith}
 use Rattle.std.proofs.lemmas.Bool.{cases_Bool, cases_lt, cases_order, cond-true, cond-false, false≢true, true≢false, eq-eqb}
-use Rattle.std.proofs.lemmas.Bool.Decides.{nat_tests}
 use Rattle.std.proofs.lemmas.Map.Keys.{apart_from_distinct}
 use Rattle.std.proofs.lemmas.Map.Made.{IsDistinct-from_AllPairs}
 use Rattle.std.proofs.lemmas.List.{get_or_default, get_or-map, length-map}

@@ -1,6 +1,6 @@
 -- Texts as whole numbers (Varnish, vmod_std, `std.integer`): blanks around a sign or none and decimal digits, a
 -- number of 64 bits with a sign.
-use Rattle.std.specs.Prelude.{ℕ, ℤ, pos, ◌-ℤ◌, ◌^◌, ◌≤◌, Bool, ◌==◌, ◌||◌, nat_le, nat_lt, List, [], ◌∷◌, reverse, Option, Some, None, if◌then◌else◌}
+use Rattle.std.specs.Prelude.{ℕ, ℤ, pos, ◌-ℤ◌, ◌^◌, Bool, ◌==◌, ◌||◌, nat_le, nat_lt, List, [], ◌∷◌, reverse, Option, Some, None, if◌then◌else◌}
 use Rattle.std.specs.List.{list_all}
 use Rattle.std.specs.Option.{option_and_then}
 use Rattle.std.specs.Char.{is_ascii_digit}

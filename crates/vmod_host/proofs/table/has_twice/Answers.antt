@@ -1,6 +1,6 @@
 use Rattle.std.proofs.Common.{◌≡◌, ℕ, true, false, map, subst, refl, sym, ◌∙◌}
 use Rattle.std.proofs.lemmas.Bool.{true≢false, not-false, not-true}
-use Rattle.std.specs.BTreeSet.{BTreeSet, contains, Updates}
+use Rattle.std.specs.BTreeSet.{contains, Updates}
 use Rattle.std.specs.Ordering.{nat_cmp}
 use Rattle.vmod_host.proofs.TagLemmas.{Met, Met-more, IsDistinct-met, twice-met, tag-at, tags-within, tags-whole}
 use Rattle.vmod_host.proofs.table.has_twice.Goals as goal
