@@ -1,11 +1,11 @@
 -- When entries are sound, and that one fault alone is the first.
-use Rattle.std.proofs.Common.{◌≡◌, ◌≤◌, ◌<◌, ℕ, List, [], ◌∷◌, ◌++◌, Some, take, length, sym, ◌∙◌, ap, subst, refl, ◌⊎◌, ⊎_elim, inl, inr, arith}
-use Rattle.std.specs.List.{Contains, slice_get}
+use Rattle.std.proofs.Common.{◌≡◌, ◌≤◌, ◌<◌, ℕ, List, [], ◌∷◌, ◌++◌, Some, take, length, sym, ◌∙◌, ap, subst, refl, ⊎_elim, arith}
+use Rattle.std.specs.List.{Any, Contains, slice_get}
 use Rattle.std.proofs.lemmas.List.{get_or-take, length-take, take_all}
 use Rattle.std.proofs.lemmas.Option.{get_or_from_slice_get, slice_get_within}
 use Rattle.std.proofs.lemmas.List.Elements.{Contains-push_cases}
 use Rattle.acl_match.specs.declared.entry.AclEntry.{AclEntry}
-use Rattle.acl_match.specs.Acl.{AllShort, IsSound, IsFirstMask, IsFirstClash}
+use Rattle.acl_match.specs.Acl.{AllShort, Clash, IsSound, IsFirstMask, IsFirstClash}
 use Rattle.std.specs.Prelude.{Bool, Result, Ok, Err, OnOk, IsErrOf}
 use Rattle.std.proofs.lemmas.Bool.{cases_order}
 use Rattle.acl_match.specs.declared.acl.AclError.{AclError}
@@ -29,6 +29,10 @@ IsSound-recorded entries signs short records = record {
       let there : get network_cmp signs (network second) ≡ Some first.negated = ap (get network_cmp signs) (sym same) ∙ records.known first one in
       clash.signs (cc (there, records.known second two));
 }
+
+-- an entry before that clashes with the last one
+listed_clash : (before : List AclEntry) (last first : AclEntry) → Contains before first → Clash first last → Any (Clash last) before
+listed_clash before last first listed clash = (listed.0, first, listed.1, listed.2, record { mask = sym clash.mask; network = sym clash.network; signs = λ same. clash.signs (sym same) })
 
 -- what stands at a place is among the entries before a later one
 Contains-take : (entries : List AclEntry) (place later : ℕ) (entry : AclEntry) → slice_get entries place ≡ Some entry → place < later → Contains (take later entries) entry
@@ -62,32 +66,51 @@ faults_apart entries place mask clash =
 whole : (entries : List AclEntry) → IsSound entries → IsSound (take (length entries) entries)
 whole entries sound = let P : List AclEntry → Type 0 = λ es. IsSound es in subst P (sym (take_all (length entries) entries (omega arith))) sound
 
--- an answer that is right of sound entries and of first faults tells a first fault that there is, or that
--- memory was wanting
-pub tells_mask : {T : Type 0} (entries : List AclEntry) (answer : Result T AclError) → OnOk answer (IsSound entries)
+-- An answer that is right of sound entries and of first faults, and that memory was wanting only where there are none,
+-- tells each first fault.
+pub mask_told : {T : Type 0} (entries : List AclEntry) (answer : Result T AclError) → OnOk answer (IsSound entries)
     → ((place : ℕ) → IsErrOf answer (errors.Mask place) → IsFirstMask entries place) → ((place : ℕ) → IsErrOf answer (errors.Clash place) → IsFirstClash entries place)
-    → (place : ℕ) → IsFirstMask entries place → IsErrOf answer (errors.Mask place) ⊎ IsErrOf answer errors.NoMemory
-tells_mask entries (Ok done) ok mask clash place fault = absurd (IsFirstMask-unsound entries place (length entries) fault (whole entries ok) (slice_get_within entries place fault.here.0 fault.here.1))
-tells_mask entries (Err (errors.Mask other)) ok mask clash place fault = ⊎_elim
-    (λ same. inl (ap (λ (n : ℕ). Err (errors.Mask n)) (sym same)))
+    → (IsErrOf answer errors.NoMemory → IsSound entries) → (place : ℕ) → IsFirstMask entries place → IsErrOf answer (errors.Mask place)
+mask_told entries (Ok done) ok mask clash wanting place fault = absurd (IsFirstMask-unsound entries place (length entries) fault (whole entries ok) (slice_get_within entries place fault.here.0 fault.here.1))
+mask_told entries (Err (errors.Mask other)) ok mask clash wanting place fault = ⊎_elim
+    (λ same. ap (λ (n : ℕ). Err (errors.Mask n)) (sym same))
     (⊎_elim (λ below. absurd (IsFirstMask-unsound entries place other fault (mask other refl).before below)) (λ above. absurd (IsFirstMask-unsound entries other place (mask other refl) fault.before above)))
     (cases_order place other)
-tells_mask entries (Err (errors.Clash other)) ok mask clash place fault = ⊎_elim
+mask_told entries (Err (errors.Clash other)) ok mask clash wanting place fault = ⊎_elim
     (λ same. let P : ℕ → Type 0 = λ n. IsFirstClash entries n in absurd (faults_apart entries place fault (subst P (sym same) (clash other refl))))
     (⊎_elim (λ below. absurd (IsFirstMask-unsound entries place other fault (clash other refl).before below)) (λ above. absurd (IsFirstClash-unsound entries other place (clash other refl) fault.before above)))
     (cases_order place other)
-tells_mask entries (Err errors.NoMemory) ok mask clash place fault = inr refl
+mask_told entries (Err errors.NoMemory) ok mask clash wanting place fault = absurd (IsFirstMask-unsound entries place (length entries) fault (whole entries (wanting refl)) (slice_get_within entries place fault.here.0 fault.here.1))
 
-pub tells_clash : {T : Type 0} (entries : List AclEntry) (answer : Result T AclError) → OnOk answer (IsSound entries)
+pub clash_told : {T : Type 0} (entries : List AclEntry) (answer : Result T AclError) → OnOk answer (IsSound entries)
     → ((place : ℕ) → IsErrOf answer (errors.Mask place) → IsFirstMask entries place) → ((place : ℕ) → IsErrOf answer (errors.Clash place) → IsFirstClash entries place)
-    → (place : ℕ) → IsFirstClash entries place → IsErrOf answer (errors.Clash place) ⊎ IsErrOf answer errors.NoMemory
-tells_clash entries (Ok done) ok mask clash place fault = absurd (IsFirstClash-unsound entries place (length entries) fault (whole entries ok) (slice_get_within entries place fault.here.0 fault.here.1))
-tells_clash entries (Err (errors.Clash other)) ok mask clash place fault = ⊎_elim
-    (λ same. inl (ap (λ (n : ℕ). Err (errors.Clash n)) (sym same)))
+    → (IsErrOf answer errors.NoMemory → IsSound entries) → (place : ℕ) → IsFirstClash entries place → IsErrOf answer (errors.Clash place)
+clash_told entries (Ok done) ok mask clash wanting place fault = absurd (IsFirstClash-unsound entries place (length entries) fault (whole entries ok) (slice_get_within entries place fault.here.0 fault.here.1))
+clash_told entries (Err (errors.Clash other)) ok mask clash wanting place fault = ⊎_elim
+    (λ same. ap (λ (n : ℕ). Err (errors.Clash n)) (sym same))
     (⊎_elim (λ below. absurd (IsFirstClash-unsound entries place other fault (clash other refl).before below)) (λ above. absurd (IsFirstClash-unsound entries other place (clash other refl) fault.before above)))
     (cases_order place other)
-tells_clash entries (Err (errors.Mask other)) ok mask clash place fault = ⊎_elim
+clash_told entries (Err (errors.Mask other)) ok mask clash wanting place fault = ⊎_elim
     (λ same. let P : ℕ → Type 0 = λ n. IsFirstMask entries n in absurd (faults_apart entries place (subst P (sym same) (mask other refl)) fault))
     (⊎_elim (λ below. absurd (IsFirstClash-unsound entries place other fault (mask other refl).before below)) (λ above. absurd (IsFirstMask-unsound entries other place (mask other refl) fault.before above)))
     (cases_order place other)
-tells_clash entries (Err errors.NoMemory) ok mask clash place fault = inr refl
+clash_told entries (Err errors.NoMemory) ok mask clash wanting place fault = absurd (IsFirstClash-unsound entries place (length entries) fault (whole entries (wanting refl)) (slice_get_within entries place fault.here.0 fault.here.1))
+
+-- one more entry that clashes with none before it
+pub IsSound-push : (before : List AclEntry) (last : AclEntry) → IsSound before → last.mask ≤ 32 → (Any (Clash last) before → ⊥) → IsSound (before ++ last ∷ [])
+IsSound-push before last sound short none = record {
+  masks = AllShort-push before last sound.masks short;
+  signs = λ first second one two clash. ⊎_elim
+      (λ inside. ⊎_elim
+      (λ other. sound.signs first second inside other clash)
+      (λ same. let P : AclEntry → Type 0 = λ x. Clash first x in none (listed_clash before last first inside (subst P (sym same) clash)))
+      (Contains-push_cases before last second two))
+      (λ same. ⊎_elim
+      (λ other. let P : AclEntry → Type 0 = λ x. Clash x second in none (other.0, second, other.1, other.2, subst P (sym same) clash))
+      (λ both. clash.signs (ap (λ (e : AclEntry). e.negated) (sym same ∙ both)))
+      (Contains-push_cases before last second two))
+      (Contains-push_cases before last first one);
+}
+
+pub IsSound-nil : IsSound []
+IsSound-nil = record { masks = AllShort-nil; signs = λ first second one two clash. omega (arith, one.1) }

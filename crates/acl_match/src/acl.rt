@@ -37,17 +37,12 @@ impl Model for Acl {
 }
 
 impl Acl {
-    /// The address list of these entries.
+    /// The address list of these entries. Memory is wanting only where they have no fault.
     pub fn of(alloc: Global, entries: AclEntries) -> Result<Acl, AclError>
         ensures ok { IfOk result (λ acl. (acl ≡ entries) × IsSound entries) }
-        ensures mask { (place : ℕ) → IsErrOf result (AclError.Mask place) → IsFirstMask entries place }
-        ensures clash { (place : ℕ) → IsErrOf result (AclError.Clash place) → IsFirstClash entries place }
-
-        // A first fault that there is, is told, unless memory is wanting.
-        ensures mask_told { (place : ℕ) → IsFirstMask entries place
-            → IsErrOf result (AclError.Mask place) ⊎ IsErrOf result AclError.NoMemory }
-        ensures clash_told { (place : ℕ) → IsFirstClash entries place
-            → IsErrOf result (AclError.Clash place) ⊎ IsErrOf result AclError.NoMemory }
+        ensures mask { (place : ℕ) → IsErrOf result (AclError.Mask place) ↔ IsFirstMask entries place }
+        ensures clash { (place : ℕ) → IsErrOf result (AclError.Clash place) ↔ IsFirstClash entries place }
+        ensures wanting { IsErrOf result AclError.NoMemory → IsSound entries }
     {
         match first_fault(alloc, entries.as_slice()) {
             Ok(()) => Ok(Acl { entries }),

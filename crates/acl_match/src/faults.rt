@@ -1,5 +1,5 @@
 // The first fault among entries.
-ghost use Rattle.std.specs.Prelude.{◌≡◌, ◌≤◌, ◌∷◌, ◌++◌, [], ℕ, List, ◌↔◌, IsTrue, IfOk, OnOk, IsErrOf, Any, false};
+ghost use Rattle.std.specs.Prelude.{◌≡◌, ◌≢◌, ◌≤◌, ◌∷◌, ◌++◌, [], ℕ, List, ◌↔◌, IsTrue, IfOk, OnOk, IsErrOf, Err, Any, false};
 ghost use Rattle.acl_match.specs.declared.entry.AclEntry.{AclEntry};
 ghost use Rattle.acl_match.specs.Acl.{IsSound, IsFirstMask, IsFirstClash, Clash};
 ghost use Rattle.acl_match.specs.Signs.{Records};
@@ -10,15 +10,70 @@ use crate::network::{Network, network_of};
 use std::alloc::{AllocError, Global};
 use std::collections::BTreeMap;
 
-/// The first fault among entries, told at the place at which it is complete.
+// An address has so many bits.
+const LONGEST_MASK: u8 = 32;
+
+/// The first fault among entries, told at the place at which it is complete. Memory is wanting only where there is
+/// none: without memory each entry is compared with those before it.
 pub fn first_fault(alloc: Global, entries: &[AclEntry]) -> Result<(), AclError>
+    ensures ok { OnOk result (IsSound entries.now) }
+    ensures mask { (place : ℕ) → IsErrOf result (AclError.Mask place) → IsFirstMask entries.now place }
+    ensures clash { (place : ℕ) → IsErrOf result (AclError.Clash place) → IsFirstClash entries.now place }
+    ensures wanting { IsErrOf result AclError.NoMemory → IsSound entries.now }
+{
+    match fault_by_network(alloc, entries) {
+        Err(AclError::NoMemory) => match fault_by_pair(entries) {
+            Ok(()) => Err(AclError::NoMemory),
+            Err(fault) => Err(fault),
+        },
+        told => told,
+    }
+}
+
+// The first fault, found by comparing each entry with those before it.
+fn fault_by_pair(entries: &[AclEntry]) -> Result<(), AclError>
+    ensures ok { OnOk result (IsSound entries.now) }
+    ensures mask { (place : ℕ) → IsErrOf result (AclError.Mask place) → IsFirstMask entries.now place }
+    ensures clash { (place : ℕ) → IsErrOf result (AclError.Clash place) → IsFirstClash entries.now place }
+    ensures told { result ≢ Err AclError.NoMemory }
+{
+    for (place, entry) in entries.iter().enumerate() {
+        if entry.mask > LONGEST_MASK {
+            return Err(AclError::Mask { place });
+        }
+        if clashes_with_any(entry, &entries[..place]) {
+            return Err(AclError::Clash { place });
+        }
+    }
+    Ok(())
+}
+
+fn clashes_with_any(entry: &AclEntry, others: &[AclEntry]) -> bool
+    requires { entry.now.mask ≤ 32 }
+    ensures { IsTrue result ↔ Any (Clash entry.now) others.now }
+{
+    others.iter().any(|other| is_clash(entry, other))
+}
+
+fn is_clash(entry: &AclEntry, other: &AclEntry) -> bool
+    requires { entry.now.mask ≤ 32 }
+    ensures { IsTrue result ↔ Clash entry.now other.now }
+{
+    entry.mask == other.mask
+        && network_of(entry.address, entry.mask).number
+            == network_of(other.address, other.mask).number
+        && entry.negated != other.negated
+}
+
+// The first fault, found with the sign of each network so far.
+fn fault_by_network(alloc: Global, entries: &[AclEntry]) -> Result<(), AclError>
     ensures ok { OnOk result (IsSound entries.now) }
     ensures mask { (place : ℕ) → IsErrOf result (AclError.Mask place) → IsFirstMask entries.now place }
     ensures clash { (place : ℕ) → IsErrOf result (AclError.Clash place) → IsFirstClash entries.now place }
 {
     let mut signs: BTreeMap<Network, bool> = BTreeMap::new(alloc);
     for (place, entry) in entries.iter().enumerate() {
-        if entry.mask > 32 {
+        if entry.mask > LONGEST_MASK {
             return Err(AclError::Mask { place });
         }
         match clashes(&mut signs, entry) {

@@ -31,6 +31,11 @@ pub fn choose(kind: DirectorKind, members: &Members, next: u64, word: u64) -> Op
     }
 }
 
+/// A kind, members, counter and word have one chosen place at most.
+pub fn one_choice(kind: DirectorKind, members: &Members, next: u64, word: u64)
+    ensures { (x y : ℕ) → Chooses kind members.now next word x → Chooses kind members.now next word y → x ≡ y }
+{}
+
 // The first healthy member.
 fn first_healthy(weights: &[u32]) -> Option<usize>
     ensures chosen { IfSome result (IsFirstFrom weights.now 0) }

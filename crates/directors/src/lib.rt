@@ -9,5 +9,5 @@ mod key;
 #[cfg(test)]
 mod tests;
 
-pub use director::{DirectorKind, Members, choose};
+pub use director::{DirectorKind, Members, choose, one_choice};
 pub use key::key_word;

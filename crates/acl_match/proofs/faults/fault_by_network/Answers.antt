@@ -4,16 +4,16 @@ use Rattle.std.proofs.lemmas.List.{take_more, take_all}
 use Rattle.acl_match.specs.Acl.{IsFirstMask, IsFirstClash}
 use Rattle.acl_match.proofs.SignLemmas.{Records-nil}
 use Rattle.acl_match.proofs.SoundnessLemmas.{AllShort-nil, AllShort-push, IsSound-recorded}
-use Rattle.acl_match.proofs.faults.first_fault.Goals as goal
+use Rattle.acl_match.proofs.faults.fault_by_network.Goals as goal
 
 pub loop-place-init : goal.loop-place-init
 loop-place-init c = record { short = AllShort-nil; recorded = Records-nil c.new-signs.result c.new-signs.ensures.empty }
 
-pub returns-then-entry-gt32-clause-mask : goal.returns-then-entry-gt32-clause-mask
-returns-then-entry-gt32-clause-mask c = λ place is.
+pub returns-then-entry-gt-LONGEST_MASK-clause-mask : goal.returns-then-entry-gt-LONGEST_MASK-clause-mask
+returns-then-entry-gt-LONGEST_MASK-clause-mask c = λ place is.
     let same : c.loop-place.place ≡ place = cc in
     let P : ℕ → Type 0 = λ i. IsFirstMask c.args.entries.now i in
-    subst P same (record { before = IsSound-recorded _ c.loop-place.signs c.loop-place.invariant.short c.loop-place.invariant.recorded; here = (_, slice_get-get_or _ _ _ c.loop-place-test.true, c.if-entry-gt32.true) })
+    subst P same (record { before = IsSound-recorded _ c.loop-place.signs c.loop-place.invariant.short c.loop-place.invariant.recorded; here = (_, slice_get-get_or _ _ _ c.loop-place-test.true, c.if-entry-gt-LONGEST_MASK.true) })
 
 pub returns-in-Ok-true-clause-clash : goal.returns-in-Ok-true-clause-clash
 returns-in-Ok-true-clause-clash c = λ place is.
