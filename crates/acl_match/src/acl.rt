@@ -6,6 +6,8 @@ use crate::deciding::decider;
 use crate::entry::AclEntries;
 use crate::faults::first_fault;
 use std::alloc::Global;
+use std::error::Error;
+use std::fmt;
 use std::marker::Model;
 
 /// Why entries are no address list.
@@ -17,6 +19,21 @@ pub enum AclError {
     Mask { place: usize },
     NoMemory,
 }
+
+impl fmt::Display for AclError {
+    fn fmt<W: fmt::Write>(&self, f: &mut fmt::Formatter<W>) -> fmt::Result {
+        match self {
+            AclError::Clash { place } => write!(
+                f,
+                "entry {place} is the network of an earlier one with the other sign"
+            ),
+            AclError::Mask { place } => write!(f, "entry {place} has a mask over 32"),
+            AclError::NoMemory => f.write_str("out of memory"),
+        }
+    }
+}
+
+impl Error for AclError {}
 
 /// An address list: entries without a fault.
 #[derive(Drop)]

@@ -4,7 +4,7 @@ ghost use Rattle.units.specs.Quoted.{IsQuoted};
 ghost use Rattle.cli_words.specs.Words.{ReadsWord, ReadsPlain, IsWordEnd, is_blank, plain_piece};
 
 use std::alloc::{AllocError, Global};
-use units::{Text, quoted, read_escape};
+use units::{Text, end_of_quoted, quoted, read_escape};
 
 /// The word that the bytes begin with, and what is behind it. None where they begin with none.
 pub fn read_word(alloc: Global, start: &[u8]) -> Result<Option<(Text, &[u8])>, AllocError>
@@ -55,7 +55,37 @@ fn read_plain(alloc: Global, start: &[u8]) -> Result<Option<(Text, &[u8])>, Allo
     if !is_word_end(rest) {
         return Ok(None);
     }
-    Ok(Some((Text::of(alloc, word.as_slice())?, rest)))
+    Ok(Some((Text::from_vec(word)?, rest)))
+}
+
+/// What is behind the word that the bytes begin with. None where they begin with none. It takes no memory.
+pub fn behind_word(start: &[u8]) -> Option<&[u8]>
+    requires { 0 < length start.now }
+    ensures word { MatchOption result
+        ((word rest : List ℕ) → ReadsWord word start.now rest → ⊥)
+        (λ rest. (word : List ℕ) × ReadsWord word start.now rest.now) }
+    ensures shorter { IfSome result (λ rest. length rest.now < length start.now) }
+{
+    if start[0] == b'"' {
+        let behind = end_of_quoted(start, 0)?;
+        return Some(&start[behind..]);
+    }
+    behind_plain(start)
+}
+
+// What is behind the plain word that the bytes begin with.
+fn behind_plain(start: &[u8]) -> Option<&[u8]>
+    ensures word { MatchOption result
+        ((word rest : List ℕ) → 0 < length word → ReadsPlain word start.now rest → IsWordEnd rest → ⊥)
+        (λ rest. (word : List ℕ) × (0 < length word) × ReadsPlain word start.now rest.now × IsWordEnd rest.now) }
+    ensures shorter { IfSome result (λ rest. length rest.now < length start.now) }
+{
+    let (_, first) = read_piece(start)?;
+    let mut rest = first;
+    'pieces: while let Some((_, behind)) = read_piece(rest) {
+        rest = behind;
+    }
+    if is_word_end(rest) { Some(rest) } else { None }
 }
 
 // The byte that the first piece of a plain word stands for, and what is behind the piece.
@@ -63,16 +93,9 @@ fn read_piece(bytes: &[u8]) -> Option<(u8, &[u8])>
     ensures piece { option_map (λ x. (x.0, x.1.now)) result ≡ plain_piece bytes.now }
 {
     match bytes {
-        [] => None,
-        [first, rest @ ..] => {
-            if *first == b'\\' {
-                return read_escape(rest);
-            }
-            if is_blank_byte(*first) {
-                return None;
-            }
-            Some((*first, rest))
-        }
+        [] | [b' ' | b'\t', ..] => None,
+        [b'\\', rest @ ..] => read_escape(rest),
+        [first, rest @ ..] => Some((*first, rest)),
     }
 }
 

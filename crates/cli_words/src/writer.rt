@@ -28,7 +28,7 @@ fn write_some(alloc: Global, first: &Text, rest: &[Text]) -> Result<Text, AllocE
     for word in rest {
         push_next_word(&mut out, alloc, word)?;
     }
-    Text::of(alloc, out.as_slice())
+    Text::from_vec(out)
 }
 
 // Writes a space and a word at the end.
@@ -36,9 +36,7 @@ fn push_next_word(out: &mut Vec<u8>, alloc: Global, word: &Text) -> Result<(), A
     ensures ok { OnOk result (out.new.items ≡ out.old.items ++ 32 ∷ word_text word.now) }
     ensures bytes { OnOk result (IsBytes word.now) }
 {
-    if out.push(b' ').is_err() {
-        return Err(AllocError);
-    }
+    out.push(b' ')?;
     push_word(out, alloc, word)
 }
 

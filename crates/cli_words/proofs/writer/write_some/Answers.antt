@@ -18,4 +18,4 @@ returns-clause-read_again c =
     let whole = take_all c.loop-word.word-index c.args.rest.now c.loop-word-test.false in
     let at : List (List ℕ) → Type 0 = λ w. (c.loop-word.out.items ≡ words_text (c.args.first.now ∷ w)) × AllByRecursion IsBytes (c.args.first.now ∷ w) in
     let here = subst at whole c.loop-word.invariant in
-    written_ok c.of.result c.as_slice.result.now (c.args.first.now ∷ c.args.rest.now) c.of.ensures (c.as_slice.ensures.value ∙ here.0) here.1
+    written_ok c.from_vec.result c.loop-word.out.items (c.args.first.now ∷ c.args.rest.now) c.from_vec.ensures here.0 here.1
