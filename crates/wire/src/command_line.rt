@@ -2,9 +2,10 @@
 ghost use Rattle.std.specs.Prelude.{◌≡◌, map, drop, string_bytes, IfOk};
 
 use std::alloc::{AllocError, Global};
+use std::error::Error;
 use std::io::ErrorKind;
 use std::rt::Env;
-use std::{env, io};
+use std::{env, fmt, io};
 use units::Text;
 
 /// Why the words of the command line couldn't be had.
@@ -14,6 +15,17 @@ pub enum WordsError {
     Unreadable,
     NoMemory,
 }
+
+impl fmt::Display for WordsError {
+    fn fmt<W: fmt::Write>(&self, f: &mut fmt::Formatter<W>) -> fmt::Result {
+        match self {
+            WordsError::Unreadable => f.write_str("the words of the command line can't be read"),
+            WordsError::NoMemory => f.write_str("out of memory"),
+        }
+    }
+}
+
+impl Error for WordsError {}
 
 impl From<AllocError> for WordsError {
     ghost use Rattle.wire.specs.declared.command_line.WordsError.TheVariants.{NoMemory};

@@ -5,7 +5,9 @@ ghost use Rattle.wire.specs.Causes.{HasCause, Rose};
 ghost use Rattle.wire.specs.Content.{AddsFront, AppendsPart, LosesFront, ReadsUpTo};
 
 use crate::{Sink, Source};
-use std::alloc::Global;
+use std::alloc::{AllocError, Global};
+use std::error::Error;
+use std::fmt;
 
 /// A sink failed, or took nothing of a piece that isn't empty.
 #[derive(Clone, Copy, Debug, PartialEq, Eq)]
@@ -17,6 +19,35 @@ pub enum ReadError {
     /// A read failed, and the source's count of faults rose.
     Failed,
     NoMemory,
+}
+
+impl fmt::Display for WriteFault {
+    fn fmt<W: fmt::Write>(&self, f: &mut fmt::Formatter<W>) -> fmt::Result {
+        f.write_str("writing failed")
+    }
+}
+
+impl Error for WriteFault {}
+
+impl fmt::Display for ReadError {
+    fn fmt<W: fmt::Write>(&self, f: &mut fmt::Formatter<W>) -> fmt::Result {
+        match self {
+            ReadError::Failed => f.write_str("reading failed"),
+            ReadError::NoMemory => f.write_str("out of memory"),
+        }
+    }
+}
+
+impl Error for ReadError {}
+
+impl From<AllocError> for ReadError {
+    ghost use Rattle.wire.specs.declared.copying.ReadError.TheVariants.{NoMemory};
+
+    ghost from_gives = { λ _ error. error ≡ NoMemory };
+
+    fn from(_error: AllocError) -> ReadError {
+        ReadError::NoMemory
+    }
 }
 
 /// Writes the whole piece. It takes no memory.
@@ -67,10 +98,7 @@ fn read_through<S: Source>(
     ensures failed { IsErrOf result ReadError.Failed → Rose (S.faults source.old) (S.faults source.new) }
 {
     let mut bytes = Vec::new(alloc);
-    let mut room = match vec![in alloc; 0u8; size] {
-        Ok(room) => room,
-        Err(_) => return Err(ReadError::NoMemory),
-    };
+    let mut room = vec![in alloc; 0u8; size]?;
     while bytes.len() <= limit {
         let wanted = room.len().min((limit - bytes.len()).saturating_add(1));
         match read_more(source, &mut room[..wanted], &mut bytes) {
@@ -99,8 +127,6 @@ fn read_more<S: Source>(
         Ok(count) => count,
         Err(_) => return Err(ReadError::Failed),
     };
-    match bytes.extend_from_slice(&room[..count]) {
-        Ok(()) => Ok(count),
-        Err(_) => Err(ReadError::NoMemory),
-    }
+    bytes.extend_from_slice(&room[..count])?;
+    Ok(count)
 }

@@ -5,9 +5,20 @@ ghost use Rattle.std.specs.Io.{ReadsAtMost, WritesAtMost};
 ghost use Rattle.std.specs.Io.KnownBytes.{ReadConsumes, WriteAppends};
 ghost use Rattle.wire.specs.Causes.{HasCause, TakesOrRose};
 
+use std::error::Error;
+use std::fmt;
+
 /// A call of the outside failed, and its object's count of faults rose.
 #[derive(Clone, Copy, Debug, PartialEq, Eq)]
 pub struct Failed;
+
+impl fmt::Display for Failed {
+    fn fmt<W: fmt::Write>(&self, f: &mut fmt::Formatter<W>) -> fmt::Result {
+        f.write_str("a call of the outside failed")
+    }
+}
+
+impl Error for Failed {}
 
 /// Where bytes come from.
 pub trait Source {
