@@ -6,7 +6,7 @@ use Rattle.std.specs.Option.{option_map_or}
 use Rattle.regex.specs.Patterns.{Re, Match, find_all, SameCaptures, span}
 use Rattle.regex.specs.Search.{group_span, first_or_all}
 use Rattle.regex.specs.Writes.{group_of, both}
-use Rattle.regex.specs.Replace.{replaced_by, IsReplacedInTurn, group_bytes, bytes_of}
+use Rattle.regex.specs.Replace.{replaced_by, group_bytes, bytes_of}
 use Rattle.regex.specs.Bytes.{IsCapturesOf, regex_source, regex_pattern}
 use Rattle.regex.specs.declared.bytes.regex.Regex.{Regex}
 use Rattle.regex.specs.declared.bytes.captures.Captures.{Captures}
@@ -16,17 +16,6 @@ use Rattle.vcl_values.specs.Readings.{tree_of, all_found}
 use Rattle.vcl_values.specs.Captured.{captured}
 use Rattle.vcl_values.specs.Replacements.{written, chosen, replaced}
 use Rattle.vcl_values.proofs.ReadingLemmas.{tree_of-regex}
-
--- a replacement in turn, where each step keeps a fact of the state and writes what is told of the match
-pub replaced_by-in_turn : {S : Type 0} (Writes : S → Match → List ℕ → S → Type 0) (Keeps : S → Type 0) (told : Match → List ℕ)
-    → ((s : S) (m : Match) (w : List ℕ) (next : S) → Keeps s → Writes s m w next → (w ≡ told m) × Keeps next)
-    → (hay : List ℕ) (ms : List Match) (s : S) (at : ℕ) (out : List ℕ) → Keeps s → IsReplacedInTurn Writes hay s at ms out → out ≡ replaced_by told hay at ms
-unfolding replaced_by
-replaced_by-in_turn Writes Keeps told tells hay [] s at out kept turn = turn
-replaced_by-in_turn Writes Keeps told tells hay (m ∷ ms) s at out kept turn =
-    let step = tells s m turn.0 turn.2 kept turn.3 in
-    let later : turn.1 ≡ replaced_by told hay m.trace.end ms = replaced_by-in_turn Writes Keeps told tells hay ms turn.2 m.trace.end turn.1 step.1 turn.4 in
-    turn.5 ∙ ap₂ (λ w rest. (slice_range hay at m.start ++ w) ++ rest) step.0 later
 
 -- what captures hold is what the groups of their match matched
 pub captured-is : (hay : List ℕ) (m : Match) (c : Captures) → IsCapturesOf hay m c → (group : ℕ) → captured c group ≡ group_bytes hay m group

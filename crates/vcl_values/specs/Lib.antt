@@ -3,4 +3,6 @@ pub mod Operators
 pub mod Readings
 pub mod Replacements
 pub mod Captured
+pub mod Cuts
+pub mod Pieces
 pub mod ReadHere

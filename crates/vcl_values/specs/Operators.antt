@@ -62,8 +62,14 @@ int_value z = if lt_z z (negsuc (2 ^ 63 - 1)) || lt_z (pos (2 ^ 63 - 1)) z then 
 abbrev pub duration_value : ℤ → Result Value ValueError
 duration_value z = if lt_z z (negsuc (10 ^ 13 - 1)) || lt_z (pos (10 ^ 13)) z then Err errors.Range else Ok (value.Duration z)
 
+abbrev pub text_limit : ℕ
+text_limit = 65536
+
+abbrev pub text_within : List ℕ → Result (List ℕ) ValueError
+text_within text = if nat_lt text_limit (length text) then Err errors.TooLong else Ok text
+
 abbrev pub text_value : List ℕ → Result Value ValueError
-text_value text = if nat_lt 65536 (length text) then Err errors.TooLong else Ok (value.String (Some text))
+text_value text = if nat_lt text_limit (length text) then Err errors.TooLong else Ok (value.String (Some text))
 
 -- `+`: numbers and durations add, and with a text on a side both are joined as texts
 abbrev pub sum_of : Value → Value → Result Value ValueError
@@ -80,7 +86,7 @@ difference_of (value.Duration time) (value.Duration other) = duration_value (tim
 difference_of left right = Err errors.Kind
 
 -- what a call gave is what is due, unless memory was wanting
-abbrev pub Gives : Result Value ValueError → Result Value ValueError → Type 0
+abbrev pub Gives : {A : Type 0} → Result A ValueError → Result A ValueError → Type 0
 Gives (Ok given) due = due ≡ Ok given
 Gives (Err errors.NoMemory) due = Unit {0}
 Gives (Err errors.Kind) due = due ≡ Err errors.Kind

@@ -1,5 +1,5 @@
 -- The values of VCL, as texts and in conditions (the Varnish Reference Manual, VCL, "Types").
-use Rattle.std.specs.Prelude.{ℕ, ℤ, pos, ◌/◌, ◌%◌, Bool, not, List, [], ◌∷◌, ◌++◌, Option, Some, None, is_some, codes, slice_index, unsigned_abs, if◌then◌else◌}
+use Rattle.std.specs.Prelude.{ℕ, ℤ, pos, ◌/◌, ◌%◌, Bool, false, not, List, [], ◌∷◌, ◌++◌, Option, Some, None, is_some, codes, slice_index, unsigned_abs, if◌then◌else◌}
 use Rattle.std.specs.Fmt.{decimal, signed_decimal}
 use Rattle.std.specs.Int.Signed.{lt_z}
 use Rattle.std.specs.Ordering.{int_eq}
@@ -43,11 +43,12 @@ text_of (value.Ip address) = address_text address
 text_of (value.Backend None) = []
 text_of (value.Backend (Some backend)) = backend.name
 
--- what a value says in a condition; an address says nothing there
+-- what a value says in a condition; an address says nothing there, and a backend that is declared `none` is none
 abbrev pub truth_of : Value → Option Bool
 truth_of (value.String text) = Some (is_some text)
 truth_of (value.Int number) = Some (not (int_eq number (pos 0)))
 truth_of (value.Duration milliseconds) = Some (lt_z (pos 0) milliseconds)
 truth_of (value.Bool truth) = Some truth
 truth_of (value.Ip address) = None
-truth_of (value.Backend backend) = Some (is_some backend)
+truth_of (value.Backend None) = Some false
+truth_of (value.Backend (Some backend)) = Some (not backend.declared_none)

@@ -1,13 +1,19 @@
 // Patterns over bytes.
-ghost use Rattle.std.specs.Prelude.{◌≡◌, ◌<◌, ◌≤◌, ◌⊎◌, ◌↔◌, length, is_some, IfOk, OnOk, IsErrOf, if◌then◌else◌};
+ghost use Rattle.std.specs.Prelude.{◌≡◌, ◌<◌, ◌≤◌, ◌-◌, take, ◌⊎◌, ◌↔◌, length, is_some, IfOk, OnOk, IsErrOf, if◌then◌else◌};
 ghost use Rattle.vcl_values.specs.Readings.{IsAccepted, HasNoReading, NestsTooDeep, first_found};
-ghost use Rattle.vcl_values.specs.Replacements.{replaced};
+ghost use Rattle.vcl_values.specs.Replacements.{replaced, written};
+ghost use Rattle.vcl_values.specs.Captured.{captured};
+ghost use Rattle.vcl_values.specs.Operators.{Gives, text_within, text_limit};
+ghost use Rattle.vcl_values.specs.Cuts.{IsCutFrom};
 ghost use Rattle.regex.specs.Bytes.{regex_source};
 ghost use Rattle.vcl_values.specs.ReadHere.{IsReadHere};
 
 use crate::replacement::expanded;
+use crate::sums::{MOST_TEXT, ValueError};
 use regex::bytes::{Captures, Regex};
 use std::alloc::{AllocError, Global};
+use std::error::Error;
+use std::fmt;
 use std::marker::Model;
 use units::Text;
 
@@ -23,6 +29,18 @@ pub enum PatternError {
     TooLong,
     NoMemory,
 }
+
+impl fmt::Display for PatternError {
+    fn fmt<W: fmt::Write>(&self, f: &mut fmt::Formatter<W>) -> fmt::Result {
+        match self {
+            PatternError::Refused => write!(f, "no pattern"),
+            PatternError::TooLong => write!(f, "a pattern over 4,096 bytes"),
+            PatternError::NoMemory => write!(f, "out of memory"),
+        }
+    }
+}
+
+impl Error for PatternError {}
 
 /// A regular expression over bytes with Unicode classes, in the syntax of the crate `regex`. Clauses see its
 /// text.
@@ -74,18 +92,21 @@ impl Pattern {
     }
 
     /// The text with its first match, or all matches, replaced. In `by`, `\0` to `\9` are groups, `\\` is `\`, and
-    /// another `\` stays.
+    /// another `\` stays. What would be over 65,536 bytes is TooLong, and no more than that and the text is made for it.
     pub fn replace(
         &self,
         alloc: Global,
         text: &Text,
         by: &Text,
         all: bool,
-    ) -> Result<Text, AllocError>
-        ensures { IfOk result (λ t. t ≡ replaced self.now text.now by.now all) }
+    ) -> Result<Text, ValueError>
+        ensures { Gives result (text_within (replaced self.now text.now by.now all)) }
     {
-        let bytes = replaced_bytes(alloc, &self.regex, text.bytes(), by.bytes(), all)?;
-        Text::of(alloc, bytes.as_slice())
+        let bytes = cut_replaced(alloc, &self.regex, text.bytes(), by.bytes(), all)?;
+        if bytes.len() > MOST_TEXT {
+            return Err(ValueError::TooLong);
+        }
+        Ok(Text::of(alloc, bytes.as_slice())?)
     }
 }
 
@@ -97,7 +118,9 @@ fn has_match(alloc: Global, regex: &Regex, text: &[u8]) -> Result<bool, AllocErr
     Ok(matcher.is_match(text))
 }
 
-fn replaced_bytes(
+// The text with matches replaced, where all that is put in their places is cut behind as many bytes as a text may have and
+// one more: so it is whole where it is within the limit, and over the limit where the whole is.
+fn cut_replaced(
     alloc: Global,
     regex: &Regex,
     text: &[u8],
@@ -105,12 +128,23 @@ fn replaced_bytes(
     all: bool,
 ) -> Result<Vec<u8>, AllocError>
     requires { IsReadHere regex.now }
-    ensures { IfOk result (λ out. out.items ≡ replaced (regex_source regex.now) text.now by.now all) }
+    ensures { IfOk result (λ out. IsCutFrom text_limit (replaced (regex_source regex.now) text.now by.now all) out.items) }
 {
     let mut matcher = regex.matcher(alloc)?;
-    let out = matcher.replacen_with(alloc, text, limit_of(all), |captures: &Captures<'_, '_>| {
-        expanded(alloc, captures, by)
-    })?;
+    let mut room = MOST_TEXT + 1;
+    let out = matcher.replacen_with(
+        alloc,
+        text,
+        limit_of(all),
+        move |captures: &Captures<'_, '_>|
+            ensures part { IfOk result (λ part. part.items ≡ take room.entry (written (captured captures.now) by.entry.now)) }
+            ensures left { IfOk result (λ part. room.exit ≡ room.entry - length part.items) }
+        {
+            let part = expanded(alloc, captures, by, room)?;
+            room -= part.len();
+            Ok(part)
+        },
+    )?;
     Ok(out)
 }
 

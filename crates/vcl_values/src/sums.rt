@@ -2,9 +2,12 @@
 ghost use Rattle.std.specs.Prelude.{◌≡◌, ◌++◌, IfOk};
 ghost use Rattle.vcl_values.specs.Operators.{Gives, sum_of, difference_of, int_value, duration_value, text_value};
 ghost use Rattle.vcl_values.specs.Values.{text_of};
+ghost use Rattle.vcl_values.specs.declared.sums.ValueError.TheVariants.{NoMemory};
 
 use crate::value::Value;
 use std::alloc::{AllocError, Global};
+use std::error::Error;
+use std::fmt;
 use units::Text;
 
 /// The most milliseconds of a duration, either way.
@@ -23,6 +26,27 @@ pub enum ValueError {
     /// A text over its most bytes.
     TooLong,
     NoMemory,
+}
+
+impl fmt::Display for ValueError {
+    fn fmt<W: fmt::Write>(&self, f: &mut fmt::Formatter<W>) -> fmt::Result {
+        match self {
+            ValueError::Kind => write!(f, "no operator of these types"),
+            ValueError::Range => write!(f, "out of range"),
+            ValueError::TooLong => write!(f, "a text over 65,536 bytes"),
+            ValueError::NoMemory => write!(f, "out of memory"),
+        }
+    }
+}
+
+impl Error for ValueError {}
+
+impl From<AllocError> for ValueError {
+    ghost from_gives = { λ _ e. e ≡ NoMemory };
+
+    fn from(_e: AllocError) -> ValueError {
+        ValueError::NoMemory
+    }
 }
 
 /// `+`: whole numbers and durations add; with a text on a side both are joined as texts.
@@ -78,10 +102,9 @@ fn as_duration(milliseconds: i128) -> Result<Value, ValueError>
 fn joined(alloc: Global, left: &Value, right: &Value) -> Result<Value, ValueError>
     ensures { Gives result (text_value (text_of left.now ++ text_of right.now)) }
 {
-    match (left.text(alloc), right.text(alloc)) {
-        (Ok(front), Ok(back)) => joined_text(alloc, front.bytes(), back.bytes()),
-        _ => Err(ValueError::NoMemory),
-    }
+    let front = left.text(alloc)?;
+    let back = right.text(alloc)?;
+    joined_text(alloc, front.bytes(), back.bytes())
 }
 
 fn joined_text(alloc: Global, front: &[u8], back: &[u8]) -> Result<Value, ValueError>
@@ -90,10 +113,7 @@ fn joined_text(alloc: Global, front: &[u8], back: &[u8]) -> Result<Value, ValueE
     if front.len() > MOST_TEXT || back.len() > MOST_TEXT - front.len() {
         return Err(ValueError::TooLong);
     }
-    match text_of_two(alloc, front, back) {
-        Ok(text) => Ok(Value::String(Some(text))),
-        Err(_) => Err(ValueError::NoMemory),
-    }
+    Ok(Value::String(Some(text_of_two(alloc, front, back)?)))
 }
 
 fn text_of_two(alloc: Global, front: &[u8], back: &[u8]) -> Result<Text, AllocError>

@@ -17,6 +17,7 @@ enum Sample {
     Ip([u8; 4]),
     NoBackend,
     Backend(&'static [u8]),
+    DeclaredNone(&'static [u8]),
 }
 
 fn value_of(alloc: Global, sample: Sample) -> Result<Value, AllocError> {
@@ -28,18 +29,24 @@ fn value_of(alloc: Global, sample: Sample) -> Result<Value, AllocError> {
         Sample::Bool(truth) => Value::Bool(truth),
         Sample::Ip(address) => Value::Ip(address),
         Sample::NoBackend => Value::Backend(None),
-        Sample::Backend(bytes) => {
-            let name = Text::of(alloc, bytes)?;
-            Value::Backend(Some(Backend { name, key: None }))
-        }
+        Sample::Backend(bytes) => Value::Backend(Some(backend(alloc, bytes, false)?)),
+        Sample::DeclaredNone(bytes) => Value::Backend(Some(backend(alloc, bytes, true)?)),
     };
     Ok(value)
+}
+
+fn backend(alloc: Global, name: &[u8], declared_none: bool) -> Result<Backend, AllocError> {
+    Ok(Backend {
+        name: Text::of(alloc, name)?,
+        key: None,
+        declared_none,
+    })
 }
 
 #[test]
 fn values_are_texts_and_conditions(rt: HostRuntime) -> Result<(), Fail> {
     let alloc = rt.alloc();
-    let rows: [(Sample, &[u8], Option<bool>); 19] = [
+    let rows: [(Sample, &[u8], Option<bool>); 20] = [
         (Sample::Absent, b"", Some(false)),
         (Sample::Text(b""), b"", Some(true)),
         (Sample::Text(b"a b"), b"a b", Some(true)),
@@ -63,6 +70,7 @@ fn values_are_texts_and_conditions(rt: HostRuntime) -> Result<(), Fail> {
         (Sample::Ip([255, 10, 200, 0]), b"255.10.200.0", None),
         (Sample::NoBackend, b"", Some(false)),
         (Sample::Backend(b"web"), b"web", Some(true)),
+        (Sample::DeclaredNone(b"off"), b"off", Some(false)),
     ];
     for (sample, bytes, truth) in rows {
         let value = value_of(alloc, sample)?;
@@ -447,7 +455,9 @@ fn patterns_search_and_replace(rt: HostRuntime) -> Result<(), Fail> {
     for (pattern, bytes, by, all, due) in rows {
         let pattern = Pattern::of(alloc, &Text::of(alloc, pattern)?).expect(&rt, "a pattern");
         let searched = Text::of(alloc, bytes)?;
-        let given = pattern.replace(alloc, &searched, &Text::of(alloc, by)?, all)?;
+        let given = pattern
+            .replace(alloc, &searched, &Text::of(alloc, by)?, all)
+            .expect(&rt, "a text");
         assert_eq!(rt; given.bytes(), due, "{bytes:?}");
         assert_eq!(rt;
             pattern.is_match(alloc, &searched)?,
@@ -455,5 +465,45 @@ fn patterns_search_and_replace(rt: HostRuntime) -> Result<(), Fail> {
             "{bytes:?}"
         );
     }
+    Ok(())
+}
+
+// So many bytes, all alike.
+fn many(alloc: Global, byte: u8, count: usize) -> Result<Text, AllocError> {
+    Text::of(alloc, vec![in alloc; byte; count]?.as_slice())
+}
+
+#[test]
+fn replaced_texts_at_their_limit(rt: HostRuntime) -> Result<(), Fail> {
+    let alloc = rt.alloc();
+    // How many `a` are searched for `a`, how many `b` each one becomes, whether all do, and the length of what is given.
+    let rows: [(usize, usize, bool, Result<usize, ValueError>); 8] = [
+        (256, 256, true, Ok(65_536)),
+        (1, 65_536, false, Ok(65_536)),
+        (65_536, 1, true, Ok(65_536)),
+        (2, 65_535, false, Ok(65_536)),
+        (2, 65_536, false, Err(ValueError::TooLong)),
+        (257, 256, true, Err(ValueError::TooLong)),
+        (65_537, 1, true, Err(ValueError::TooLong)),
+        (65_536, 65_536, true, Err(ValueError::TooLong)),
+    ];
+    let pattern = Pattern::of(alloc, &Text::of(alloc, b"a")?).expect(&rt, "a pattern");
+    for (count, longer, all, due) in rows {
+        let searched = many(alloc, b'a', count)?;
+        let by = many(alloc, b'b', longer)?;
+        let given = pattern.replace(alloc, &searched, &by, all);
+        assert_eq!(rt;
+            given.map(|text| text.bytes().len()),
+            due,
+            "{count} {longer}"
+        );
+    }
+    let doubled = pattern.replace(
+        alloc,
+        &Text::of(alloc, b"a")?,
+        &many(alloc, b'b', 65_537)?,
+        false,
+    );
+    assert_eq!(rt; doubled.err(), Some(ValueError::TooLong));
     Ok(())
 }

@@ -22,6 +22,8 @@ pub enum Kind {
 pub struct Backend {
     pub name: Text,
     pub key: Option<Text>,
+    /// Whether it was declared as `none`: it keeps its name and is none in a condition.
+    pub declared_none: bool,
 }
 
 impl Backend {
@@ -30,11 +32,17 @@ impl Backend {
         ensures { IfOk result (λ copy. copy ≡ self.now) }
     {
         let name = self.name.copy()?;
+        let declared_none = self.declared_none;
         match &self.key {
-            None => Ok(Backend { name, key: None }),
+            None => Ok(Backend {
+                name,
+                key: None,
+                declared_none,
+            }),
             Some(key) => Ok(Backend {
                 name,
                 key: Some(key.copy()?),
+                declared_none,
             }),
         }
     }
@@ -93,7 +101,8 @@ impl Value {
             Value::Duration(milliseconds) => Some(*milliseconds > 0),
             Value::Bool(truth) => Some(*truth),
             Value::Ip(_) => None,
-            Value::Backend(backend) => Some(backend.is_some()),
+            Value::Backend(None) => Some(false),
+            Value::Backend(Some(backend)) => Some(!backend.declared_none),
         }
     }
 
