@@ -4,3 +4,4 @@ mod Fronts
 mod RequestFacts
 mod ResponseFacts
 mod PrintFacts
+pub mod SentFacts

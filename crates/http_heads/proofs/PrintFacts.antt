@@ -16,7 +16,7 @@ use Rattle.http_heads.specs.declared.fields.Field.{Field}
 use Rattle.http_heads.specs.declared.message.RequestHead.{RequestHead}
 use Rattle.http_heads.specs.declared.message.ResponseHead.{ResponseHead}
 use Rattle.http_heads.specs.Heads.{HasRequest, HasResponse, field_of}
-use Rattle.http_heads.specs.Printed.{version_text, three_digits, field_text, request_text, response_text, line_end, IsPlainField, IsRequestMessage, IsResponseMessage}
+use Rattle.http_heads.specs.Printed.{version_text, three_digits, field_text, request_text, response_text, line_end, IsPlainField, IsRequestShape, IsResponseShape, IsWithinLimits}
 
 -- a field as a line of the grammar
 abbrev line_of : Field → FieldTree
@@ -61,15 +61,15 @@ version_small version is = elim is [
 abbrev tree_of : RequestHead → RequestTree
 tree_of m = record { blank = []; method = m.method; target = m.url; minor = m.version - 10; line_end = crlf; fields = map line_of m.fields; last = crlf }
 
-request_printed : (m : RequestHead) → IsRequestMessage m → request_text m ≡ print_request (tree_of m)
+request_printed : (m : RequestHead) → IsRequestShape m → request_text m ≡ print_request (tree_of m)
 unfolding request_text print_request
 request_printed m is =
     let version = version_printed m.version is.version in
     let fields = fields_printed m.fields in
     λ i. m.method ++ 32 ∷ m.url ++ 32 ∷ version i ++ line_end ++ (sym fields i ++ line_end)
 
-pub request_reads : (m : RequestHead) (more : List ℕ) → IsRequestMessage m → HasRequest (request_text m ++ more) m (length (request_text m))
-request_reads m more is =
+pub request_reads : (m : RequestHead) (more : List ℕ) → IsRequestShape m → IsWithinLimits m.fields (request_text m) → HasRequest (request_text m ++ more) m (length (request_text m))
+request_reads m more is limits =
     let printed = request_printed m is in
     let small = version_small m.version is.version in
     let fields = fields_again m.fields is.fields in
@@ -87,8 +87,8 @@ request_reads m more is =
         ap (λ (l : List ℕ). l ++ more) printed,
       );
       counted = ap length printed;
-      short = is.short;
-      few = omega (arith, is.few, length-map m.fields line_of);
+      short = limits.short;
+      few = omega (arith, limits.few, length-map m.fields line_of);
       is = λ i. record { method = m.method; url = m.url; version = small.1 i; fields = sym fields i };
     }
 
@@ -120,15 +120,15 @@ value_of_three n small =
 abbrev response_tree : ResponseHead → ResponseTree
 response_tree m = record { blank = []; minor = m.version - 10; digits = three_digits m.status; reason = Some m.reason; line_end = crlf; fields = map line_of m.fields; last = crlf }
 
-response_printed : (m : ResponseHead) → IsResponseMessage m → response_text m ≡ print_response (response_tree m)
+response_printed : (m : ResponseHead) → IsResponseShape m → response_text m ≡ print_response (response_tree m)
 unfolding response_text print_response
 response_printed m is =
     let version = version_printed m.version is.version in
     let fields = fields_printed m.fields in
     λ i. version i ++ 32 ∷ three_digits m.status ++ 32 ∷ m.reason ++ line_end ++ (sym fields i ++ line_end)
 
-pub response_reads : (m : ResponseHead) (more : List ℕ) → IsResponseMessage m → HasResponse (response_text m ++ more) m (length (response_text m))
-response_reads m more is =
+pub response_reads : (m : ResponseHead) (more : List ℕ) → IsResponseShape m → IsWithinLimits m.fields (response_text m) → HasResponse (response_text m ++ more) m (length (response_text m))
+response_reads m more is limits =
     let printed = response_printed m is in
     let small = version_small m.version is.version in
     let fields = fields_again m.fields is.fields in
@@ -147,8 +147,8 @@ response_reads m more is =
         ap (λ (l : List ℕ). l ++ more) printed,
       );
       counted = ap length printed;
-      short = is.short;
-      few = omega (arith, is.few, length-map m.fields line_of);
+      short = limits.short;
+      few = omega (arith, limits.few, length-map m.fields line_of);
       is = λ i. record { version = small.1 i; status = sym status i; reason = m.reason; fields = sym fields i };
     }
 

@@ -1,12 +1,13 @@
 -- The head of a message (RFC 9112, sections 2 to 5): the grammar of `httparse` in its default setting, within 32,768
 -- bytes and 64 fields.
-use Rattle.std.specs.Prelude.{◌≡◌, ℕ, ◌+◌, ◌≤◌, ◌<◌, ◌⊎◌, List, length, map, Result, Ok, Err, Option, Some, None, take}
-use Rattle.httparse.specs.Grammar.{RequestHead as RequestTree, ResponseHead as ResponseTree, Field as FieldTree, print_request, print_response, ReadsRequest, ReadsResponse, NeverHasRequest, NeverHasResponse, MayBecomeRequest, MayBecomeResponse, field_value, status_code, reason_phrase}
+use Rattle.std.specs.Prelude.{◌≡◌, ℕ, ◌+◌, ◌≤◌, ◌<◌, ◌⊎◌, List, ◌++◌, length, map, Result, Ok, Err, Option, Some, None, take}
+use Rattle.httparse.specs.Grammar.{RequestHead as RequestTree, ResponseHead as ResponseTree, Field as FieldTree, print_request, print_response, IsRequestHead, IsResponseHead, NeverHasRequest, NeverHasResponse, MayBecomeRequest, MayBecomeResponse, field_value, status_code, reason_phrase}
 use Rattle.http_heads.specs.declared.fields.Field.{Field}
 use Rattle.http_heads.specs.declared.message.RequestHead.{RequestHead}
 use Rattle.http_heads.specs.declared.message.ResponseHead.{ResponseHead}
 use Rattle.http_heads.specs.declared.message.HeadError.{HeadError}
 use Rattle.http_heads.specs.declared.message.HeadError.TheVariants.{Bad, TooLong, TooMany, NoMemory}
+use Rattle.http_heads.specs.Limits.{head_limit, field_limit}
 use Rattle.http_heads.specs.Lines.{HasTooManyLines}
 
 -- a field line as a message has it: the white space round the value is no part of it
@@ -31,58 +32,67 @@ response_of tree = record {
   fields = map field_of tree.fields;
 }
 
--- the first `count` bytes are a head, and this is its message
-pub record HasRequest (bytes : List ℕ) (message : RequestHead) (count : ℕ) : Type 0 where
-  pub tree : RequestTree
-  pub rest : List ℕ
-  pub reads : ReadsRequest bytes tree rest
-  pub counted : count ≡ length (print_request tree)
-  pub short : count ≤ 32768
-  pub few : length tree.fields ≤ 64
-  pub is : message ≡ request_of tree
+-- a kind of head: its trees, how they are printed, their field lines and their messages
+pub record HeadKind (Tree Message : Type 0) : Type 1 where
+  pub IsTree : Tree → Type 0
+  pub print : Tree → List ℕ
+  pub lines : Tree → List FieldTree
+  pub message_of : Tree → Message
 
-pub record HasResponse (bytes : List ℕ) (message : ResponseHead) (count : ℕ) : Type 0 where
-  pub tree : ResponseTree
+abbrev pub requests : HeadKind RequestTree RequestHead
+requests = record { IsTree = IsRequestHead; print = print_request; lines = λ tree. tree.fields; message_of = request_of }
+
+abbrev pub responses : HeadKind ResponseTree ResponseHead
+responses = record { IsTree = IsResponseHead; print = print_response; lines = λ tree. tree.fields; message_of = response_of }
+
+-- the first `count` bytes are a head within the limits, and this is its message
+pub record HasHead {Tree Message : Type 0} (kind : HeadKind Tree Message) (bytes : List ℕ) (message : Message) (count : ℕ) : Type 0 where
+  pub tree : Tree
   pub rest : List ℕ
-  pub reads : ReadsResponse bytes tree rest
-  pub counted : count ≡ length (print_response tree)
-  pub short : count ≤ 32768
-  pub few : length tree.fields ≤ 64
-  pub is : message ≡ response_of tree
+  pub reads : kind.IsTree tree × (bytes ≡ kind.print tree ++ rest)
+  pub counted : count ≡ length (kind.print tree)
+  pub short : count ≤ head_limit
+  pub few : length (kind.lines tree) ≤ field_limit
+  pub is : message ≡ kind.message_of tree
+
+abbrev pub HasRequest : List ℕ → RequestHead → ℕ → Type 0
+HasRequest bytes message count = HasHead requests bytes message count
+
+abbrev pub HasResponse : List ℕ → ResponseHead → ℕ → Type 0
+HasResponse bytes message count = HasHead responses bytes message count
 
 -- the bytes begin with no head within the limits
+abbrev pub LacksHead : {Tree Message : Type 0} → HeadKind Tree Message → List ℕ → Type 0
+LacksHead {Tree} {Message} kind bytes = (message : Message) (count : ℕ) → ¬ (HasHead kind bytes message count)
+
 abbrev pub LacksRequest : List ℕ → Type 0
-LacksRequest bytes = (message : RequestHead) (count : ℕ) → ¬ (HasRequest bytes message count)
+LacksRequest bytes = LacksHead requests bytes
 
 abbrev pub LacksResponse : List ℕ → Type 0
-LacksResponse bytes = (message : ResponseHead) (count : ℕ) → ¬ (HasResponse bytes message count)
+LacksResponse bytes = LacksHead responses bytes
 
 -- this value, unless memory is wanting
 abbrev pub GivesUnlessNoMemory : {T : Type 0} → Result T HeadError → T → Type 0
 GivesUnlessNoMemory result value = (result ≡ Ok value) ⊎ (result ≡ Err NoMemory)
 
--- what an answer tells of the bytes. A head stands at their front; none does yet, and more bytes can make one; whatever
+-- What an answer tells of the bytes, where `Never` says of bytes that whatever follows they begin no head, and `MayBecome`
+-- that more bytes can make them one. A head stands at their front; none does yet, and more bytes can make one; whatever
 -- follows the first 32,768 bytes, they begin no head; these bytes could become a head, but one that is too long; the
--- rule on lines; or a head stands there, and memory is wanting
-abbrev pub AnswersRequest : List ℕ → Result (Option (RequestHead × ℕ)) HeadError → Type 0
-AnswersRequest bytes (Ok (Some found)) = HasRequest bytes found.0 found.1 × ¬ (HasTooManyLines bytes)
-AnswersRequest bytes (Ok None) =
-    (length bytes < 32768) × LacksRequest bytes × MayBecomeRequest bytes × ¬ (HasTooManyLines bytes)
-AnswersRequest bytes (Err Bad) = NeverHasRequest (take 32768 bytes) × ¬ (HasTooManyLines bytes)
-AnswersRequest bytes (Err TooLong) =
-    (32768 ≤ length bytes) × LacksRequest bytes × MayBecomeRequest (take 32768 bytes) × ¬ (HasTooManyLines bytes)
-AnswersRequest bytes (Err TooMany) = HasTooManyLines bytes
-AnswersRequest bytes (Err NoMemory) =
-    (message : RequestHead) × (count : ℕ) × HasRequest bytes message count × ¬ (HasTooManyLines bytes)
+-- rule on lines; or a head stands there, and memory is wanting.
+abbrev pub AnswersHead : {Tree Message : Type 0} → HeadKind Tree Message → (List ℕ → Type 0) → (List ℕ → Type 0) → List ℕ
+    → Result (Option (Message × ℕ)) HeadError → Type 0
+AnswersHead kind Never MayBecome bytes (Ok (Some found)) = HasHead kind bytes found.0 found.1 × ¬ (HasTooManyLines bytes)
+AnswersHead kind Never MayBecome bytes (Ok None) =
+    (length bytes < head_limit) × LacksHead kind bytes × MayBecome bytes × ¬ (HasTooManyLines bytes)
+AnswersHead kind Never MayBecome bytes (Err Bad) = Never (take head_limit bytes) × ¬ (HasTooManyLines bytes)
+AnswersHead kind Never MayBecome bytes (Err TooLong) =
+    (head_limit ≤ length bytes) × LacksHead kind bytes × MayBecome (take head_limit bytes) × ¬ (HasTooManyLines bytes)
+AnswersHead kind Never MayBecome bytes (Err TooMany) = HasTooManyLines bytes
+AnswersHead {Tree} {Message} kind Never MayBecome bytes (Err NoMemory) =
+    (message : Message) × (count : ℕ) × HasHead kind bytes message count × ¬ (HasTooManyLines bytes)
 
--- the same for a response
+abbrev pub AnswersRequest : List ℕ → Result (Option (RequestHead × ℕ)) HeadError → Type 0
+AnswersRequest bytes result = AnswersHead requests NeverHasRequest MayBecomeRequest bytes result
+
 abbrev pub AnswersResponse : List ℕ → Result (Option (ResponseHead × ℕ)) HeadError → Type 0
-AnswersResponse bytes (Ok (Some found)) = HasResponse bytes found.0 found.1 × ¬ (HasTooManyLines bytes)
-AnswersResponse bytes (Ok None) =
-    (length bytes < 32768) × LacksResponse bytes × MayBecomeResponse bytes × ¬ (HasTooManyLines bytes)
-AnswersResponse bytes (Err Bad) = NeverHasResponse (take 32768 bytes) × ¬ (HasTooManyLines bytes)
-AnswersResponse bytes (Err TooLong) =
-    (32768 ≤ length bytes) × LacksResponse bytes × MayBecomeResponse (take 32768 bytes) × ¬ (HasTooManyLines bytes)
-AnswersResponse bytes (Err TooMany) = HasTooManyLines bytes
-AnswersResponse bytes (Err NoMemory) =
-    (message : ResponseHead) × (count : ℕ) × HasResponse bytes message count × ¬ (HasTooManyLines bytes)
+AnswersResponse bytes result = AnswersHead responses NeverHasResponse MayBecomeResponse bytes result

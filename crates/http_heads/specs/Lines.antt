@@ -1,6 +1,7 @@
 -- The lines at the front of a text, by which a head with too many fields is known.
 use Rattle.std.specs.Prelude.{ℕ, ◌≤◌, Bool, true, false, not, ◌==◌, if◌then◌else◌, List, [], ◌∷◌, drop, take}
 use Rattle.std.specs.List.{prefix_len}
+use Rattle.http_heads.specs.Limits.{head_limit, line_limit}
 
 -- a byte more at the front of the first line
 abbrev pub grow : ℕ → List (List ℕ) → List (List ℕ)
@@ -31,4 +32,4 @@ full_lines bytes = prefix_len is_full_line (from_full (ended_lines bytes))
 
 -- a start line and 65 lines behind it, none of them empty: a head of more than 64 fields, if it is one
 abbrev pub HasTooManyLines : List ℕ → Type 0
-HasTooManyLines bytes = 66 ≤ full_lines (take 32768 bytes)
+HasTooManyLines bytes = line_limit ≤ full_lines (take head_limit bytes)

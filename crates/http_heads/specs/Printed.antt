@@ -3,6 +3,7 @@
 use Rattle.std.specs.Prelude.{◌≡◌, ℕ, ◌+◌, ◌/◌, ◌%◌, ◌<◌, ◌≤◌, ◌⊎◌, ◌==◌, if◌then◌else◌, List, [], ◌∷◌, ◌++◌, length, All, codes, IsUtf8}
 use Rattle.std.specs.List.{flat_map}
 use Rattle.httparse.specs.Grammar.{IsToken, AllPass, is_uri_byte, is_value_byte, trim_ows}
+use Rattle.http_heads.specs.Limits.{head_limit, field_limit}
 use Rattle.http_heads.specs.declared.fields.Field.{Field}
 use Rattle.http_heads.specs.declared.message.RequestHead.{RequestHead}
 use Rattle.http_heads.specs.declared.message.ResponseHead.{ResponseHead}
@@ -38,20 +39,30 @@ pub record IsPlainField (f : Field) : Type 0 where
   pub value : AllPass is_value_byte f.value
   pub trimmed : trim_ows f.value ≡ f.value
 
--- the message is a head: each part is of its class, and the text is within the limits
-pub record IsRequestMessage (m : RequestHead) : Type 0 where
+-- each part of the message is of its class
+pub record IsRequestShape (m : RequestHead) : Type 0 where
   pub method : IsToken m.method
   pub url : (0 < length m.url) × AllPass is_uri_byte m.url
   pub url_text : IsUtf8 m.url
   pub version : (m.version ≡ 10) ⊎ (m.version ≡ 11)
   pub fields : All IsPlainField m.fields
-  pub few : length m.fields ≤ 64
-  pub short : length (request_text m) ≤ 32768
 
-pub record IsResponseMessage (m : ResponseHead) : Type 0 where
+pub record IsResponseShape (m : ResponseHead) : Type 0 where
   pub version : (m.version ≡ 10) ⊎ (m.version ≡ 11)
   pub status : m.status < 1000
   pub reason : AllPass is_value_byte m.reason
   pub fields : All IsPlainField m.fields
-  pub few : length m.fields ≤ 64
-  pub short : length (response_text m) ≤ 32768
+
+-- a message whose text is so long, with these fields, is within the limits of a head
+pub record IsWithinLimits (fields : List Field) (text : List ℕ) : Type 0 where
+  pub few : length fields ≤ field_limit
+  pub short : length text ≤ head_limit
+
+-- the message is a head: each part is of its class, and the text is within the limits
+pub record IsRequestMessage (m : RequestHead) : Type 0 where
+  pub shape : IsRequestShape m
+  pub limits : IsWithinLimits m.fields (request_text m)
+
+pub record IsResponseMessage (m : ResponseHead) : Type 0 where
+  pub shape : IsResponseShape m
+  pub limits : IsWithinLimits m.fields (response_text m)

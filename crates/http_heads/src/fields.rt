@@ -1,10 +1,15 @@
 // The fields of a message.
 ghost use Rattle.std.specs.Prelude.{◌≡◌, ◌↔◌, ◌+◌, vec_len, vec_capacity, ◌<◌, ◌≤◌, [], not, length, IsTrue, IfOk, OnOk, OnErr, IfErr, IsErrOf};
 ghost use Rattle.std.specs.Option.{option_copied};
+ghost use Rattle.http_heads.specs.declared.fields.FieldError.TheVariants.{NoMemory};
+ghost use Rattle.http_heads.specs.Limits.{kept_limit};
 ghost use Rattle.http_heads.specs.Fields.{is_named, first_value, count_of, without, field as one_field, appended, replaced, MayStand};
 
+use crate::limits::{LONGEST_NAME, MOST_KEPT_FIELDS};
 use http_header::is_token;
-use std::alloc::{AllocError, Global};
+use std::alloc::{AllocError, AllocFailed, Global};
+use std::error::Error;
+use std::fmt::{self, Display, Formatter, Write};
 use std::marker::Model;
 use units::{Copied, Text, fold_eq};
 
@@ -25,9 +30,33 @@ pub enum FieldError {
     NoMemory,
 }
 
-const MOST_FIELDS: usize = 80;
+impl From<AllocError> for FieldError {
+    ghost from_gives = { λ _ e. e ≡ NoMemory };
 
-const LONGEST_NAME: usize = 65535;
+    fn from(_: AllocError) -> FieldError {
+        FieldError::NoMemory
+    }
+}
+
+impl<T: Drop> From<AllocFailed<T>> for FieldError {
+    ghost from_gives = { λ _ e. e ≡ NoMemory };
+
+    fn from(_: AllocFailed<T>) -> FieldError {
+        FieldError::NoMemory
+    }
+}
+
+impl Display for FieldError {
+    fn fmt<W: Write>(&self, f: &mut Formatter<W>) -> fmt::Result {
+        f.write_str(match self {
+            FieldError::Bad => "the name is no token, or the value holds CR, LF or NUL",
+            FieldError::Full => "there would be more than 80 fields",
+            FieldError::NoMemory => "out of memory",
+        })
+    }
+}
+
+impl Error for FieldError {}
 
 /// The fields of a message in their order. Names are compared without regard to the case of ASCII letters.
 #[derive(Drop)]
@@ -111,13 +140,13 @@ impl Fields {
     pub fn set(&mut self, name: &Text, value: &Text) -> Result<(), FieldError>
         ensures ok { OnOk result (self.new ≡ replaced name.now value.now self.old) }
         ensures bad { IsErrOf result FieldError.Bad ↔ ¬ (MayStand name.now value.now) }
-        ensures full { IsErrOf result FieldError.Full ↔ (MayStand name.now value.now × (80 < length (replaced name.now value.now self.old))) }
+        ensures full { IsErrOf result FieldError.Full ↔ (MayStand name.now value.now × (kept_limit < length (replaced name.now value.now self.old))) }
         ensures err { OnErr result (self.new ≡ self.old) }
     {
         if !may_stand(name.bytes(), value.bytes()) {
             return Err(FieldError::Bad);
         }
-        if others_of(self.items.as_slice(), name.bytes()) >= MOST_FIELDS {
+        if others_of(self.items.as_slice(), name.bytes()) >= MOST_KEPT_FIELDS {
             return Err(FieldError::Full);
         }
         put_last(&mut self.items, name, value)
@@ -127,13 +156,13 @@ impl Fields {
     pub fn append(&mut self, name: &Text, value: &Text) -> Result<(), FieldError>
         ensures ok { OnOk result (self.new ≡ appended name.now value.now self.old) }
         ensures bad { IsErrOf result FieldError.Bad ↔ ¬ (MayStand name.now value.now) }
-        ensures full { IsErrOf result FieldError.Full ↔ (MayStand name.now value.now × (80 < length (appended name.now value.now self.old))) }
+        ensures full { IsErrOf result FieldError.Full ↔ (MayStand name.now value.now × (kept_limit < length (appended name.now value.now self.old))) }
         ensures err { OnErr result (self.new ≡ self.old) }
     {
         if !may_stand(name.bytes(), value.bytes()) {
             return Err(FieldError::Bad);
         }
-        if self.items.len() >= MOST_FIELDS {
+        if self.items.len() >= MOST_KEPT_FIELDS {
             return Err(FieldError::Full);
         }
         put_behind(&mut self.items, name, value)
@@ -215,14 +244,9 @@ fn put_behind(fields: &mut Vec<Field>, name: &Text, value: &Text) -> Result<(), 
     ensures err { OnErr result (fields.new.items ≡ fields.old.items) }
     ensures cause { IfErr result (λ e. e ≡ FieldError.NoMemory) }
 {
-    let field = match copy_of(name, value) {
-        Ok(field) => field,
-        Err(_) => return Err(FieldError::NoMemory),
-    };
-    match fields.push(field) {
-        Ok(()) => Ok(()),
-        Err(_) => Err(FieldError::NoMemory),
-    }
+    let field = copy_of(name, value)?;
+    fields.push(field)?;
+    Ok(())
 }
 
 fn copy_of(name: &Text, value: &Text) -> Result<Field, AllocError>
@@ -240,13 +264,8 @@ fn put_last(fields: &mut Vec<Field>, name: &Text, value: &Text) -> Result<(), Fi
     ensures err { OnErr result (fields.new.items ≡ fields.old.items) }
     ensures cause { IfErr result (λ e. e ≡ FieldError.NoMemory) }
 {
-    let field = match copy_of(name, value) {
-        Ok(field) => field,
-        Err(_) => return Err(FieldError::NoMemory),
-    };
-    if fields.reserve(1).is_err() {
-        return Err(FieldError::NoMemory);
-    }
+    let field = copy_of(name, value)?;
+    fields.reserve(1)?;
     keep_others(fields, name.bytes());
     fields.push(field).unwrap();
     Ok(())

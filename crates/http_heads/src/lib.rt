@@ -8,6 +8,8 @@
 
 mod exchange;
 mod fields;
+mod laws;
+mod limits;
 mod lines;
 mod message;
 mod print;
@@ -17,6 +19,7 @@ mod tests;
 
 pub use exchange::{Backend, BackendRequest, Exchange, Got};
 pub use fields::{Field, FieldError, Fields};
+pub use laws::{one_head, sent_on};
 pub use message::{HeadError, RequestHead, ResponseHead};
 pub use print::{print_request, print_response};
 pub use read::{read_request, read_response};

@@ -1,16 +1,14 @@
 // The lines at the front of a text.
 ghost use Rattle.std.specs.Prelude.{◌≡◌, ◌↔◌, ◌+◌, ◌<◌, ◌≤◌, [], ◌∷◌, length, take, IsTrue, MatchOption, IfSome};
 ghost use Rattle.std.specs.List.{prefix_len};
+ghost use Rattle.http_heads.specs.Limits.{line_limit};
 ghost use Rattle.http_heads.specs.Lines.{ended_lines, is_empty_line, is_full_line, from_full, full_lines};
 
-/// The most bytes that a head may have.
-pub const LONGEST_HEAD: usize = 32768;
-
-const MOST_LINES: usize = 66;
+use crate::limits::MOST_LINES;
 
 /// Whether a start line and 65 lines behind it stand in the bytes, none of them empty.
 pub fn has_too_many_lines(bytes: &[u8]) -> bool
-    ensures { IsTrue result ↔ (66 ≤ full_lines bytes.now) }
+    ensures { IsTrue result ↔ (line_limit ≤ full_lines bytes.now) }
 {
     count_full(after_empty_lines(bytes)) >= MOST_LINES
 }

@@ -1,6 +1,11 @@
 // The head of a message, as a value.
+ghost use Rattle.std.specs.Prelude.{◌≡◌};
+ghost use Rattle.http_heads.specs.declared.message.HeadError.TheVariants.{NoMemory};
+
 use crate::Fields;
 use std::alloc::{AllocError, Global};
+use std::error::Error;
+use std::fmt::{self, Display, Formatter, Write};
 use units::{Copied, Text};
 
 /// The head of a request.
@@ -58,3 +63,24 @@ pub enum HeadError {
     TooMany,
     NoMemory,
 }
+
+impl From<AllocError> for HeadError {
+    ghost from_gives = { λ _ e. e ≡ NoMemory };
+
+    fn from(_: AllocError) -> HeadError {
+        HeadError::NoMemory
+    }
+}
+
+impl Display for HeadError {
+    fn fmt<W: Write>(&self, f: &mut Formatter<W>) -> fmt::Result {
+        f.write_str(match self {
+            HeadError::Bad => "the bytes are no head",
+            HeadError::TooLong => "the head is longer than 32768 bytes",
+            HeadError::TooMany => "the head has more than 64 fields",
+            HeadError::NoMemory => "out of memory",
+        })
+    }
+}
+
+impl Error for HeadError {}

@@ -1,12 +1,14 @@
 // The head of a message at the front of bytes.
 ghost use Rattle.std.specs.Prelude.{◌≡◌, ℕ, Some, length, take, map, All, IfOk};
 ghost use Rattle.httparse.specs.Spans.{IsWithin, IsHeaderWithin, IsRequestWithin, IsResponseWithin, span_bytes};
+ghost use Rattle.http_heads.specs.Limits.{head_limit};
 ghost use Rattle.http_heads.specs.Heads.{HasRequest, HasResponse, AnswersRequest, AnswersResponse, GivesUnlessNoMemory};
 ghost use Rattle.http_heads.specs.Spans.{field_at, request_at, response_at};
 ghost use Rattle.http_heads.specs.declared.message.RequestHead.{RequestHead};
 ghost use Rattle.http_heads.specs.declared.message.ResponseHead.{ResponseHead};
 
-use crate::lines::{LONGEST_HEAD, has_too_many_lines};
+use crate::limits::{LONGEST_HEAD, MOST_FIELDS};
+use crate::lines::has_too_many_lines;
 use crate::{Field, Fields, HeadError, RequestHead, ResponseHead};
 use httparse::Status;
 use httparse::spans::{
@@ -14,8 +16,6 @@ use httparse::spans::{
 };
 use std::alloc::{AllocError, Global};
 use units::Text;
-
-const MOST_FIELDS: usize = 64;
 
 /// The request whose head stands at the front of the bytes, and the length of the head. None where the
 /// head isn't whole yet. A head has at most 32,768 bytes and 64 fields.
@@ -78,7 +78,7 @@ pub fn read_response(
 
 // The bytes in which a head must stand.
 fn front_of(bytes: &[u8]) -> &[u8]
-    ensures { result.now ≡ take 32768 bytes.now }
+    ensures { result.now ≡ take head_limit bytes.now }
 {
     &bytes[..bytes.len().min(LONGEST_HEAD)]
 }

@@ -8,4 +8,4 @@ pub returns-clause-reads : goal.returns-clause-reads
 returns-clause-reads c is =
     let Reads : List ℕ → Type 0 = λ text. (more : List ℕ) → HasResponse (text ++ more) c.args.head.now (length text) in
     let text = sym (c.as_slice.ensures.value ∙ c.in_ok-bytes.ensures) in
-    if_ok_at Reads c.of.result c.as_slice.result.now c.of.ensures (subst Reads text (λ more. response_reads c.args.head.now more is))
+    if_ok_at Reads c.of.result c.as_slice.result.now c.of.ensures (subst Reads text (λ more. response_reads c.args.head.now more is.shape is.limits))
