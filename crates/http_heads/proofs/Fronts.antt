@@ -1,5 +1,5 @@
 -- The front of the bytes, and the fields that spans show.
-use Rattle.std.proofs.Common.{◌≡◌, ℕ, zero, suc, ◌-◌, ◌<◌, ◌≤◌, min, List, [], ◌∷◌, ◌++◌, length, take, drop, map, sym, ◌∙◌, ap, subst, arith, take-append-drop, true, false}
+use Rattle.std.proofs.Common.{◌≡◌, ℕ, zero, suc, ◌-◌, ◌<◌, ◌≤◌, min, List, [], ◌∷◌, ◌++◌, length, take, drop, map, sym, ◌∙◌, ap, arith, take-append-drop}
 use Rattle.std.proofs.lemmas.List.{length-take, length-map, take_all}
 use Rattle.std.proofs.lemmas.Simd.{map-map}
 use Rattle.httparse.specs.Grammar.{Field as FieldTree}
@@ -7,7 +7,6 @@ use Rattle.httparse.specs.Spans.{header_bytes, name_and_value}
 use Rattle.httparse.specs.declared.spans.HeaderSpan.{HeaderSpan}
 use Rattle.http_heads.specs.declared.fields.Field.{Field}
 use Rattle.http_heads.specs.Heads.{field_of}
-use Rattle.http_heads.specs.Lines.{full_lines, HasTooManyLines}
 use Rattle.http_heads.specs.Spans.{field_at}
 
 -- what fits is at the front
@@ -44,15 +43,6 @@ take_min (suc n) [] = let none : min 0 (suc n) ≡ 0 = omega arith in ap (λ (k 
 take_min (suc n) (x ∷ xs) =
     let less : min (length (x ∷ xs)) (suc n) ≡ suc (min (length xs) n) = omega arith in
     ap (λ (k : ℕ). take k (x ∷ xs)) less ∙ ap (λ (l : List ℕ). x ∷ l) (take_min n xs)
-
--- the test on the front decides for the bytes
-pub not_many : (bytes front : List ℕ) → front ≡ take 32768 bytes → (66 ≤ full_lines front → false ≡ true) → ¬ (HasTooManyLines bytes)
-not_many bytes front is test many =
-    let never : false ≡ true = test (subst (λ (l : List ℕ). 66 ≤ full_lines l) (sym is) many) in
-    cc
-
-pub many : (bytes front : List ℕ) → front ≡ take 32768 bytes → 66 ≤ full_lines front → HasTooManyLines bytes
-many bytes front is lines = subst (λ (l : List ℕ). 66 ≤ full_lines l) is lines
 
 -- a front that isn't full is all
 pub all_of : (bytes front : List ℕ) → front ≡ take 32768 bytes → length front < 32768 → (length bytes < 32768) × (front ≡ bytes)

@@ -8,6 +8,7 @@ use Rattle.std.proofs.lemmas.Bool.Decides.{nat_tests}
 use Rattle.std.proofs.lemmas.List.Elements.{recursion_from_All}
 use Rattle.httparse.specs.Grammar.{is_token_byte, is_uri_byte, is_value_byte, AllPass, LineEnd, print_end, print_blank, print_version, Field, print_field, IsField, RequestHead, print_request, IsRequestHead, ResponseHead, print_response, IsResponseHead, print_reason, reason_phrase}
 use Rattle.httparse.specs.Grammar.LineEnd.{crlf, lf}
+use Rattle.http_heads.specs.Heads.{HeadKind, requests, responses}
 use Rattle.http_heads.specs.Lines.{ended_lines, is_empty_line, is_full_line, from_full, full_lines}
 use Rattle.httparse.proofs.GrammarLemmas.{cons-append, print_request-append, print_response-append}
 use Rattle.http_heads.proofs.LineLemmas.{from_full-empty, from_full-full}
@@ -124,33 +125,47 @@ last_line end rest =
     let lines = ended [] end rest tt in
     rw (lines, empty_end end) refl
 
+-- a head up to its last line, from its parts
+abbrev pub head_front : List LineEnd → List ℕ → LineEnd → List Field → List ℕ → List ℕ
+head_front blank start end fields rest = print_blank blank ++ (start ++ (print_end end ++ (flat_map print_field fields ++ rest)))
+
+pub head_front-append : (blank : List LineEnd) (start : List ℕ) (end : LineEnd) (fields : List Field) (a b : List ℕ)
+    → head_front blank start end fields (a ++ b) ≡ head_front blank start end fields a ++ b
+head_front-append blank start end fields a b = regroup (print_blank blank) start (print_end end) (flat_map print_field fields) a b
+  where
+    regroup : (w x y z a b : List ℕ) → w ++ (x ++ (y ++ (z ++ (a ++ b)))) ≡ (w ++ (x ++ (y ++ (z ++ a)))) ++ b
+    regroup w x y z a b = simp append_assoc
+
+-- the lines of a kind of head: each head is a front and its last line's end, and the lines of its front are counted
+pub record HasLines {Tree Message : Type 0} (kind : HeadKind Tree Message) : Type 0 where
+  pub front : Tree → List ℕ → List ℕ
+  pub last : Tree → LineEnd
+  pub printed : (tree : Tree) (rest : List ℕ) → kind.print tree ++ rest ≡ front tree (print_end (last tree) ++ rest)
+  pub joined : (tree : Tree) (a b : List ℕ) → front tree (a ++ b) ≡ front tree a ++ b
+  pub lines : (tree : Tree) (rest : List ℕ) → kind.IsTree tree
+      → full_lines (front tree rest) ≡ suc (length (kind.lines tree) + prefix_len is_full_line (ended_lines rest))
+
 -- the start line of a request
-abbrev pub request_start : RequestHead → List ℕ
+abbrev request_start : RequestHead → List ℕ
 request_start h = h.method ++ 32 ∷ (h.target ++ 32 ∷ print_version h.minor)
 
 -- a request's head up to its last line
-abbrev pub request_front : RequestHead → List ℕ → List ℕ
-request_front h rest = print_blank h.blank ++ (request_start h ++ (print_end h.line_end ++ (flat_map print_field h.fields ++ rest)))
+abbrev request_front : RequestHead → List ℕ → List ℕ
+request_front h rest = head_front h.blank (request_start h) h.line_end h.fields rest
 
-pub print_request-front : (h : RequestHead) (rest : List ℕ) → print_request h ++ rest ≡ request_front h (print_end h.last ++ rest)
+print_request-front : (h : RequestHead) (rest : List ℕ) → print_request h ++ rest ≡ request_front h (print_end h.last ++ rest)
 print_request-front h rest = print_request-append h rest ∙ regroup (print_blank h.blank) h.method h.target (print_version h.minor) (print_end h.line_end) (flat_map print_field h.fields) (print_end h.last) rest
   where
     regroup : (a b c d e f g r : List ℕ)
         → a ++ (b ++ 32 ∷ (c ++ 32 ∷ (d ++ (e ++ ((f ++ g) ++ r))))) ≡ a ++ ((b ++ 32 ∷ (c ++ 32 ∷ d)) ++ (e ++ (f ++ (g ++ r))))
     regroup a b c d e f g r = simp (append_assoc, cons-append)
 
-pub request_front-append : (h : RequestHead) (a b : List ℕ) → request_front h (a ++ b) ≡ request_front h a ++ b
-request_front-append h a b = regroup (print_blank h.blank) (request_start h) (print_end h.line_end) (flat_map print_field h.fields) a b
-  where
-    regroup : (w x y z a b : List ℕ) → w ++ (x ++ (y ++ (z ++ (a ++ b)))) ≡ (w ++ (x ++ (y ++ (z ++ a)))) ++ b
-    regroup w x y z a b = simp append_assoc
-
 version_feed : (minor : ℕ) → minor ≤ 1 → NoFeed (print_version minor)
 version_feed minor small =
     let digit : eqb (48 + minor) 10 ≡ false = grind (arith, nat_tests) in
     (refl, (refl, (refl, (refl, (refl, (refl, (refl, (digit, tt))))))))
 
-pub request_lines : (h : RequestHead) (rest : List ℕ) → IsRequestHead h
+request_lines : (h : RequestHead) (rest : List ℕ) → IsRequestHead h
     → full_lines (request_front h rest) ≡ suc (length h.fields + prefix_len is_full_line (ended_lines rest))
 request_lines h rest is =
     let none : NoFeed (request_start h) =
@@ -160,31 +175,25 @@ request_lines h rest is =
     head_lines h.blank (request_start h) h.line_end h.fields rest none long is.fields
 
 -- the start line of a response
-abbrev pub response_start : ResponseHead → List ℕ
+abbrev response_start : ResponseHead → List ℕ
 response_start h = print_version h.minor ++ 32 ∷ (h.digits ++ print_reason h.reason)
 
 -- a response's head up to its last line
-abbrev pub response_front : ResponseHead → List ℕ → List ℕ
-response_front h rest = print_blank h.blank ++ (response_start h ++ (print_end h.line_end ++ (flat_map print_field h.fields ++ rest)))
+abbrev response_front : ResponseHead → List ℕ → List ℕ
+response_front h rest = head_front h.blank (response_start h) h.line_end h.fields rest
 
-pub print_response-front : (h : ResponseHead) (rest : List ℕ) → print_response h ++ rest ≡ response_front h (print_end h.last ++ rest)
+print_response-front : (h : ResponseHead) (rest : List ℕ) → print_response h ++ rest ≡ response_front h (print_end h.last ++ rest)
 print_response-front h rest = print_response-append h rest ∙ regroup (print_blank h.blank) (print_version h.minor) h.digits (print_reason h.reason) (print_end h.line_end) (flat_map print_field h.fields) (print_end h.last) rest
   where
     regroup : (a b c d e f g r : List ℕ)
         → a ++ (b ++ 32 ∷ (c ++ (d ++ (e ++ ((f ++ g) ++ r))))) ≡ a ++ ((b ++ 32 ∷ (c ++ d)) ++ (e ++ (f ++ (g ++ r))))
     regroup a b c d e f g r = simp (append_assoc, cons-append)
 
-pub response_front-append : (h : ResponseHead) (a b : List ℕ) → response_front h (a ++ b) ≡ response_front h a ++ b
-response_front-append h a b = regroup (print_blank h.blank) (response_start h) (print_end h.line_end) (flat_map print_field h.fields) a b
-  where
-    regroup : (w x y z a b : List ℕ) → w ++ (x ++ (y ++ (z ++ (a ++ b)))) ≡ (w ++ (x ++ (y ++ (z ++ a)))) ++ b
-    regroup w x y z a b = simp append_assoc
-
 reason_feed : (reason : Option (List ℕ)) → AllPass is_value_byte (reason_phrase reason) → NoFeed (print_reason reason)
 reason_feed None pass = tt
 reason_feed (Some phrase) pass = (refl, NoFeed-from is_value_byte phrase refl pass)
 
-pub response_lines : (h : ResponseHead) (rest : List ℕ) → IsResponseHead h
+response_lines : (h : ResponseHead) (rest : List ℕ) → IsResponseHead h
     → full_lines (response_front h rest) ≡ suc (length h.fields + prefix_len is_full_line (ended_lines rest))
 response_lines h rest is =
     let none : NoFeed (response_start h) =
@@ -192,3 +201,21 @@ response_lines h rest is =
     (refl, NoFeed-append h.digits (print_reason h.reason) (NoFeed-from is_ascii_digit h.digits refl is.digits.1) (reason_feed h.reason is.reason)) in
     let long : 2 ≤ length (response_start h) = omega (arith, length-append (print_version h.minor) (32 ∷ (h.digits ++ print_reason h.reason))) in
     head_lines h.blank (response_start h) h.line_end h.fields rest none long is.fields
+
+pub lines_of_requests : HasLines requests
+lines_of_requests = record {
+  front = request_front;
+  last = λ h. h.last;
+  printed = print_request-front;
+  joined = λ h a b. head_front-append h.blank (request_start h) h.line_end h.fields a b;
+  lines = request_lines;
+}
+
+pub lines_of_responses : HasLines responses
+lines_of_responses = record {
+  front = response_front;
+  last = λ h. h.last;
+  printed = print_response-front;
+  joined = λ h a b. head_front-append h.blank (response_start h) h.line_end h.fields a b;
+  lines = response_lines;
+}

@@ -1,6 +1,7 @@
 mod LineLemmas
 mod HeadLines
 mod Fronts
+mod HeadFacts
 mod RequestFacts
 mod ResponseFacts
 mod PrintFacts

@@ -190,7 +190,7 @@ request_sent bytes message count changes more has plain limits =
 pub response_sent : (bytes : List ℕ) (message : ResponseHead) (count : ℕ) (changes : List Change) (more : List ℕ) → HasResponse bytes message count
     → All IsPlainChange changes → IsWithinLimits (with_response_fields changes message).fields (response_text (with_response_fields changes message))
     → HasResponse (response_text (with_response_fields changes message) ++ more) (with_response_fields changes message)
-        (length (response_text (with_response_fields changes message)))
+    (length (response_text (with_response_fields changes message)))
 response_sent bytes message count changes more has plain limits =
     let shape = response_shape bytes message count has in
     response_reads (with_response_fields changes message) more

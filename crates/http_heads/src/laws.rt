@@ -25,5 +25,5 @@ pub fn sent_on()
     ensures response { (bytes : List ℕ) (message : Response) (count : ℕ) (changes : List Change) (more : List ℕ) → HasResponse bytes message count
         → All IsPlainChange changes → IsWithinLimits (with_response_fields changes message).fields (response_text (with_response_fields changes message))
         → HasResponse (response_text (with_response_fields changes message) ++ more) (with_response_fields changes message)
-            (length (response_text (with_response_fields changes message))) }
+        (length (response_text (with_response_fields changes message))) }
 {}

@@ -1,8 +1,9 @@
 // The head of a message at the front of bytes.
-ghost use Rattle.std.specs.Prelude.{◌≡◌, ℕ, Some, length, take, map, All, IfOk};
+ghost use Rattle.std.specs.Prelude.{◌≡◌, ℕ, Some, length, take, map, All, IfOk, MatchOption};
 ghost use Rattle.httparse.specs.Spans.{IsWithin, IsHeaderWithin, IsRequestWithin, IsResponseWithin, span_bytes};
 ghost use Rattle.http_heads.specs.Limits.{head_limit};
 ghost use Rattle.http_heads.specs.Heads.{HasRequest, HasResponse, AnswersRequest, AnswersResponse, GivesUnlessNoMemory};
+ghost use Rattle.http_heads.specs.Lines.{HasTooManyLines};
 ghost use Rattle.http_heads.specs.Spans.{field_at, request_at, response_at};
 ghost use Rattle.http_heads.specs.declared.message.RequestHead.{RequestHead};
 ghost use Rattle.http_heads.specs.declared.message.ResponseHead.{ResponseHead};
@@ -24,16 +25,15 @@ pub fn read_request(alloc: Global, bytes: &[u8]) -> Result<Option<(RequestHead, 
     ensures found { (message : RequestHead) (count : ℕ) → HasRequest bytes.now message count
         → GivesUnlessNoMemory result (Some (message, count)) }
 {
-    let front = front_of(bytes);
-    if has_too_many_lines(front) {
+    let Some(front) = front_of(bytes) else {
         return Err(HeadError::TooMany);
-    }
+    };
     let mut room = [EMPTY_HEADER_SPAN; MOST_FIELDS];
     match parse_request(front, &mut room) {
-        Ok(Status::Complete(spans)) => match request_from(alloc, front, &spans, &room) {
-            Ok(head) => Ok(Some((head, spans.len))),
-            Err(_) => Err(HeadError::NoMemory),
-        },
+        Ok(Status::Complete(spans)) => {
+            let head = request_from(alloc, front, &spans, &room)?;
+            Ok(Some((head, spans.len)))
+        }
         Ok(Status::Partial) => {
             if front.len() < LONGEST_HEAD {
                 Ok(None)
@@ -55,16 +55,15 @@ pub fn read_response(
     ensures found { (message : ResponseHead) (count : ℕ) → HasResponse bytes.now message count
         → GivesUnlessNoMemory result (Some (message, count)) }
 {
-    let front = front_of(bytes);
-    if has_too_many_lines(front) {
+    let Some(front) = front_of(bytes) else {
         return Err(HeadError::TooMany);
-    }
+    };
     let mut room = [EMPTY_HEADER_SPAN; MOST_FIELDS];
     match parse_response(front, &mut room) {
-        Ok(Status::Complete(spans)) => match response_from(alloc, front, &spans, &room) {
-            Ok(head) => Ok(Some((head, spans.len))),
-            Err(_) => Err(HeadError::NoMemory),
-        },
+        Ok(Status::Complete(spans)) => {
+            let head = response_from(alloc, front, &spans, &room)?;
+            Ok(Some((head, spans.len)))
+        }
         Ok(Status::Partial) => {
             if front.len() < LONGEST_HEAD {
                 Ok(None)
@@ -76,11 +75,16 @@ pub fn read_response(
     }
 }
 
-// The bytes in which a head must stand.
-fn front_of(bytes: &[u8]) -> &[u8]
-    ensures { result.now ≡ take head_limit bytes.now }
+// The bytes in which a head must stand, unless their lines are too many.
+fn front_of(bytes: &[u8]) -> Option<&[u8]>
+    ensures { MatchOption result (HasTooManyLines bytes.now) (λ front. (front.now ≡ take head_limit bytes.now) × ¬ (HasTooManyLines bytes.now)) }
 {
-    &bytes[..bytes.len().min(LONGEST_HEAD)]
+    let front = &bytes[..bytes.len().min(LONGEST_HEAD)];
+    if has_too_many_lines(front) {
+        None
+    } else {
+        Some(front)
+    }
 }
 
 fn request_from(
