@@ -2,6 +2,8 @@
 use Rattle.std.proofs.Common.{◌≡◌, ℕ, ◌+◌, ◌<◌, ◌≤◌, List, [], ◌∷◌, ◌++◌, get_or, sym, ap, ◌∙◌, subst, refl, arith, append_assoc, append-nil, lit<}
 use Rattle.std.specs.Prelude.{codes, Option, Some, None, Result, Ok, Err, IfOk, IfErr, MatchResult}
 use mathlib.Core.Logic.{◌⊎◌, inl, inr}
+use Rattle.std.proofs.Common.{⊎_elim}
+use Rattle.std.proofs.lemmas.Bool.{cases_order}
 use native.Mathlib.Decide.{dec_le}
 use Rattle.std.proofs.lemmas.Option.{none-some, same_Some}
 use Rattle.units.specs.Numbers.{IsNumber}
@@ -17,7 +19,8 @@ use Rattle.session_text.specs.declared.reading.Reading.TheVariants.{Passed, End,
 use Rattle.session_text.specs.declared.place.Place.{Place}
 use Rattle.session_text.specs.Lines.{TextLine, lines_of, size, content}
 use Rattle.session_text.specs.Readings.{IsWord, HasWord, word_for, IsArgument, IsLine, IsPassed, IsKnown, HasBadText, IsReading}
-use Rattle.session_text.specs.Sessions.{Step, On, Stop, step_of, IsStep, Reads, Fails, first_place, IsSession, IsFault}
+use Rattle.session_text.specs.Sessions.{Step, On, Stop, step_of, IsStep, Reads, Fails, first_place, session_limit, IsSession, IsFault}
+use Rattle.session_text.specs.Faults.{kind_number}
 use Rattle.session_text.specs.Errors.{IsErrorOf}
 use Rattle.session_text.specs.declared.session.Session.{Session}
 use Rattle.session_text.specs.declared.session.SessionError.{SessionError}
@@ -127,50 +130,62 @@ line_same text l m h k =
 unknown_knows : (text : List ℕ) → IsReading text (Bad Unknown) → Knows text → ⊥
 unknown_knows text h k = h.1 k.0 k.1 k.2
 
+-- the kinds of reading in an order, by which two different ones are compared once
+abbrev rank : Reading → ℕ
+rank Passed = 0
+rank End = 1
+rank (Says line) = 2
+rank (Bad kind) = 3 + kind_number kind
+
+-- a text has no two readings of different kinds
+apart_readings : (text : List ℕ) (r s : Reading) → rank r < rank s → IsReading text r → IsReading text s → ⊥
+apart_readings text r (Bad Moment) order h k = k
+apart_readings text r (Bad NoEnd) order h k = k
+apart_readings text r (Bad After) order h k = k
+apart_readings text (Bad Moment) s order h k = h
+apart_readings text (Bad NoEnd) s order h k = h
+apart_readings text (Bad After) s order h k = h
+apart_readings text Passed End order h k = passed_known text h (end_knows text k)
+apart_readings text Passed (Says m) order h k = passed_known text h (line_knows text m k)
+apart_readings text Passed (Bad Word) order h k = passed_known text h (text_knows text k)
+apart_readings text Passed (Bad Unknown) order h k = k.0 h
+apart_readings text Passed (Bad Argument) order h k = passed_known text h k.0
+apart_readings text End (Says m) order h k = end_line text m h k
+apart_readings text End (Bad Word) order h k = end_text text h k
+apart_readings text End (Bad Unknown) order h k = unknown_knows text k (end_knows text h)
+apart_readings text End (Bad Argument) order h k = k.1 h
+apart_readings text (Says l) (Bad Word) order h k = line_text text l h k
+apart_readings text (Says l) (Bad Unknown) order h k = unknown_knows text k (line_knows text l h)
+apart_readings text (Says l) (Bad Argument) order h k = k.2 l h
+apart_readings text (Bad Word) (Bad Unknown) order h k = unknown_knows text k (text_knows text h)
+apart_readings text (Bad Word) (Bad Argument) order h k = k.3 h
+apart_readings text (Bad Unknown) (Bad Argument) order h k = unknown_knows text h k.0
+apart_readings text (Bad Word) (Bad Word) order h k = omega arith
+apart_readings text (Bad Unknown) (Bad Word) order h k = omega arith
+apart_readings text (Bad Unknown) (Bad Unknown) order h k = omega arith
+apart_readings text (Bad Argument) (Bad Word) order h k = omega arith
+apart_readings text (Bad Argument) (Bad Unknown) order h k = omega arith
+apart_readings text (Bad Argument) (Bad Argument) order h k = omega arith
+apart_readings text r s order h k = omega arith
+
+same_rank : (text : List ℕ) (r s : Reading) → rank r ≡ rank s → IsReading text r → IsReading text s → r ≡ s
+same_rank text (Bad Moment) s e h k = absurd h
+same_rank text (Bad NoEnd) s e h k = absurd h
+same_rank text (Bad After) s e h k = absurd h
+same_rank text Passed Passed e h k = refl
+same_rank text End End e h k = refl
+same_rank text (Says l) (Says m) e h k = ap Says (line_same text l m h k)
+same_rank text (Bad Word) (Bad Word) e h k = refl
+same_rank text (Bad Unknown) (Bad Unknown) e h k = refl
+same_rank text (Bad Argument) (Bad Argument) e h k = refl
+same_rank text r s e h k = absurd (omega arith)
+
 -- every text is read in one way
 pub reading_same : (text : List ℕ) (r s : Reading) → IsReading text r → IsReading text s → r ≡ s
-reading_same text (Bad Moment) s h k = absurd h
-reading_same text (Bad NoEnd) s h k = absurd h
-reading_same text (Bad After) s h k = absurd h
-reading_same text r (Bad Moment) h k = absurd k
-reading_same text r (Bad NoEnd) h k = absurd k
-reading_same text r (Bad After) h k = absurd k
-reading_same text Passed Passed h k = refl
-reading_same text Passed End h k = absurd (passed_known text h (end_knows text k))
-reading_same text Passed (Says m) h k = absurd (passed_known text h (line_knows text m k))
-reading_same text Passed (Bad Word) h k = absurd (passed_known text h (text_knows text k))
-reading_same text Passed (Bad Unknown) h k = absurd (k.0 h)
-reading_same text Passed (Bad Argument) h k = absurd (passed_known text h k.0)
-reading_same text End Passed h k = absurd (passed_known text k (end_knows text h))
-reading_same text End End h k = refl
-reading_same text End (Says m) h k = absurd (end_line text m h k)
-reading_same text End (Bad Word) h k = absurd (end_text text h k)
-reading_same text End (Bad Unknown) h k = absurd (unknown_knows text k (end_knows text h))
-reading_same text End (Bad Argument) h k = absurd (k.1 h)
-reading_same text (Says l) Passed h k = absurd (passed_known text k (line_knows text l h))
-reading_same text (Says l) End h k = absurd (end_line text l k h)
-reading_same text (Says l) (Says m) h k = ap Says (line_same text l m h k)
-reading_same text (Says l) (Bad Word) h k = absurd (line_text text l h k)
-reading_same text (Says l) (Bad Unknown) h k = absurd (unknown_knows text k (line_knows text l h))
-reading_same text (Says l) (Bad Argument) h k = absurd (k.2 l h)
-reading_same text (Bad Word) Passed h k = absurd (passed_known text k (text_knows text h))
-reading_same text (Bad Word) End h k = absurd (end_text text k h)
-reading_same text (Bad Word) (Says m) h k = absurd (line_text text m k h)
-reading_same text (Bad Word) (Bad Word) h k = refl
-reading_same text (Bad Word) (Bad Unknown) h k = absurd (unknown_knows text k (text_knows text h))
-reading_same text (Bad Word) (Bad Argument) h k = absurd (k.3 h)
-reading_same text (Bad Unknown) Passed h k = absurd (h.0 k)
-reading_same text (Bad Unknown) End h k = absurd (unknown_knows text h (end_knows text k))
-reading_same text (Bad Unknown) (Says m) h k = absurd (unknown_knows text h (line_knows text m k))
-reading_same text (Bad Unknown) (Bad Word) h k = absurd (unknown_knows text h (text_knows text k))
-reading_same text (Bad Unknown) (Bad Unknown) h k = refl
-reading_same text (Bad Unknown) (Bad Argument) h k = absurd (unknown_knows text h k.0)
-reading_same text (Bad Argument) Passed h k = absurd (passed_known text k h.0)
-reading_same text (Bad Argument) End h k = absurd (h.1 k)
-reading_same text (Bad Argument) (Says m) h k = absurd (h.2 m k)
-reading_same text (Bad Argument) (Bad Word) h k = absurd (h.3 k)
-reading_same text (Bad Argument) (Bad Unknown) h k = absurd (unknown_knows text k h.0)
-reading_same text (Bad Argument) (Bad Argument) h k = refl
+reading_same text r s h k =
+    ⊎_elim (λ e. same_rank text r s e h k)
+    (⊎_elim (λ order. absurd (apart_readings text r s order h k)) (λ order. absurd (apart_readings text s r order k h)))
+    (cases_order (rank r) (rank s))
 
 -- no text is without a reading
 reading_some : (text : List ℕ) → ((r : Reading) → IsReading text r → ⊥) → ⊥
@@ -178,7 +193,7 @@ reading_some text none_ =
     none_ (Bad Unknown) (λ p. none_ Passed p, λ w h k. none_ (Bad Argument) ((w, h, k), λ e. none_ End e, λ l i. none_ (Says l) i, λ b. none_ (Bad Word) b))
 
 -- a line does one thing at a place
-step_same : (place : Place) (line : TextLine) (s t : Step) → IsStep place line s → IsStep place line t → s ≡ t
+pub step_same : (place : Place) (line : TextLine) (s t : Step) → IsStep place line s → IsStep place line t → s ≡ t
 step_same place line s t (inl h) (inl k) = h.1 ∙ sym k.1
 step_same place line s t (inl h) (inr k) = absurd (omega (arith, h.0, k.0))
 step_same place line s t (inr h) (inl k) = absurd (omega (arith, h.0, k.0))
@@ -191,13 +206,13 @@ step_some place line none_ =
       | no h ↦ none_ (Stop Argument) (inl (omega arith, refl))
     ]
 
-on_same : (g h : List NumberedLine) (p q : Place) → On g p ≡ On h q → (g ≡ h) × (p ≡ q)
+pub on_same : (g h : List NumberedLine) (p q : Place) → On g p ≡ On h q → (g ≡ h) × (p ≡ q)
 on_same g h p q e = (cc, cc)
 
-stop_same : (a b : FaultKind) → Stop a ≡ Stop b → a ≡ b
+pub stop_same : (a b : FaultKind) → Stop a ≡ Stop b → a ≡ b
 stop_same a b e = cc
 
-on_stop : (g : List NumberedLine) (p : Place) (k : FaultKind) → On g p ≡ Stop k → ⊥
+pub on_stop : (g : List NumberedLine) (p : Place) (k : FaultKind) → On g p ≡ Stop k → ⊥
 on_stop g p k e = cc
 
 -- the lines of a session are the only ones
@@ -247,9 +262,9 @@ not_neither (line ∷ rest) place r f =
 pub record AsFar (text rest : List ℕ) (place : Place) (lines : List NumberedLine) : Type 0 where
   pub reads : (more : List NumberedLine) (end : ℕ) → Reads (lines_of rest) place more end → Reads (lines_of text) first_place (lines ++ more) end
   pub fails : (line : ℕ) (kind : FaultKind) → Fails (lines_of rest) place line kind → Fails (lines_of text) first_place line kind
-  pub small : place.number + place.room ≤ 67108865
+  pub small : place.number + place.room ≤ session_limit + 1
 
-pub as_far_on : (text rest behind : List ℕ) (place next : Place) (lines given : List NumberedLine) (line : TextLine) → AsFar text rest place lines → lines_of rest ≡ line ∷ lines_of behind → IsStep place line (On given next) → next.number + next.room ≤ 67108865 → AsFar text behind next (lines ++ given)
+pub as_far_on : (text rest behind : List ℕ) (place next : Place) (lines given : List NumberedLine) (line : TextLine) → AsFar text rest place lines → lines_of rest ≡ line ∷ lines_of behind → IsStep place line (On given next) → next.number + next.room ≤ session_limit + 1 → AsFar text behind next (lines ++ given)
 as_far_on text rest behind place next lines given line far cut step small =
     record {
       reads = λ more end h.

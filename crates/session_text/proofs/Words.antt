@@ -18,7 +18,7 @@ use Rattle.session_text.specs.declared.reading.Reading.TheVariants.{Bad}
 use Rattle.session_text.specs.declared.reading.Keyword.{Keyword}
 use Rattle.session_text.specs.declared.reading.Keyword.TheVariants as keywords
 use Rattle.session_text.specs.Keywords.{keyword_text}
-use Rattle.session_text.specs.Readings.{IsWord, HasWord, word_for, IsArgument, IsLine, IsPassed, IsKnown, HasBadText, IsReading}
+use Rattle.session_text.specs.Readings.{moment_limit, IsWord, HasWord, word_for, IsArgument, IsLine, IsPassed, IsKnown, HasBadText, IsReading}
 use Rattle.session_text.proofs.Cuts.{words_same, word_alone}
 
 -- the first and the third byte of a text together, by which the words differ
@@ -100,7 +100,7 @@ text_word line a h =
       | inr e ↦ inr ((words_same (word_for line) h.0 a (h.1 ++ 32 ∷ h.2) (word_for_word line) (reply_word h.0 e) h.4).0 ∙ e)
     ]
 
-none_at : (a : List ℕ) → ((n : ℕ) → IsNumber a n → n ≤ 253402300799999 → ⊥) → (m : Line) → word_for m ≡ word_for (At 0) → IsArgument m a → ⊥
+none_at : (a : List ℕ) → ((n : ℕ) → IsNumber a n → n ≤ moment_limit → ⊥) → (m : Line) → word_for m ≡ word_for (At 0) → IsArgument m a → ⊥
 none_at a h (At n) e p = h n p.0 p.1
 none_at a h m e p = apart _ _ refl e
 
@@ -112,7 +112,7 @@ none_lurk : (a : List ℕ) → ((n : ℕ) → IsNumber a n → n < 2 ^ 32 → �
 none_lurk a h (Lurk n) e p = h n p.0 p.1
 none_lurk a h m e p = apart _ _ refl e
 
-pub bad_at : (a : List ℕ) → ((n : ℕ) → IsNumber a n → n ≤ 253402300799999 → ⊥) → IsReading (codes "at" ++ 32 ∷ a) (Bad Argument)
+pub bad_at : (a : List ℕ) → ((n : ℕ) → IsNumber a n → n ≤ moment_limit → ⊥) → IsReading (codes "at" ++ 32 ∷ a) (Bad Argument)
 bad_at a h = bad_argument (At 0) a (none_at a h) (λ t. elim (text_word (At 0) a t) [ inl e ↦ apart _ _ refl e | inr e ↦ apart _ _ refl e ])
 
 pub bad_fail : (a : List ℕ) → ((n : ℕ) → IsNumber a n → ⊥) → IsReading (codes "fail" ++ 32 ∷ a) (Bad Argument)

@@ -5,3 +5,4 @@ pub mod Lines
 pub mod Readings
 pub mod Sessions
 pub mod Turns
+pub mod Going

@@ -6,6 +6,9 @@ use Rattle.units.specs.Quoted.{IsQuoted}
 use Rattle.session_text.specs.declared.session.FaultKind.TheVariants.{Word, Unknown, Argument}
 use Rattle.session_text.specs.declared.session.Line.{Line}
 use Rattle.session_text.specs.declared.session.Line.TheVariants.{At, Req, Reply, Fail, Cli, Lurk}
+use Rattle.session_text.specs.declared.reading.Keyword.{Keyword}
+use Rattle.session_text.specs.declared.reading.Keyword.TheVariants as keywords
+use Rattle.session_text.specs.Keywords.{keyword_text}
 use Rattle.session_text.specs.declared.reading.Reading.{Reading}
 use Rattle.session_text.specs.declared.reading.Reading.TheVariants.{Passed, End, Says, Bad}
 
@@ -18,17 +21,24 @@ abbrev pub HasWord : List ℕ → List ℕ → Type 0
 HasWord text word = IsWord word × ((text ≡ word) ⊎ ((argument : List ℕ) × (text ≡ word ++ 32 ∷ argument)))
 
 -- the word that a line begins with
+abbrev pub keyword_for : Line → Keyword
+keyword_for (At moment) = keywords.At
+keyword_for (Req client text) = keywords.Req
+keyword_for (Reply fetch text) = keywords.Reply
+keyword_for (Fail fetch) = keywords.Fail
+keyword_for (Cli text) = keywords.Cli
+keyword_for (Lurk count) = keywords.Lurk
+
 abbrev pub word_for : Line → List ℕ
-word_for (At moment) = codes "at"
-word_for (Req client text) = codes "req"
-word_for (Reply fetch text) = codes "reply"
-word_for (Fail fetch) = codes "fail"
-word_for (Cli text) = codes "cli"
-word_for (Lurk count) = codes "lurk"
+word_for line = keyword_text (keyword_for line)
+
+-- the greatest moment: the last millisecond of the year 9999
+abbrev pub moment_limit : ℕ
+moment_limit = 253402300799999
 
 -- what stands behind the word and its blank
 abbrev pub IsArgument : Line → List ℕ → Type 0
-IsArgument (At moment) argument = IsNumber argument moment × (moment ≤ 253402300799999)
+IsArgument (At moment) argument = IsNumber argument moment × (moment ≤ moment_limit)
 IsArgument (Req client text) argument =
     (number quoted : List ℕ) × (argument ≡ number ++ 32 ∷ quoted) × IsNumber number client × (0 < client) × (client ≤ 250) × IsQuoted text quoted [] × (0 < length text)
 IsArgument (Reply fetch text) argument =

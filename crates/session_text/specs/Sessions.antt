@@ -13,9 +13,13 @@ use Rattle.session_text.specs.declared.place.Place.{Place}
 use Rattle.session_text.specs.Lines.{TextLine, lines_of, size, content}
 use Rattle.session_text.specs.Readings.{IsReading}
 
--- the place at which a text begins: line 1, room for 67,108,864 bytes, moment 0, no `end` yet
+-- a session has at most so many bytes
+abbrev pub session_limit : ℕ
+session_limit = 67108864
+
+-- the place at which a text begins: line 1, room for a whole session, moment 0, no `end` yet
 abbrev pub first_place : Place
-first_place = record { number = 1; room = 67108864; moment = 0; end = None }
+first_place = record { number = 1; room = session_limit; moment = 0; end = None }
 
 -- the place behind a line
 abbrev pub behind : Place → TextLine → Place

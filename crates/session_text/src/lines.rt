@@ -1,5 +1,5 @@
 // How a text is cut into lines.
-ghost use Rattle.std.specs.Prelude.{◌≡◌, ◌<◌, ◌+◌, ◌^◌, ◌∷◌, [], length, MatchOption, IfSome};
+ghost use Rattle.std.specs.Prelude.{◌≡◌, ◌<◌, ◌+◌, ◌∷◌, [], length, MatchOption, IfSome};
 ghost use Rattle.session_text.specs.Lines.{text_line, lines_of, size, content, without_cr};
 
 /// The first line of a text, and what is behind it.
@@ -55,12 +55,4 @@ fn without_cr_of(body: &[u8]) -> &[u8]
         return &body[..len - 1];
     }
     body
-}
-
-/// How many bytes of the text a line takes.
-pub fn size_of_line(body: &[u8], ended: bool) -> usize
-    requires { length body.now < 2 ^ 62 }
-    ensures { result ≡ size (text_line body.now ended) }
-{
-    if ended { body.len() + 1 } else { body.len() }
 }

@@ -2,7 +2,7 @@
 ghost use Rattle.std.specs.Prelude.{◌≡◌, ◌≤◌, ◌<◌, ◌+◌, ◌-◌, ◌∷◌, [], ℕ, IfOk, SomeIff, nat_lt, if◌then◌else◌};
 ghost use Rattle.std.specs.Option.{is_some};
 ghost use Rattle.session_text.specs.Lines.{text_line, size};
-ghost use Rattle.session_text.specs.Sessions.{first_place, moment_after, numbered, IsStep, On, Stop};
+ghost use Rattle.session_text.specs.Sessions.{first_place, session_limit, moment_after, numbered, IsStep, On, Stop};
 ghost use Rattle.session_text.specs.Turns.{step_for, IsShort};
 
 use crate::SESSION_LIMIT;
@@ -51,7 +51,7 @@ pub enum Turn {
 /// What a line does at a place.
 pub fn take_line(alloc: Global, place: Place, next: NextLine<'_>) -> Result<Turn, AllocError>
     requires some { 0 < size (text_line next.body.now next.ended) }
-    requires small { place.number + place.room ≤ 67108865 }
+    requires small { place.number + place.room ≤ session_limit + 1 }
     ensures step { IfOk result (λ made. IsStep place (text_line next.entry.body.now next.entry.ended) (step_for made)) }
     ensures small { IfOk result IsShort }
 {
@@ -87,7 +87,7 @@ fn room_behind(room: usize, body: &[u8], ended: bool) -> Option<usize>
 // `end` comes once.
 fn turn_of_end(place: Place, behind: Place) -> Turn
     ensures step { step_for result ≡ (if is_some place.end then Stop FaultKind.After else On [] (record behind { end = Some place.number })) }
-    ensures small { behind.number + behind.room ≤ 67108865 → IsShort result }
+    ensures small { behind.number + behind.room ≤ session_limit + 1 → IsShort result }
 {
     match place.end {
         Some(_) => Turn::Stops(FaultKind::After),
@@ -103,7 +103,7 @@ fn turn_of_end(place: Place, behind: Place) -> Turn
 // A line is said before `end`, and at no earlier moment.
 fn turn_of_line(place: Place, behind: Place, line: Line) -> Turn
     ensures step { step_for result ≡ (if nat_lt (moment_after place.moment line) place.moment then Stop FaultKind.Moment else (if is_some place.end then Stop FaultKind.After else On (numbered place.number line ∷ []) (record behind { moment = moment_after place.moment line }))) }
-    ensures small { behind.number + behind.room ≤ 67108865 → IsShort result }
+    ensures small { behind.number + behind.room ≤ session_limit + 1 → IsShort result }
 {
     let moment = moment_behind(place.moment, &line);
     if moment < place.moment {

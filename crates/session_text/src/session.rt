@@ -2,6 +2,9 @@
 ghost use Rattle.std.specs.Prelude.{◌≡◌};
 ghost use Rattle.session_text.specs.Faults.{kind_number};
 
+use std::alloc::AllocError;
+use std::error::Error;
+use std::fmt;
 use units::{Sequence, Text};
 
 /// A session: its numbered lines in order, without empty lines and comments, and the line of its `end`.
@@ -36,11 +39,35 @@ pub enum Line {
 }
 
 /// Why a text is no session.
-#[derive(Drop)]
+#[derive(Clone, Copy, Debug, PartialEq, Eq)]
 pub enum SessionError {
     /// The first line that has no reading, and the least kind there.
     Refused { line: u32, kind: FaultKind },
     NoMemory,
+}
+
+impl fmt::Display for SessionError {
+    fn fmt<W: fmt::Write>(&self, f: &mut fmt::Formatter<W>) -> fmt::Result {
+        match self {
+            SessionError::Refused { line, kind } => {
+                let kind = kind.number();
+                write!(f, "line {line} kind {kind}")
+            },
+            SessionError::NoMemory => f.write_str("out of memory"),
+        }
+    }
+}
+
+impl Error for SessionError {}
+
+impl From<AllocError> for SessionError {
+    ghost use Rattle.session_text.specs.declared.session.SessionError.TheVariants.{NoMemory};
+
+    ghost from_gives = { λ _ error. error ≡ NoMemory };
+
+    fn from(_error: AllocError) -> SessionError {
+        SessionError::NoMemory
+    }
 }
 
 /// What is wrong with a line.
