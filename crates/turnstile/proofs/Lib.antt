@@ -1,0 +1,6 @@
+mod Places
+mod Moves
+mod Tickets
+mod Turning
+mod Splitting
+mod Joining

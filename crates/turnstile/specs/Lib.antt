@@ -1,0 +1,4 @@
+pub mod Knowledge
+pub mod Turns
+pub mod Steps
+pub mod Handles
