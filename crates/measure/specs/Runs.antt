@@ -12,21 +12,34 @@ use Rattle.measure.specs.Tasks.{Says, IsCount}
 abbrev pub line_of : ℕ → List ℕ
 line_of n = decimal n ++ 10 ∷ []
 
--- the task of the words, the whole input of at most 67,108,864 bytes, and its number
-pub record Counted (words : List (List ℕ)) (left0 left1 : Option (List ℕ)) : Type 0 where
+-- the most bytes of the input: 64 MiB
+abbrev pub input_limit : ℕ
+input_limit = 67108864
+
+-- the task of the words, and the input: all that the source had, or one byte more than the limit
+pub record Asked (words : List (List ℕ)) (left0 left1 : Option (List ℕ)) : Type 0 where
   pub task : Task
   pub says : Says words task
   pub input : List ℕ
-  pub reads : ReadsUpTo 67108864 left0 left1 input
-  pub short : length input ≤ 67108864
+  pub reads : ReadsUpTo input_limit left0 left1 input
+
+-- the input is within the limit, and has this count
+pub record Counted (words : List (List ℕ)) (left0 left1 : Option (List ℕ)) : Type 0 where
+  pub asked : Asked words left0 left1
+  pub short : length asked.input ≤ input_limit
   pub number : ℕ
-  pub is : IsCount task input number
+  pub is : IsCount asked.task asked.input number
+
+-- no input within the limit that has a count is refused
+pub record Uncounted (words : List (List ℕ)) (left0 left1 : Option (List ℕ)) : Type 0 where
+  pub asked : Asked words left0 left1
+  pub none : length asked.input ≤ input_limit → (n : ℕ) → ¬ (IsCount asked.task asked.input n)
 
 -- Words exactly where the words name no task, with nothing read; what is written by each status
 abbrev pub Ends : List (List ℕ) → Option (List ℕ) → Option (List ℕ) → Option (List ℕ) → Option (List ℕ) → Status → Type 0
 Ends words left0 left1 held0 held1 Done = (c : Counted words left0 left1) × Appends held0 held1 (line_of c.number)
 Ends words left0 left1 held0 held1 Words = ((task : Task) → ¬ (Says words task)) × (left1 ≡ left0) × (held1 ≡ held0)
-Ends words left0 left1 held0 held1 Refused = ((task : Task) × Says words task) × (held1 ≡ held0)
+Ends words left0 left1 held0 held1 Refused = Uncounted words left0 left1 × (held1 ≡ held0)
 Ends words left0 left1 held0 held1 ReadFault = ((task : Task) × Says words task) × (held1 ≡ held0)
 Ends words left0 left1 held0 held1 WriteFault = (c : Counted words left0 left1) × AppendsPart held0 held1 (line_of c.number)
 Ends words left0 left1 held0 held1 NoMemory = ((task : Task) × Says words task) × (held1 ≡ held0)

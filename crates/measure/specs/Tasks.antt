@@ -1,11 +1,11 @@
 -- What the words ask for, and the number that it is.
-use Rattle.std.specs.Prelude.{◌≡◌, ℕ, ◌<◌, ◌≤◌, List, [], ◌∷◌, codes, length, take}
+use Rattle.std.specs.Prelude.{◌≡◌, ℕ, ◌<◌, ◌≤◌, List, [], ◌∷◌, codes, length}
 use Rattle.units.specs.Numbers.{IsNumber}
 use Rattle.vcl_tree.specs.declared.token.Token.{Token}
-use Rattle.vcl_tokens.specs.Reading.{Reads}
+use Rattle.vcl_tokens.specs.Reading.{Reads, text_limit}
 use Rattle.http_bodies.specs.declared.framing.Framing.{Framing}
 use Rattle.http_bodies.specs.declared.framing.Framing.TheVariants as framing
-use Rattle.http_bodies.specs.Bodies.{IsBody}
+use Rattle.http_bodies.specs.Bodies.{BeginsWith}
 use Rattle.measure.specs.declared.task.Shape.{Shape}
 use Rattle.measure.specs.declared.task.Shape.TheVariants.{Chunked, Sized}
 use Rattle.measure.specs.declared.task.Task.{Task}
@@ -25,13 +25,24 @@ abbrev pub framing_of : Shape → ℕ → Framing
 framing_of Chunked size = framing.Chunked
 framing_of Sized size = framing.Length size
 
+-- the most bytes of a body: 8 MiB
+abbrev pub body_limit : ℕ
+body_limit = 8388608
+
 -- the bytes begin with a body of this framing, which has n bytes
-abbrev pub HasBody : Framing → List ℕ → ℕ → Type 0
-HasBody framing bytes n = (body : List ℕ) × (count : ℕ) × (count ≤ length bytes) × IsBody framing (take count bytes) body × (n ≡ length body)
+pub record HasBody (framing : Framing) (bytes : List ℕ) (n : ℕ) : Type 0 where
+  pub body : List ℕ
+  pub rest : List ℕ
+  pub reads : BeginsWith framing bytes body rest
+  pub short : length body ≤ body_limit
+  pub is : n ≡ length body
 
 -- the bytes are a VCL text of n tokens
-abbrev pub HasTokens : List ℕ → ℕ → Type 0
-HasTokens bytes n = (tokens : List Token) × Reads 0 bytes tokens × (n ≡ length tokens)
+pub record HasTokens (bytes : List ℕ) (n : ℕ) : Type 0 where
+  pub tokens : List Token
+  pub reads : Reads 0 bytes tokens
+  pub short : length bytes ≤ text_limit
+  pub is : n ≡ length tokens
 
 -- the number that the task asks for
 abbrev pub IsCount : Task → List ℕ → ℕ → Type 0

@@ -1,13 +1,16 @@
 // Counting the bytes of a body and the tokens of a text.
-ghost use Rattle.std.specs.Prelude.{◌≡◌, ◌≤◌, ◌<◌, length, take, IfOk};
-ghost use Rattle.http_bodies.specs.Reading.{Follows};
+ghost use Rattle.std.specs.Prelude.{◌≡◌, ◌≢◌, ◌≤◌, ◌<◌, ◌⊎◌, ℕ, true, Some, None, Ok, Err, length, take, IfOk, IfErr};
+ghost use Rattle.http_bodies.specs.Reading.{Follows, refusal, is_whole};
+ghost use Rattle.http_bodies.specs.Answers.{Refuses};
+ghost use Rattle.http_bodies.specs.declared.framing.BodyError.TheVariants as Fault;
+ghost use Rattle.measure.specs.declared.count.CountError.TheVariants.{NoMemory};
 ghost use Rattle.measure.specs.Tasks.{HasBody, HasTokens, IsCount};
 
 use crate::task::{Shape, Task};
 use http_bodies::{BodyError, BodyReader, Framing};
-use std::alloc::Global;
+use std::alloc::{AllocError, Global};
 use units::Text;
-use vcl_tokens::tokens;
+use vcl_tokens::{one_reading, tokens};
 use vcl_tree::VclError;
 
 /// The most bytes of a body: 8 MiB.
@@ -16,14 +19,23 @@ const BODY_LIMIT: u64 = 8_388_608;
 /// Why nothing was counted.
 #[derive(Clone, Copy, Debug, PartialEq, Eq)]
 pub enum CountError {
-    /// The input is no body of this shape, or no text of tokens, within the limits.
+    /// The input has no count: it is no body of this shape, or no text of tokens, within the limits.
     Refused,
     NoMemory,
 }
 
+impl From<AllocError> for CountError {
+    ghost from_gives = { λ _ e. e ≡ NoMemory };
+
+    fn from(_: AllocError) -> CountError {
+        CountError::NoMemory
+    }
+}
+
 /// The number that the task asks for.
 pub fn count(alloc: Global, task: Task, input: &[u8]) -> Result<u64, CountError>
-    ensures { IfOk result (IsCount task input.now) }
+    ensures given { IfOk result (IsCount task input.now) }
+    ensures found { (n : ℕ) → IsCount task input.now n → (result ≡ Ok n) ⊎ (result ≡ Err NoMemory) }
 {
     match task {
         Task::Bodies { shape, piece } => match shape {
@@ -36,7 +48,8 @@ pub fn count(alloc: Global, task: Task, input: &[u8]) -> Result<u64, CountError>
 
 // The bytes of the body that stands at the front of the input, fed in pieces of so many bytes.
 fn body_bytes(alloc: Global, framing: Framing, input: &[u8], piece: u64) -> Result<u64, CountError>
-    ensures { IfOk result (HasBody framing input.now) }
+    ensures given { IfOk result (HasBody framing input.now) }
+    ensures found { (n : ℕ) → HasBody framing input.now n → (result ≡ Ok n) ⊎ (result ≡ Err NoMemory) }
 {
     let mut reader = BodyReader::of(alloc, framing, BODY_LIMIT);
     if let Err(error) = feed_pieces(&mut reader, input, piece) {
@@ -50,22 +63,31 @@ fn body_bytes(alloc: Global, framing: Framing, input: &[u8], piece: u64) -> Resu
 
 // Feeds the input in pieces, up to the body's end.
 fn feed_pieces(reader: &mut BodyReader, input: &[u8], piece: u64) -> Result<usize, BodyError>
-    ensures { IfOk result (λ count. (count ≤ length input.now) × Follows reader.old reader.new (take count input.now)) }
+    ensures taken { IfOk result (λ count. (count ≤ length input.now) × Follows reader.old reader.new (take count input.now)) }
+    ensures end { IfOk result (λ count. count < length input.now → is_whole reader.new ≡ true) }
+    ensures kept { IfOk result (λ _. (refusal reader.new ≡ refusal reader.old) ⊎ (refusal reader.new ≡ None)) }
+    ensures refused { IfErr result (λ e. e ≢ Fault.NoMemory → (refusal reader.old ≡ Some e) ⊎ Refuses reader.old input.now e) }
 {
     let most = piece.max(1);
     let mut at = 0;
     while at < input.len() {
         let wanted = ((input.len() - at) as u64).min(most) as usize;
-        let count = reader.feed(&input[at..at + wanted])?;
-        at += count;
-        if count < wanted {
-            break;
+        match reader.feed(&input[at..at + wanted]) {
+            Ok(count) => {
+                at += count;
+                if count < wanted {
+                    break;
+                }
+            }
+            Err(error) => return Err(error),
         }
     }
     Ok(at)
 }
 
-fn counted_error(error: BodyError) -> CountError {
+fn counted_error(error: BodyError) -> CountError
+    ensures { result ≢ NoMemory → error ≢ Fault.NoMemory }
+{
     match error {
         BodyError::NoMemory => CountError::NoMemory,
         _ => CountError::Refused,
@@ -73,8 +95,10 @@ fn counted_error(error: BodyError) -> CountError {
 }
 
 fn token_count(alloc: Global, input: &[u8]) -> Result<u64, CountError>
-    ensures { IfOk result (HasTokens input.now) }
+    ensures given { IfOk result (HasTokens input.now) }
+    ensures found { (n : ℕ) → HasTokens input.now n → (result ≡ Ok n) ⊎ (result ≡ Err NoMemory) }
 {
+    one_reading();
     let Ok(text) = Text::of(alloc, input) else {
         return Err(CountError::NoMemory);
     };

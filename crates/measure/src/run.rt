@@ -1,13 +1,14 @@
 // The top call.
-ghost use Rattle.std.specs.Prelude.{◌≡◌, ◌≤◌, ℕ, length, IfOk, OnOk};
+ghost use Rattle.std.specs.Prelude.{◌≡◌, ◌≤◌, ℕ, length, IfOk, OnOk, IsErrOf};
 ghost use Rattle.wire.specs.Causes.{Rose};
 ghost use Rattle.measure.specs.Tasks.{IsCount};
-ghost use Rattle.measure.specs.Runs.{Ends, code_of, line_of};
+ghost use Rattle.measure.specs.Runs.{Ends, code_of, input_limit, line_of};
+ghost use Rattle.measure.specs.declared.count.CountError.TheVariants as Cause;
 ghost use Rattle.measure.specs.declared.run.Status.{Status};
 
 use crate::count::{CountError, count};
 use crate::task::{Task, task_of};
-use std::alloc::Global;
+use std::alloc::{AllocError, Global};
 use units::{Text, push_number};
 use wire::{ReadError, Sink, Source, read_all, write_all};
 
@@ -79,16 +80,24 @@ pub fn run<S: Source, K: Sink>(
 
 // The line with the number that the task asks for.
 fn line_for(alloc: Global, task: Task, input: &[u8]) -> Result<Vec<u8>, CountError>
-    ensures short { OnOk result (length input.now ≤ 67108864) }
+    ensures short { OnOk result (length input.now ≤ input_limit) }
     ensures line { IfOk result (λ line. (n : ℕ) × IsCount task input.now n × (line.items ≡ line_of n)) }
+    ensures refused { IsErrOf result Cause.Refused → length input.now ≤ input_limit → (n : ℕ) → ¬ (IsCount task input.now n) }
 {
     if input.len() > INPUT_LIMIT {
         return Err(CountError::Refused);
     }
-    let number = count(alloc, task, input)?;
-    let mut line = Vec::new(alloc);
-    if push_number(&mut line, alloc, number).is_err() || line.push(b'\n').is_err() {
-        return Err(CountError::NoMemory);
+    match count(alloc, task, input) {
+        Ok(number) => Ok(number_line(alloc, number)?),
+        Err(error) => Err(error),
     }
+}
+
+fn number_line(alloc: Global, number: u64) -> Result<Vec<u8>, AllocError>
+    ensures { IfOk result (λ line. line.items ≡ line_of number) }
+{
+    let mut line = Vec::new(alloc);
+    push_number(&mut line, alloc, number)?;
+    line.push(b'\n')?;
     Ok(line)
 }
