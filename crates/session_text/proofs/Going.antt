@@ -1,9 +1,9 @@
 -- Up to a fault's line a text goes on to a session, and behind it to none.
-use Rattle.std.proofs.Common.{◌≡◌, ◌≢◌, ℕ, suc, ◌+◌, ◌<◌, ◌≤◌, ◌-◌, List, [], ◌∷◌, ◌++◌, length, sym, ap, ◌∙◌, subst, refl, arith, append_assoc, Bool, true, false, cond, eqb, ltb}
+use Rattle.std.proofs.Common.{◌≡◌, ◌≢◌, ℕ, ◌+◌, ◌≤◌, ◌-◌, List, [], ◌∷◌, ◌++◌, length, sym, ap, ◌∙◌, subst, refl, arith, append_assoc, Bool, true, false, cond, eqb, ltb}
 use Rattle.std.specs.Prelude.{codes, Option, Some, None}
 use Rattle.std.specs.List.{AllByRecursion}
 use Rattle.std.specs.Option.{is_some}
-use mathlib.Core.Logic.{◌⊎◌, inl, inr}
+use mathlib.Core.Logic.{inl, inr}
 use Rattle.std.proofs.lemmas.Bool.{false≢true}
 use Rattle.std.proofs.lemmas.Option.{same_Some}
 use Rattle.units.proofs.Pieces.{chosen}
@@ -16,9 +16,9 @@ use Rattle.session_text.specs.declared.reading.Reading.TheVariants.{Passed, End,
 use Rattle.session_text.specs.declared.place.Place.{Place}
 use Rattle.session_text.specs.Lines.{TextLine, text_line, lines_of, onto, size, content}
 use Rattle.session_text.specs.Readings.{IsReading}
-use Rattle.session_text.specs.Sessions.{Step, On, Stop, step_of, IsStep, Reads, Fails, first_place, behind, moment_after, IsSession, IsFault, session_limit}
-use Rattle.session_text.specs.Going.{GoesOn, HasWholeLines, StopsAt}
-use Rattle.session_text.proofs.Cuts.{Lacks, lines_ended}
+use Rattle.session_text.specs.Sessions.{On, Stop, step_of, IsStep, Reads, Fails, first_place, behind, moment_after, IsSession, IsFault, session_limit}
+use Rattle.session_text.specs.Going.{HasWholeLines, StopsAt}
+use Rattle.session_text.proofs.Cuts.{lines_ended}
 use Rattle.session_text.proofs.Meanings.{on_same, stop_same, on_stop, step_same, reading_same}
 
 -- how many bytes lines take
