@@ -11,39 +11,21 @@ mod task;
 mod tests;
 
 use run::{Status, run};
-use std::env;
-use std::io::ErrorKind;
 use std::process::ExitCode;
-use units::Text;
-use wire::{StreamSink, StreamSource};
+use wire::{StreamSink, StreamSource, WordsError, read_words, tell};
 
 const USAGE: &str = "usage: measure (bodies (chunked | sized) PIECE | tokens) < INPUT";
 
-// The words of the command line behind the program's name; or how the run ends where they can't be had.
-fn read_words(rt: &HostRuntime) -> Result<Vec<Text>, Status> {
-    let line = match env::args(rt) {
-        Ok(line) => line,
-        Err(error) => {
-            return Err(match error.kind() {
-                ErrorKind::OutOfMemory => Status::NoMemory,
-                _ => Status::Words,
-            });
-        }
-    };
-    let mut words = Vec::new(rt.alloc());
-    for word in line.skip(1) {
-        let Ok(text) = Text::of(rt.alloc(), word.as_bytes()) else {
-            return Err(Status::NoMemory);
-        };
-        if words.push(text).is_err() {
-            return Err(Status::NoMemory);
-        }
+// How the run ends where the words can't be had.
+fn status_of(error: WordsError) -> Status {
+    match error {
+        WordsError::Unreadable => Status::Words,
+        WordsError::NoMemory => Status::NoMemory,
     }
-    Ok(words)
 }
 
 // Says on standard error how a run ended that wasn't whole.
-fn tell(rt: &HostRuntime, status: Status) {
+fn tell_end(rt: &HostRuntime, status: Status) {
     let message = match status {
         Status::Done => return,
         Status::Words => USAGE,
@@ -52,7 +34,7 @@ fn tell(rt: &HostRuntime, status: Status) {
         Status::WriteFault => "writing the number failed",
         Status::NoMemory => "out of memory",
     };
-    let _ = eprintln!(rt; "{message}");
+    tell(rt, message);
 }
 
 fn main(rt: HostRuntime) -> ExitCode {
@@ -62,8 +44,8 @@ fn main(rt: HostRuntime) -> ExitCode {
             let mut sink = StreamSink::new(rt.stdout());
             run(rt.alloc(), words.as_slice(), &mut source, &mut sink)
         }
-        Err(status) => status,
+        Err(error) => status_of(error),
     };
-    tell(&rt, status);
+    tell_end(&rt, status);
     ExitCode::from(status.code())
 }
