@@ -50,34 +50,19 @@ fn item_at(alloc: Global, tokens: &[Token]) -> Result<Option<(Item, &[Token])>, 
     };
     match &first.kind {
         TokenKind::Word(word, _) => match item_word(*word) {
-            ItemWord::Import => {
-                let (item, rest) = import(first.place, rest)?;
-                Ok(Some((item, rest)))
-            }
-            ItemWord::Backend => {
-                let (item, rest) = backend(alloc, first.place, rest)?;
-                Ok(Some((item, rest)))
-            }
-            ItemWord::Acl => {
-                let (item, rest) = acl(alloc, first.place, rest)?;
-                Ok(Some((item, rest)))
-            }
-            ItemWord::Probe => {
-                let (item, rest) = probe(alloc, first.place, rest)?;
-                Ok(Some((item, rest)))
-            }
-            ItemWord::Sub => {
-                let (item, rest) = sub(alloc, first.place, rest)?;
-                Ok(Some((item, rest)))
-            }
+            ItemWord::Import => Ok(Some(import(first.place, rest)?)),
+            ItemWord::Backend => Ok(Some(backend(alloc, first.place, rest)?)),
+            ItemWord::Acl => Ok(Some(acl(alloc, first.place, rest)?)),
+            ItemWord::Probe => Ok(Some(probe(alloc, first.place, rest)?)),
+            ItemWord::Sub => Ok(Some(sub(alloc, first.place, rest)?)),
             ItemWord::Nothing => Ok(None),
         },
-        TokenKind::Name(_) => Ok(None),
-        TokenKind::Integer(_) => Ok(None),
-        TokenKind::Decimal(_) => Ok(None),
-        TokenKind::Duration(_) => Ok(None),
-        TokenKind::String(_) => Ok(None),
-        TokenKind::Sign(_) => Ok(None),
+        TokenKind::Name(_)
+        | TokenKind::Integer(_)
+        | TokenKind::Decimal(_)
+        | TokenKind::Duration(_)
+        | TokenKind::String(_)
+        | TokenKind::Sign(_) => Ok(None),
     }
 }
 
@@ -119,12 +104,12 @@ fn behind_none(tokens: &[Token]) -> Option<&[Token]>
     let (first, rest) = split(tokens)?;
     match &first.kind {
         TokenKind::Word(word, _) => { if is_none(*word) { Some(rest) } else { None } }
-        TokenKind::Name(_) => None,
-        TokenKind::Integer(_) => None,
-        TokenKind::Decimal(_) => None,
-        TokenKind::Duration(_) => None,
-        TokenKind::String(_) => None,
-        TokenKind::Sign(_) => None,
+        TokenKind::Name(_)
+        | TokenKind::Integer(_)
+        | TokenKind::Decimal(_)
+        | TokenKind::Duration(_)
+        | TokenKind::String(_)
+        | TokenKind::Sign(_) => None,
     }
 }
 

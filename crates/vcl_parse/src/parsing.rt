@@ -65,12 +65,12 @@ fn head(end: u32, tokens: &[Token]) -> Result<(Version, &[Token]), u32>
                 Err(0)
             }
         }
-        TokenKind::Name(_) => Err(0),
-        TokenKind::Integer(_) => Err(0),
-        TokenKind::Decimal(_) => Err(0),
-        TokenKind::Duration(_) => Err(0),
-        TokenKind::String(_) => Err(0),
-        TokenKind::Sign(_) => Err(0),
+        TokenKind::Name(_)
+        | TokenKind::Integer(_)
+        | TokenKind::Decimal(_)
+        | TokenKind::Duration(_)
+        | TokenKind::String(_)
+        | TokenKind::Sign(_) => Err(0),
     }
 }
 
@@ -93,12 +93,12 @@ fn version_at(end: u32, tokens: &[Token]) -> Result<(Version, &[Token]), u32>
             Some(version) => Ok((version, rest)),
             None => Err(first.place),
         },
-        TokenKind::Name(_) => Err(first.place),
-        TokenKind::Word(_, _) => Err(first.place),
-        TokenKind::Integer(_) => Err(first.place),
-        TokenKind::Duration(_) => Err(first.place),
-        TokenKind::String(_) => Err(first.place),
-        TokenKind::Sign(_) => Err(first.place),
+        TokenKind::Name(_)
+        | TokenKind::Word(_, _)
+        | TokenKind::Integer(_)
+        | TokenKind::Duration(_)
+        | TokenKind::String(_)
+        | TokenKind::Sign(_) => Err(first.place),
     }
 }
 

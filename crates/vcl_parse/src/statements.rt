@@ -59,42 +59,21 @@ fn statement_at(
         return Ok(None);
     };
     match &first.kind {
-        TokenKind::Name(name) => {
-            let (statement, rest) = run(alloc, depth, first.place, name, rest)?;
-            Ok(Some((statement, rest)))
-        }
+        TokenKind::Name(name) => Ok(Some(run(alloc, depth, first.place, name, rest)?)),
         TokenKind::Word(word, _) => match statement_word(*word) {
-            StatementWord::Set => {
-                let (statement, rest) = set(alloc, depth, first.place, rest)?;
-                Ok(Some((statement, rest)))
-            }
-            StatementWord::Unset => {
-                let (statement, rest) = unset(first.place, rest)?;
-                Ok(Some((statement, rest)))
-            }
-            StatementWord::Call => {
-                let (statement, rest) = jump(first.place, rest)?;
-                Ok(Some((statement, rest)))
-            }
-            StatementWord::New => {
-                let (statement, rest) = new(alloc, depth, first.place, rest)?;
-                Ok(Some((statement, rest)))
-            }
-            StatementWord::If => {
-                let (statement, rest) = conditional(alloc, depth, first.place, rest)?;
-                Ok(Some((statement, rest)))
-            }
-            StatementWord::Return => {
-                let (statement, rest) = leave(alloc, depth, first.place, rest)?;
-                Ok(Some((statement, rest)))
-            }
+            StatementWord::Set => Ok(Some(set(alloc, depth, first.place, rest)?)),
+            StatementWord::Unset => Ok(Some(unset(first.place, rest)?)),
+            StatementWord::Call => Ok(Some(jump(first.place, rest)?)),
+            StatementWord::New => Ok(Some(new(alloc, depth, first.place, rest)?)),
+            StatementWord::If => Ok(Some(conditional(alloc, depth, first.place, rest)?)),
+            StatementWord::Return => Ok(Some(leave(alloc, depth, first.place, rest)?)),
             StatementWord::Nothing => Ok(None),
         },
-        TokenKind::Integer(_) => Ok(None),
-        TokenKind::Decimal(_) => Ok(None),
-        TokenKind::Duration(_) => Ok(None),
-        TokenKind::String(_) => Ok(None),
-        TokenKind::Sign(_) => Ok(None),
+        TokenKind::Integer(_)
+        | TokenKind::Decimal(_)
+        | TokenKind::Duration(_)
+        | TokenKind::String(_)
+        | TokenKind::Sign(_) => Ok(None),
     }
 }
 
@@ -161,12 +140,12 @@ fn else_at(tokens: &[Token]) -> (ElseWord, &[Token])
             ElseWord::Else => behind_else(rest),
             ElseWord::Nothing => (ElseWord::Nothing, tokens),
         },
-        TokenKind::Name(_) => (ElseWord::Nothing, tokens),
-        TokenKind::Integer(_) => (ElseWord::Nothing, tokens),
-        TokenKind::Decimal(_) => (ElseWord::Nothing, tokens),
-        TokenKind::Duration(_) => (ElseWord::Nothing, tokens),
-        TokenKind::String(_) => (ElseWord::Nothing, tokens),
-        TokenKind::Sign(_) => (ElseWord::Nothing, tokens),
+        TokenKind::Name(_)
+        | TokenKind::Integer(_)
+        | TokenKind::Decimal(_)
+        | TokenKind::Duration(_)
+        | TokenKind::String(_)
+        | TokenKind::Sign(_) => (ElseWord::Nothing, tokens),
     }
 }
 
@@ -187,12 +166,12 @@ fn behind_else(tokens: &[Token]) -> (ElseWord, &[Token])
                 (ElseWord::Else, tokens)
             }
         }
-        TokenKind::Name(_) => (ElseWord::Else, tokens),
-        TokenKind::Integer(_) => (ElseWord::Else, tokens),
-        TokenKind::Decimal(_) => (ElseWord::Else, tokens),
-        TokenKind::Duration(_) => (ElseWord::Else, tokens),
-        TokenKind::String(_) => (ElseWord::Else, tokens),
-        TokenKind::Sign(_) => (ElseWord::Else, tokens),
+        TokenKind::Name(_)
+        | TokenKind::Integer(_)
+        | TokenKind::Decimal(_)
+        | TokenKind::Duration(_)
+        | TokenKind::String(_)
+        | TokenKind::Sign(_) => (ElseWord::Else, tokens),
     }
 }
 
