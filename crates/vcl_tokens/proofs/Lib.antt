@@ -1,2 +1,5 @@
 pub mod LongestLemmas
+pub mod MarkLemmas
 pub mod ReadingLemmas
+pub mod Spelled
+pub mod StepLemmas

@@ -5,8 +5,10 @@ use Rattle.std.specs.Option.{option_and_then}
 use Rattle.vcl_tokens.specs.declared.spelling.Form.{Form}
 use Rattle.vcl_tokens.specs.declared.spelling.State.{State}
 use Rattle.vcl_tokens.specs.declared.spelling.State.TheVariants as state
-use Rattle.vcl_tokens.specs.Spelling.{form_at, next_state, form_behind, form_of}
+use Rattle.vcl_tokens.specs.Steps.{form_at, next_state, form_behind}
+use Rattle.vcl_tokens.specs.Spelling.{IsNoPiece}
 use Rattle.vcl_tokens.specs.Reading.{IsLongest}
+use Rattle.vcl_tokens.proofs.Spelled.{sound, no_piece}
 use Rattle.vcl_tokens.specs.Longest.{better, best_of, longest_behind}
 
 -- What the longest piece behind a state is, or that there is none.
@@ -51,6 +53,10 @@ scan_on s t i text best whole h e invariant =
 
 -- the same as what `longest_piece` promises
 pub longest_piece_is : (text : List ℕ) (found : Option (ℕ × Form)) → IsLongestBehind state.Start text found →
-    MatchOption found ((m : ℕ) → m ≤ length text → form_of (take m text) ≡ None) (λ piece. IsLongest text (piece.0) (piece.1))
-longest_piece_is text None h = h
-longest_piece_is text (Some piece) h = record { within = h.0; spelled = h.1; longest = h.2 }
+    MatchOption found ((m : ℕ) → m ≤ length text → IsNoPiece (take m text)) (λ piece. IsLongest text (piece.0) (piece.1))
+longest_piece_is text None h = λ m short. no_piece (take m text) (h m short)
+longest_piece_is text (Some piece) h = record {
+  within = h.0;
+  spelled = sound (take piece.0 text) piece.1 h.1;
+  longest = λ m more short. no_piece (take m text) (h.2 m more short);
+}

@@ -8,25 +8,22 @@ use Rattle.vcl_tree.specs.declared.token.Token.{Token}
 use Rattle.vcl_tree.specs.declared.token.TokenKind.{TokenKind}
 use Rattle.vcl_tokens.specs.declared.spelling.Form.{Form}
 use Rattle.vcl_tokens.specs.declared.spelling.Form.TheVariants as form
-use Rattle.vcl_tokens.specs.Spelling.{form_of}
+use Rattle.vcl_tokens.specs.Spelling.{IsNoPiece}
+use Rattle.vcl_tokens.specs.Steps.{form_of}
+use Rattle.vcl_tokens.proofs.Spelled.{complete, one_spelling}
 use Rattle.vcl_tokens.specs.Reading.{IsLongest, Means, is_passed_over, Reads, ended, passed, one_more, Faults, begins_none, is_wrong, behind, IsPiece, with_token}
-
-clash : {A : Type 0} {x : Option A} {y : A} → x ≡ None → x ≡ Some y → ⊥
-clash h k = cc
 
 -- a piece has a byte at least
 pub positive : {text : List ℕ} {n : ℕ} {f : Form} → IsLongest text n f → 0 < n
-positive {text} {n} {f} h = elim n as (λ n. form_of (take n text) ≡ Some f → 0 < n) [ zero ↦ λ e. absurd (clash refl e) | suc k ↦ λ e. omega arith ] (h.spelled)
+positive {text} {n} {f} h = elim n as (λ n. form_of (take n text) ≡ Some f → 0 < n) [ zero ↦ λ e. absurd cc | suc k ↦ λ e. omega arith ] (complete f (take n text) (h.spelled))
 
 one_length : {text : List ℕ} {n m : ℕ} {f g : Form} → IsLongest text n f → IsLongest text m g → n ≡ m
-one_length {text} {n} {m} h k =
-    dite (dec_lt n m) (λ p. absurd (clash (h.longest m p (k.within)) (k.spelled)))
-    (λ p. dite (dec_lt m n) (λ q. absurd (clash (k.longest n q (h.within)) (h.spelled))) (λ q. omega arith))
+one_length {text} {n} {m} {f} {g} h k =
+    dite (dec_lt n m) (λ p. absurd (h.longest m p (k.within) g (k.spelled)))
+    (λ p. dite (dec_lt m n) (λ q. absurd (k.longest n q (h.within) f (h.spelled))) (λ q. omega arith))
 
 one_form : {text : List ℕ} {n m : ℕ} {f g : Form} → IsLongest text n f → IsLongest text m g → n ≡ m → f ≡ g
-one_form {text} {n} {m} {f} {g} h k e =
-    let a : form_of (take m text) ≡ Some f = rw e at h.spelled in
-    let b : form_of (take m text) ≡ Some g = k.spelled in cc
+one_form {text} {n} {m} {f} {g} h k e = one_spelling f g (take m text) (rw e at h.spelled) (k.spelled)
 
 one_token : (f : Form) (bytes : List ℕ) (x y : TokenKind) → Means f bytes x → Means f bytes y → x ≡ y
 one_token form.Blank bytes x y h k = absurd h
@@ -96,21 +93,21 @@ pub faultless : {p q last : ℕ} {text rest : List ℕ} {a : List Token} → Rea
 faultless ended (begins_none none) e d = cc
 faultless ended (is_wrong m o w) e d = empty m (sym d)
 faultless ended (behind m o s) e d = empty m (sym d)
-faultless (passed l o r) (begins_none none) e d = let w = l.within in clash (none _ (rw d at w)) (rw d at l.spelled)
+faultless (passed l o r) (begins_none none) e d = let w = l.within in none _ (rw d at w) _ (rw d at l.spelled)
 faultless (passed l o r) (is_wrong m t w) e d = let i = forms l m d in cc
 faultless (passed l o r) (behind m t s) e d = faultless r s (places l m e d) (rests l m d)
-faultless (one_more l o r) (begins_none none) e d = let w = l.within in clash (none _ (rw d at w)) (rw d at l.spelled)
+faultless (one_more l o r) (begins_none none) e d = let w = l.within in none _ (rw d at w) _ (rw d at l.spelled)
 faultless (one_more l o r) (is_wrong m t w) e d = w _ (moved _ l m d o)
 faultless (one_more l o r) (behind m t s) e d = faultless r s (places l m e d) (rests l m d)
 
 pub one_fault : {p q a b : ℕ} {text rest : List ℕ} → Faults p text a → Faults q rest b → p ≡ q → text ≡ rest → a ≡ b
 one_fault (begins_none none) (begins_none more) e d = e
-one_fault (begins_none none) (is_wrong m o w) e d = let k = m.within in absurd (clash (none _ (rw (← d) at k)) (rw (← d) at m.spelled))
-one_fault (begins_none none) (behind m o s) e d = let k = m.within in absurd (clash (none _ (rw (← d) at k)) (rw (← d) at m.spelled))
-one_fault (is_wrong l o w) (begins_none none) e d = let k = l.within in absurd (clash (none _ (rw d at k)) (rw d at l.spelled))
+one_fault (begins_none none) (is_wrong m o w) e d = let k = m.within in absurd (none _ (rw (← d) at k) _ (rw (← d) at m.spelled))
+one_fault (begins_none none) (behind m o s) e d = let k = m.within in absurd (none _ (rw (← d) at k) _ (rw (← d) at m.spelled))
+one_fault (is_wrong l o w) (begins_none none) e d = let k = l.within in absurd (none _ (rw d at k) _ (rw d at l.spelled))
 one_fault (is_wrong l o w) (is_wrong m t v) e d = e
 one_fault (is_wrong l o w) (behind m t s) e d = absurd (is_none l m o w t d)
-one_fault (behind l t r) (begins_none none) e d = let k = l.within in absurd (clash (none _ (rw d at k)) (rw d at l.spelled))
+one_fault (behind l t r) (begins_none none) e d = let k = l.within in absurd (none _ (rw d at k) _ (rw d at l.spelled))
 one_fault (behind l t r) (is_wrong m o w) e d = absurd (is_none m l o w t (sym d))
 one_fault (behind l t r) (behind m o s) e d = one_fault r s (places l m e d) (rests l m d)
 
@@ -135,7 +132,7 @@ reads_on bytes place text rest n token front longer tokens piece e d kept r =
     rw d (subst P (later.2) (kept (later.0) (later.1)))
 
 -- no piece begins with any byte of a text that has one
-pub none_begins : (place : ℕ) (text : List ℕ) → 0 < length text → ((m : ℕ) → m ≤ length text → form_of (take m text) ≡ None) → Faults place text place
+pub none_begins : (place : ℕ) (text : List ℕ) → 0 < length text → ((m : ℕ) → m ≤ length text → IsNoPiece (take m text)) → Faults place text place
 none_begins place [] h none = absurd (omega arith)
 none_begins place (b ∷ text) h none = begins_none none
 

@@ -3,7 +3,7 @@ use Rattle.std.specs.Prelude.{ℕ, ◌+◌, List, [], ◌∷◌, Option, Some, N
 use Rattle.std.specs.Option.{option_and_then}
 use Rattle.vcl_tokens.specs.declared.spelling.Form.{Form}
 use Rattle.vcl_tokens.specs.declared.spelling.State.{State}
-use Rattle.vcl_tokens.specs.Spelling.{form_at, next_state}
+use Rattle.vcl_tokens.specs.Steps.{form_at, next_state}
 
 abbrev pub better : Option Form → ℕ → Option (ℕ × Form) → Option (ℕ × Form)
 better None n best = best

@@ -1,11 +1,9 @@
 -- The longest-match reading of a VCL text as tokens, and the place of a text's first fault.
-use Rattle.std.specs.Prelude.{ℕ, ◌≡◌, ◌+◌, ◌-◌, ◌*◌, ◌≤◌, ◌<◌, ◌⊎◌, Bool, true, false, List, [], ◌∷◌, ◌++◌, length, take, drop, Option, Some, None, pos, codes, ◌==◌, MatchOption, if◌then◌else◌}
+use Rattle.std.specs.Prelude.{ℕ, ◌≡◌, ◌+◌, ◌-◌, ◌*◌, ◌≤◌, ◌<◌, ◌⊎◌, Bool, true, false, List, [], ◌∷◌, ◌++◌, length, take, drop, Option, Some, None, pos, ◌==◌, MatchOption}
 use Rattle.std.specs.List.{list_any}
-use Rattle.std.specs.Str.{bytes_eq}
 use Rattle.std.specs.Str.Parse.{digits_value, AllDigits}
 use Rattle.units.specs.Durations.{IsDuration}
 use Rattle.vcl_tree.specs.declared.token.Word.{Word}
-use Rattle.vcl_tree.specs.declared.token.Word.TheVariants as word
 use Rattle.vcl_tree.specs.declared.token.Token.{Token}
 use Rattle.vcl_tree.specs.declared.token.TokenKind.{TokenKind}
 use Rattle.vcl_tree.specs.declared.token.TokenKind.TheVariants as kind
@@ -14,40 +12,14 @@ use Rattle.vcl_tree.specs.declared.error.VclError.TheVariants.{Refused, NoMemory
 use Rattle.vcl_tree.specs.declared.error.Refusal.TheVariants as refusal
 use Rattle.vcl_tokens.specs.declared.spelling.Form.{Form}
 use Rattle.vcl_tokens.specs.declared.spelling.Form.TheVariants as form
-use Rattle.vcl_tokens.specs.Spelling.{form_of}
+use Rattle.vcl_tokens.specs.Spelling.{IsSpelled, IsNoPiece}
+use Rattle.vcl_tokens.specs.Words.{word_of}
 
 -- The longest piece that the text begins with has n bytes, and is of this form.
 pub record IsLongest (text : List ℕ) (n : ℕ) (f : Form) : Type 0 where
   pub within : n ≤ length text
-  pub spelled : form_of (take n text) ≡ Some f
-  pub longest : (m : ℕ) → n < m → m ≤ length text → form_of (take m text) ≡ None
-
--- the word of a statement that the bytes are
-abbrev pub statement_word_of : List ℕ → Option Word
-statement_word_of name =
-    if bytes_eq name (codes "set") then Some word.Set else (
-    if bytes_eq name (codes "unset") then Some word.Unset else (
-    if bytes_eq name (codes "call") then Some word.Call else (
-    if bytes_eq name (codes "new") then Some word.New else (
-    if bytes_eq name (codes "if") then Some word.If else (
-    if bytes_eq name (codes "else") then Some word.Else else (
-    if bytes_eq name (codes "elseif") then Some word.ElseIf else (
-    if bytes_eq name (codes "elsif") then Some word.ElseIf else (
-    if bytes_eq name (codes "elif") then Some word.ElseIf else (
-    if bytes_eq name (codes "return") then Some word.Return else None)))))))))
-
--- the word of the language that the bytes are
-abbrev pub word_of : List ℕ → Option Word
-word_of name =
-    if bytes_eq name (codes "vcl") then Some word.Vcl else (
-    if bytes_eq name (codes "import") then Some word.Import else (
-    if bytes_eq name (codes "backend") then Some word.Backend else (
-    if bytes_eq name (codes "acl") then Some word.Acl else (
-    if bytes_eq name (codes "probe") then Some word.Probe else (
-    if bytes_eq name (codes "sub") then Some word.Sub else (
-    if bytes_eq name (codes "none") then Some word.None else (
-    if bytes_eq name (codes "true") then Some word.True else (
-    if bytes_eq name (codes "false") then Some word.False else statement_word_of name))))))))
+  pub spelled : IsSpelled f (take n text)
+  pub longest : (m : ℕ) → n < m → m ≤ length text → IsNoPiece (take m text)
 
 abbrev pub named : Option Word → List ℕ → TokenKind
 named (Some w) name = kind.Word w name
@@ -95,7 +67,7 @@ pub data Reads : ℕ → List ℕ → List Token → Type 0 where
 -- no token, as an unended string or a number out of range.
 pub data Faults : ℕ → List ℕ → ℕ → Type 0 where
   begins_none : {place b : ℕ} {text : List ℕ} →
-      ((m : ℕ) → m ≤ length (b ∷ text) → form_of (take m (b ∷ text)) ≡ None) → Faults place (b ∷ text) place
+      ((m : ℕ) → m ≤ length (b ∷ text) → IsNoPiece (take m (b ∷ text))) → Faults place (b ∷ text) place
   is_wrong : {place n : ℕ} {text : List ℕ} {f : Form} →
       IsLongest text n f → is_passed_over f ≡ false → ((token : TokenKind) → Means f (take n text) token → ⊥) →
       Faults place text place

@@ -1,41 +1,38 @@
--- How the tokens of VCL are spelled (Varnish Reference Manual, VCL, "Strings", "Durations", "Operators",
--- "Comments"): which byte may follow which, by cases on what stands before it.
-use Rattle.std.specs.Prelude.{ℕ, Bool, ◌==◌, ◌||◌, List, [], ◌∷◌, Option, Some, None, if◌then◌else◌}
+-- A reading of a piece byte by byte: which byte may follow which, by cases on what stands before it.
+use Rattle.std.specs.Prelude.{ℕ, ◌==◌, ◌||◌, List, [], ◌∷◌, Option, Some, None, if◌then◌else◌}
+use Rattle.std.specs.Map.{lookup}
 use Rattle.std.specs.Option.{option_and_then}
-use Rattle.std.specs.Char.{is_ascii_digit, is_ascii_alphabetic, is_ascii_alphanumeric}
+use Rattle.std.specs.Char.{is_ascii_digit, is_ascii_alphabetic}
 use Rattle.vcl_tree.specs.declared.token.Sign.{Sign}
 use Rattle.vcl_tree.specs.declared.token.Sign.TheVariants as sign
+use Rattle.vcl_tokens.specs.Spelling.{is_blank, is_name_byte}
 use Rattle.vcl_tokens.specs.declared.spelling.Form.{Form}
 use Rattle.vcl_tokens.specs.declared.spelling.Form.TheVariants as form
 use Rattle.vcl_tokens.specs.declared.spelling.State.{State}
 use Rattle.vcl_tokens.specs.declared.spelling.State.TheVariants as state
 
--- blanks are space, tab, CR and LF
-abbrev pub is_blank : ℕ → Bool
-is_blank b = b == 32 || b == 9 || b == 13 || b == 10
+-- the signs of one byte
+abbrev pub one_byte_signs : List (ℕ × Sign)
+one_byte_signs =
+    (123, sign.OpenBrace)
+    ∷ (125, sign.CloseBrace)
+    ∷ (40, sign.OpenParenthesis)
+    ∷ (41, sign.CloseParenthesis)
+    ∷ (59, sign.Semicolon)
+    ∷ (44, sign.Comma)
+    ∷ (46, sign.Dot)
+    ∷ (47, sign.Slash)
+    ∷ (61, sign.Assign)
+    ∷ (126, sign.Match)
+    ∷ (60, sign.Less)
+    ∷ (62, sign.Greater)
+    ∷ (33, sign.Not)
+    ∷ (43, sign.Plus)
+    ∷ (45, sign.Minus)
+    ∷ []
 
--- a name goes on with letters, digits, `_`, `-` and `.`
-abbrev pub is_name_byte : ℕ → Bool
-is_name_byte b = is_ascii_alphanumeric b || b == 95 || b == 45 || b == 46
-
--- the sign that one byte is
 abbrev pub sign_of : ℕ → Option Sign
-sign_of b =
-    if b == 123 then Some sign.OpenBrace else (
-    if b == 125 then Some sign.CloseBrace else (
-    if b == 40 then Some sign.OpenParenthesis else (
-    if b == 41 then Some sign.CloseParenthesis else (
-    if b == 59 then Some sign.Semicolon else (
-    if b == 44 then Some sign.Comma else (
-    if b == 46 then Some sign.Dot else (
-    if b == 47 then Some sign.Slash else (
-    if b == 61 then Some sign.Assign else (
-    if b == 126 then Some sign.Match else (
-    if b == 60 then Some sign.Less else (
-    if b == 62 then Some sign.Greater else (
-    if b == 33 then Some sign.Not else (
-    if b == 43 then Some sign.Plus else (
-    if b == 45 then Some sign.Minus else None))))))))))))))
+sign_of b = lookup (λ c. b == c) one_byte_signs
 
 -- what a first byte begins
 abbrev pub first_state : ℕ → Option State

@@ -1,6 +1,6 @@
 // The longest piece at the front of a text.
-ghost use Rattle.std.specs.Prelude.{◌≡◌, ◌≤◌, ℕ, length, take, None, MatchOption};
-ghost use Rattle.vcl_tokens.specs.Spelling.{form_of};
+ghost use Rattle.std.specs.Prelude.{◌≡◌, ◌≤◌, ℕ, length, take, MatchOption};
+ghost use Rattle.vcl_tokens.specs.Spelling.{IsNoPiece};
 ghost use Rattle.vcl_tokens.specs.Reading.{IsLongest};
 ghost use Rattle.vcl_tokens.specs.Longest.{longest_behind, better};
 ghost use Rattle.vcl_tokens.specs.declared.spelling.State.TheVariants as state;
@@ -10,7 +10,7 @@ use crate::spelling::{Form, State, ends_as, next};
 /// The longest piece that the text begins with, and its length in bytes; None where no piece begins there.
 pub fn longest_piece(text: &[u8]) -> Option<(usize, Form)>
     ensures { MatchOption result
-        ((m : ℕ) → m ≤ length text.now → form_of (take m text.now) ≡ None)
+        ((m : ℕ) → m ≤ length text.now → IsNoPiece (take m text.now))
         (λ piece. IsLongest text.now piece.0 piece.1) }
 {
     scan(text)

@@ -1,7 +1,8 @@
 // How the tokens of VCL are spelled: which byte may follow which, and what a piece of text is.
 ghost use Rattle.std.specs.Prelude.{◌≡◌, ◌==◌, if◌then◌else◌};
 ghost use Rattle.std.specs.Char.{is_ascii_digit};
-ghost use Rattle.vcl_tokens.specs.Spelling.{next_state, first_state, behind_sign, unit_state, line_state, form_at, is_name_byte, sign_of};
+ghost use Rattle.vcl_tokens.specs.Spelling.{is_name_byte};
+ghost use Rattle.vcl_tokens.specs.Steps.{next_state, first_state, behind_sign, unit_state, line_state, form_at, sign_of};
 
 use vcl_tree::Sign;
 

@@ -1,7 +1,8 @@
 // What token a piece is.
 ghost use Rattle.std.specs.Prelude.{◌≡◌, ◌<◌, IfOk, MatchOption};
 ghost use Rattle.vcl_tree.specs.declared.token.TokenKind.{TokenKind};
-ghost use Rattle.vcl_tokens.specs.Reading.{Means, IsString, named, word_of, between};
+ghost use Rattle.vcl_tokens.specs.Reading.{Means, IsString, named, between};
+ghost use Rattle.vcl_tokens.specs.Words.{word_of};
 
 use crate::spelling::Form;
 use crate::words::word;

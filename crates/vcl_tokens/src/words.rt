@@ -1,7 +1,8 @@
 // The words of the language.
 ghost use Rattle.std.specs.Prelude.{◌≡◌};
+ghost use Rattle.std.specs.Map.{lookup};
 ghost use Rattle.std.specs.Str.{bytes_eq};
-ghost use Rattle.vcl_tokens.specs.Reading.{word_of, statement_word_of};
+ghost use Rattle.vcl_tokens.specs.Words.{word_of, statement_words};
 
 use vcl_tree::Word;
 
@@ -41,7 +42,7 @@ pub fn word(name: &[u8]) -> Option<Word>
 
 // The word of a statement that a name is.
 fn statement_word(name: &[u8]) -> Option<Word>
-    ensures { result ≡ statement_word_of name.now }
+    ensures { result ≡ lookup (bytes_eq name.now) statement_words }
 {
     if is(name, b"set") {
         return Some(Word::Set);

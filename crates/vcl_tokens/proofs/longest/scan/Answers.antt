@@ -1,6 +1,6 @@
 use Rattle.std.proofs.Common.{◌≡◌, sym, ◌∙◌, get_or}
 use Rattle.std.specs.Prelude.{Some}
-use Rattle.vcl_tokens.specs.Spelling.{next_state}
+use Rattle.vcl_tokens.specs.Steps.{next_state}
 use Rattle.vcl_tokens.proofs.LongestLemmas.{scan_on}
 use Rattle.vcl_tokens.proofs.longest.scan.Goals as goal
 
