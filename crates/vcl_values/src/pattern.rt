@@ -106,7 +106,7 @@ impl Pattern {
         if bytes.len() > MOST_TEXT {
             return Err(ValueError::TooLong);
         }
-        Ok(Text::of(alloc, bytes.as_slice())?)
+        Ok(Text::from_vec(bytes)?)
     }
 }
 

@@ -122,5 +122,5 @@ fn text_of_two(alloc: Global, front: &[u8], back: &[u8]) -> Result<Text, AllocEr
     let mut bytes = Vec::new(alloc);
     bytes.extend_from_slice(front)?;
     bytes.extend_from_slice(back)?;
-    Text::of(alloc, bytes.as_slice())
+    Text::from_vec(bytes)
 }

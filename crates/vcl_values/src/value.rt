@@ -127,7 +127,7 @@ fn int_as_text(alloc: Global, number: i64) -> Result<Text, AllocError>
     ensures { IfOk result (λ t. t ≡ signed_decimal number) }
 {
     let text = format!(in alloc; "{number}")?;
-    Text::of(alloc, text.as_bytes())
+    Text::from_vec(text.into_bytes())
 }
 
 // A time in milliseconds as seconds with three decimals.
@@ -141,7 +141,7 @@ fn duration_as_text(alloc: Global, milliseconds: i64) -> Result<Text, AllocError
     let hundredths = time / 10 % 10;
     let thousandths = time % 10;
     let text = format!(in alloc; "{sign}{seconds}.{tenths}{hundredths}{thousandths}")?;
-    Text::of(alloc, text.as_bytes())
+    Text::from_vec(text.into_bytes())
 }
 
 // A minus before what is below 0.
@@ -160,5 +160,5 @@ fn address_as_text(alloc: Global, address: [u8; 4]) -> Result<Text, AllocError>
     let third = address[2];
     let fourth = address[3];
     let text = format!(in alloc; "{first}.{second}.{third}.{fourth}")?;
-    Text::of(alloc, text.as_bytes())
+    Text::from_vec(text.into_bytes())
 }
