@@ -1,9 +1,10 @@
 -- What is reserved serves the closing of what is open.
-use Rattle.std.proofs.Common.{◌≡◌, ℕ, Bool, true, false, not, cond, List, [], ◌∷◌, ◌+◌, ◌≤◌, inl, inr, ◌||◌, ◌&&◌, ◌==◌, length, filter, refl, arith, sym, ap}
+use Rattle.std.proofs.Common.{◌≡◌, ◌≢◌, ◌⊎◌, ℕ, Bool, true, false, not, cond, List, [], ◌∷◌, ◌+◌, ◌*◌, ◌≤◌, inl, inr, ◌||◌, ◌&&◌, ◌==◌, length, filter, Option, Some, None, nat_lt, refl, arith, sym, ap, subst, ◌∙◌}
 use Rattle.std.specs.List.{list_any}
 use Rattle.std.proofs.lemmas.Bool.{cases_Bool, cond-false, true≢false, false≢true, and_parts}
-use Rattle.cache_law.specs.declared.setting.Params.{Params}
-use Rattle.cache_law.specs.declared.setting.Boot.{Boot}
+use Rattle.cache_law.specs.declared.object.Object.{Object}
+use Rattle.cache_law.specs.declared.object.ObjectView.{ObjectView}
+use Rattle.cache_law.specs.declared.call.Query.{Query}
 use Rattle.cache_law.specs.declared.call.Call.{Call}
 use Rattle.cache_law.specs.declared.call.Call.TheVariants.{Begin, Lookup, Pick, Insert, End}
 use Rattle.cache_law.specs.declared.call.Reply.{Reply}
@@ -11,8 +12,11 @@ use Rattle.cache_law.specs.declared.call.Reply.TheVariants.{Began, NoRound, Hit,
 use Rattle.cache_law.specs.declared.call.Entry.{Entry}
 use Rattle.cache_law.specs.declared.state.OpenRound.{OpenRound}
 use Rattle.cache_law.specs.declared.state.OpenFetch.{OpenFetch}
-use Rattle.cache_law.specs.State.{State, opening, reserve, has_round, has_fetch, without_fetch, without_round_of}
-use Rattle.cache_law.specs.Law.{reply_to, after, allowed, closes_fetch}
+use Rattle.cache_law.specs.State.{State, at_moment, reserve, has_round, has_fetch, without_fetch, without_round_of}
+use Rattle.cache_law.specs.Object.{in_time}
+use Rattle.cache_law.specs.Beginning.{Beginning}
+use Rattle.cache_law.specs.Lookup.{scanned}
+use Rattle.cache_law.specs.Law.{Step, step_of, answered, begun, leaving, found, placed, inserted, closing, stored, ended, after, behind, refused, MayAnswer}
 use Rattle.cache_law.specs.History.{bytes_of, bytes_of_all, next_state, reached_from, reached, LegalFrom, Legal}
 use Rattle.cache_law.specs.Core.{FitsBehind}
 use Rattle.cache_law.proofs.Histories.{bytes_of_all-cons}
@@ -55,70 +59,110 @@ pub length-without_fetch : (fetches : List OpenFetch) (caller token : ℕ) → h
 length-without_fetch fetches caller token any =
     length-filter_not (λ (fetch : OpenFetch). (fetch.token == token) && (fetch.caller == caller)) (λ (fetch : OpenFetch). not (fetch.token == token)) (λ fetch e. not_of _ (and_parts _ _ e).0) fetches any
 
--- A refused insertion closes what the law's answer closes.
-closes_alike : (state : State) (caller moment : ℕ) (call : Call) (law : Reply) → closes_fetch law ≡ true → reserve (after state caller moment call Refused) ≡ reserve (after state caller moment call law)
-closes_alike state caller moment call (Began number vcl text) closes = absurd (false≢true closes)
-closes_alike state caller moment call NoRound closes = absurd (false≢true closes)
-closes_alike state caller moment call (Hit view) closes = absurd (false≢true closes)
-closes_alike state caller moment call (Miss token) closes = absurd (false≢true closes)
-closes_alike state caller moment call (Picked name) closes = absurd (false≢true closes)
-closes_alike state caller moment call NotOpen closes = absurd (false≢true closes)
-closes_alike state caller moment call Refused closes = absurd (false≢true closes)
-closes_alike state caller moment call Ended closes = absurd (false≢true closes)
-closes_alike state caller moment Begin (Stored number) closes = refl
-closes_alike state caller moment (Lookup key request) (Stored number) closes = refl
-closes_alike state caller moment (Pick vcl target word) (Stored number) closes = refl
-closes_alike state caller moment (Insert token object) (Stored number) closes = refl
-closes_alike state caller moment End (Stored number) closes = refl
-closes_alike state caller moment Begin NotInTime closes = refl
-closes_alike state caller moment (Lookup key request) NotInTime closes = refl
-closes_alike state caller moment (Pick vcl target word) NotInTime closes = refl
-closes_alike state caller moment (Insert token object) NotInTime closes = refl
-closes_alike state caller moment End NotInTime closes = refl
-closes_alike state caller moment Begin NoRoom closes = refl
-closes_alike state caller moment (Lookup key request) NoRoom closes = refl
-closes_alike state caller moment (Pick vcl target word) NoRoom closes = refl
-closes_alike state caller moment (Insert token object) NoRoom closes = refl
-closes_alike state caller moment End NoRoom closes = refl
+-- the law never answers that memory was wanting
+abbrev pub is_refusal : Reply → Bool
+is_refusal Refused = true
+is_refusal reply = false
 
--- what is reserved behind a refused insertion is what is reserved behind the law's answer
-refused_alike : (state : State) (caller moment : ℕ) (call : Call) (law : Reply) (closes : Bool) → closes ≡ closes_fetch law → Refused ≡ cond closes Refused law → reserve (after state caller moment call Refused) ≡ reserve (after state caller moment call law)
-refused_alike state caller moment call law true same answer = closes_alike state caller moment call law (sym same)
-refused_alike state caller moment call law false same answer = ap (λ (r : Reply). reserve (after state caller moment call r)) answer
+begun_lawful : (state : State) (caller : ℕ) (open_ : Bool) (drawn : Step) → is_refusal drawn.reply ≡ false → is_refusal (cond open_ (leaving state NoRound) drawn).reply ≡ false
+begun_lawful state caller true drawn h = refl
+begun_lawful state caller false drawn h = h
 
--- what is reserved after an allowed answer is what is reserved after the law's
-pub reserve-allowed : (state : State) (caller moment : ℕ) (call : Call) (answer law : Reply) → answer ≡ allowed answer law → reserve (after state caller moment call answer) ≡ reserve (after state caller moment call law)
-reserve-allowed state caller moment call Refused law e = refused_alike state caller moment call law (closes_fetch law) refl e
-reserve-allowed state caller moment call (Began number vcl text) law e = ap (λ (r : Reply). reserve (after state caller moment call r)) e
-reserve-allowed state caller moment call NoRound law e = ap (λ (r : Reply). reserve (after state caller moment call r)) e
-reserve-allowed state caller moment call (Hit view) law e = ap (λ (r : Reply). reserve (after state caller moment call r)) e
-reserve-allowed state caller moment call (Miss token) law e = ap (λ (r : Reply). reserve (after state caller moment call r)) e
-reserve-allowed state caller moment call (Picked name) law e = ap (λ (r : Reply). reserve (after state caller moment call r)) e
-reserve-allowed state caller moment call (Stored number) law e = ap (λ (r : Reply). reserve (after state caller moment call r)) e
-reserve-allowed state caller moment call NotOpen law e = ap (λ (r : Reply). reserve (after state caller moment call r)) e
-reserve-allowed state caller moment call NotInTime law e = ap (λ (r : Reply). reserve (after state caller moment call r)) e
-reserve-allowed state caller moment call NoRoom law e = ap (λ (r : Reply). reserve (after state caller moment call r)) e
-reserve-allowed state caller moment call Ended law e = ap (λ (r : Reply). reserve (after state caller moment call r)) e
+found_lawful : (state : State) (caller : ℕ) (key : List (List ℕ)) (fresh : Option ObjectView) → is_refusal (found state caller key fresh).reply ≡ false
+found_lawful state caller key None = refl
+found_lawful state caller key (Some view) = refl
+
+looked_lawful : (state : State) (open_ : Bool) (step : Step) → is_refusal step.reply ≡ false → is_refusal (cond open_ step (leaving state NoRound)).reply ≡ false
+looked_lawful state true step h = h
+looked_lawful state false step h = refl
+
+inserted_lawful : (state : State) (token : ℕ) (object : Object) (open_ lives full : Bool) → is_refusal (cond open_ (cond lives (cond full (closing token state NoRoom) (stored state token object)) (closing token state NotInTime)) (leaving state NotOpen)).reply ≡ false
+inserted_lawful state token object false lives full = refl
+inserted_lawful state token object true false full = refl
+inserted_lawful state token object true true false = refl
+inserted_lawful state token object true true true = refl
+
+pub answers_lawfully : (room : ℕ) (state : State) (caller : ℕ) (call : Call) → is_refusal (answered room state caller call).reply ≡ false
+answers_lawfully room state caller Begin = begun_lawful state caller (has_round state.rounds caller) _ refl
+answers_lawfully room state caller (Lookup query) =
+    looked_lawful state (has_round state.rounds caller) _ (found_lawful (record state { objects = (scanned state.moment query state.objects).objects }) caller query.key (scanned state.moment query state.objects).fresh)
+answers_lawfully room state caller (Pick vcl target word) = refl
+answers_lawfully room state caller (Insert token object) =
+    inserted_lawful state token object (has_fetch state.fetches caller token) (in_time state.moment object) _
+answers_lawfully room state caller End = looked_lawful state (has_round state.rounds caller) _ refl
+
+behind_lawful : (reply : Reply) (refusal law : State) → is_refusal reply ≡ false → behind reply refusal law ≡ law
+behind_lawful (Began number vcl text) refusal law h = refl
+behind_lawful NoRound refusal law h = refl
+behind_lawful (Hit view) refusal law h = refl
+behind_lawful (Miss token) refusal law h = refl
+behind_lawful (Picked name) refusal law h = refl
+behind_lawful (Stored number) refusal law h = refl
+behind_lawful NotOpen refusal law h = refl
+behind_lawful NotInTime refusal law h = refl
+behind_lawful NoRoom refusal law h = refl
+behind_lawful Refused refusal law h = absurd (true≢false h)
+behind_lawful Ended refusal law h = refl
+
+-- behind the law's reply is the law's state
+pub after-lawful : (beginning : Beginning) (state : State) (caller moment : ℕ) (call : Call) (answer : Reply) → answer ≡ (step_of beginning state caller moment call).reply → after beginning state caller moment call answer ≡ (step_of beginning state caller moment call).state
+after-lawful beginning state caller moment call answer e =
+    behind_lawful answer _ _ (ap is_refusal e ∙ answers_lawfully beginning.params.room (at_moment moment state) caller call)
+
+-- the insertion of a fetch that isn't open is answered so
+pub not_open : (room : ℕ) (state : State) (caller token : ℕ) (object : Object) (opened : Bool) (step : Step) → (cond opened step (leaving state NotOpen)).reply ≢ NotOpen → opened ≡ true
+not_open room state caller token object true step other = refl
+not_open room state caller token object false step other = absurd (other refl)
+
+-- whatever the law answers to it, an insertion of an open fetch closes it
+pub reserve-inserted : (room : ℕ) (state : State) (caller token : ℕ) (object : Object) (opened lives full : Bool) → reserve (cond opened (cond lives (cond full (closing token state NoRoom) (stored state token object)) (closing token state NotInTime)) (leaving state NotOpen)).state ≡ 64 * (length state.rounds + cond opened (length (without_fetch token state.fetches)) (length state.fetches))
+reserve-inserted room state caller token object false lives full = refl
+reserve-inserted room state caller token object true false full = refl
+reserve-inserted room state caller token object true true false = refl
+reserve-inserted room state caller token object true true true = refl
+
+refused_by_cases : (state : State) (token : ℕ) (opened : Bool) (kept : ℕ) → opened ≡ true → kept ≡ 64 * (length state.rounds + cond opened (length (without_fetch token state.fetches)) (length state.fetches)) → 64 * (length state.rounds + length (without_fetch token state.fetches)) ≤ kept
+refused_by_cases state token true kept e same = omega (arith, same)
+refused_by_cases state token false kept e same = absurd (false≢true e)
+
+-- what is reserved after an answer is at most what is reserved after the law's
+pub reserve-after : (beginning : Beginning) (state : State) (caller moment : ℕ) (call : Call) (answer : Reply) → MayAnswer (at_moment moment state) call (step_of beginning state caller moment call).reply answer → reserve (after beginning state caller moment call answer) ≤ reserve (step_of beginning state caller moment call).state
+reserve-after beginning state caller moment Begin answer may =
+    omega (arith, ap reserve (after-lawful beginning state caller moment Begin answer may))
+reserve-after beginning state caller moment (Lookup query) answer may =
+    omega (arith, ap reserve (after-lawful beginning state caller moment (Lookup query) answer may))
+reserve-after beginning state caller moment (Pick vcl target word) answer may =
+    omega (arith, ap reserve (after-lawful beginning state caller moment (Pick vcl target word) answer may))
+reserve-after beginning state caller moment (Insert token object) answer (inl lawful) =
+    omega (arith, ap reserve (after-lawful beginning state caller moment (Insert token object) answer lawful))
+reserve-after beginning state caller moment (Insert token object) answer (inr free) =
+    let opened = not_open beginning.params.room (at_moment moment state) caller token object (has_fetch state.fetches caller token) _ free.1 in
+    let least = refused_by_cases (at_moment moment state) token (has_fetch state.fetches caller token) _ opened
+      (reserve-inserted beginning.params.room (at_moment moment state) caller token object (has_fetch state.fetches caller token) _ _) in
+    subst (λ (r : Reply). reserve (after beginning state caller moment (Insert token object) r) ≤ reserve (step_of beginning state caller moment (Insert token object)).state) (sym free.0) least
+reserve-after beginning state caller moment End answer may =
+    omega (arith, ap reserve (after-lawful beginning state caller moment End answer may))
 
 -- a legal history leaves room for the closing of what is open
-pub within_from : (params : Params) (boot : Boot) (state : State) (used : ℕ) (entries : List Entry) → LegalFrom params boot state used entries → used + reserve state ≤ params.history → used + bytes_of_all entries + reserve (reached_from state entries) ≤ params.history
-within_from params boot state used [] legal room = omega arith
-within_from params boot state used (e ∷ es) legal room =
-    let same = reserve-allowed state e.caller e.moment e.call e.reply (reply_to params boot state e.caller e.moment e.call) legal.0.answer in
-    let here : used + bytes_of e.call + reserve (next_state state e) ≤ params.history = omega (arith, legal.1.within, same) in
-    let rest = within_from params boot (next_state state e) (used + bytes_of e.call) es legal.2 here in
+pub within_from : (beginning : Beginning) (state : State) (used : ℕ) (entries : List Entry) → LegalFrom beginning state used entries → used + reserve state ≤ beginning.params.history → used + bytes_of_all entries + reserve (reached_from beginning state entries) ≤ beginning.params.history
+within_from beginning state used [] legal room = omega arith
+within_from beginning state used (e ∷ es) legal room =
+    let least = reserve-after beginning state e.caller e.moment e.call e.reply legal.0.answer in
+    let here : used + bytes_of e.call + reserve (next_state beginning state e) ≤ beginning.params.history = omega (arith, legal.1.within, least) in
+    let rest = within_from beginning (next_state beginning state e) (used + bytes_of e.call) es legal.2 here in
     omega (arith, rest, bytes_of_all-cons e es)
 
-pub within : (params : Params) (boot : Boot) (entries : List Entry) → Legal params boot entries → bytes_of_all entries + reserve (reached entries) ≤ params.history
-within params boot entries legal = let h = within_from params boot opening 0 entries legal (omega arith) in omega (arith, h)
+pub within : (beginning : Beginning) (entries : List Entry) → Legal beginning entries → bytes_of_all entries + reserve (reached beginning entries) ≤ beginning.params.history
+within beginning entries legal =
+    let h = within_from beginning beginning.base 0 entries legal.each (omega (arith, legal.opens)) in omega (arith, h)
 
 -- the end of an open round takes what is reserved for it
-ending_takes : (state : State) (caller moment : ℕ) (open_ : Bool) → open_ ≡ has_round state.rounds caller → open_ ≡ true → reserve (after state caller moment End (cond open_ Ended NoRound)) + 64 ≤ reserve state
-ending_takes state caller moment true same yes_ =
+pub ending_takes : (state : State) (caller : ℕ) (open_ : Bool) → open_ ≡ has_round state.rounds caller → open_ ≡ true → reserve (cond open_ (record { reply = Ended; state = record state { rounds = without_round_of caller state.rounds; fetches = filter (λ (fetch : OpenFetch). not (fetch.caller == caller)) state.fetches } }) (leaving state NoRound)).state + 64 ≤ reserve state
+ending_takes state caller true same yes_ =
     omega (arith, length-without_round_of state.rounds caller (sym same), length-filter-le (λ (fetch : OpenFetch). not (fetch.caller == caller)) state.fetches)
-ending_takes state caller moment false same yes_ = absurd (false≢true yes_)
+ending_takes state caller false same yes_ = absurd (false≢true yes_)
 
 -- in a legal history the end of an open round fits
-pub ending_fits : (params : Params) (boot : Boot) (entries : List Entry) (caller moment : ℕ) → Legal params boot entries → has_round (reached entries).rounds caller ≡ true → FitsBehind params boot entries caller moment End
-ending_fits params boot entries caller moment legal opened =
-    record { within = omega (arith, within params boot entries legal, ending_takes (reached entries) caller moment _ refl opened) }
+pub ending_fits : (beginning : Beginning) (entries : List Entry) (caller moment : ℕ) → Legal beginning entries → has_round (reached beginning entries).rounds caller ≡ true → FitsBehind beginning entries caller moment End
+ending_fits beginning entries caller moment legal opened =
+    record { within = omega (arith, within beginning entries legal, ending_takes (at_moment moment (reached beginning entries)) caller _ refl opened) }

@@ -1,33 +1,32 @@
 -- What one call does to the history of a cache.
 use Rattle.std.specs.Prelude.{◌≡◌, ℕ, Bool, false, List, [], ◌∷◌, ◌++◌, max, length}
-use Rattle.cache_law.specs.declared.setting.Params.{Params}
-use Rattle.cache_law.specs.declared.setting.Boot.{Boot}
 use Rattle.cache_law.specs.declared.call.Call.{Call}
 use Rattle.cache_law.specs.declared.call.Call.TheVariants.{Insert, End}
 use Rattle.cache_law.specs.declared.call.Entry.{Entry}
 use Rattle.cache_law.specs.declared.cache.Told.{Told}
 use Rattle.cache_law.specs.State.{State, has_round, has_fetch}
+use Rattle.cache_law.specs.Beginning.{Beginning}
 use Rattle.cache_law.specs.History.{Fits, Follows, reached, bytes_of_all}
 
--- the moment of an entry: the reading, or that of the entry before it where that is greater
-abbrev pub moment_of : List Entry → ℕ → ℕ
-moment_of entries reading = max (reached entries).moment reading
+-- a call's moment: the reading of the clock, or the moment of the newest entry where that is greater
+abbrev pub moment_of : Beginning → List Entry → ℕ → ℕ
+moment_of beginning entries reading = max (reached beginning entries).moment reading
 
 -- the call fits behind these entries
-abbrev pub FitsBehind : Params → Boot → List Entry → ℕ → ℕ → Call → Type 0
-FitsBehind params boot entries caller moment call =
-    Fits params boot (reached entries) (bytes_of_all entries) caller moment call
+abbrev pub FitsBehind : Beginning → List Entry → ℕ → ℕ → Call → Type 0
+FitsBehind beginning entries caller moment call =
+    Fits beginning (reached beginning entries) (bytes_of_all entries) caller moment call
 
 abbrev pub entry_of : ℕ → Call → Told → Entry
 entry_of caller call told = record { caller = caller; moment = told.moment; call = call; reply = told.reply }
 
 -- one entry of this call joined the history, and this was told of it
-pub record Entered (params : Params) (boot : Boot) (old new : List Entry) (caller reading : ℕ) (call : Call) (told : Told) : Type 0 where
+pub record Entered (beginning : Beginning) (old new : List Entry) (caller reading : ℕ) (call : Call) (told : Told) : Type 0 where
   pub joined : new ≡ old ++ entry_of caller call told ∷ []
-  pub moment : told.moment ≡ moment_of old reading
+  pub moment : told.moment ≡ moment_of beginning old reading
   pub place : told.place ≡ length old
-  pub follows : Follows params boot (reached old) (entry_of caller call told)
-  pub fits : FitsBehind params boot old caller told.moment call
+  pub follows : Follows beginning (reached beginning old) (entry_of caller call told)
+  pub fits : FitsBehind beginning old caller told.moment call
 
 -- the calls for which memory is kept: the end of an open round, and the insertion of an open fetch
 abbrev pub is_kept : State → ℕ → Call → Bool

@@ -1,18 +1,17 @@
 -- Histories: what an entry takes, which entry may follow, and what a whole history owes.
 use Rattle.std.specs.Prelude.{◌≡◌, ℕ, List, [], ◌∷◌, ◌+◌, ◌≤◌, length, sum_by}
-use Rattle.cache_law.specs.declared.setting.Params.{Params}
-use Rattle.cache_law.specs.declared.setting.Boot.{Boot}
 use Rattle.cache_law.specs.declared.call.Call.{Call}
 use Rattle.cache_law.specs.declared.call.Call.TheVariants.{Begin, Lookup, Pick, Insert, End}
 use Rattle.cache_law.specs.declared.call.Entry.{Entry}
 use Rattle.cache_law.specs.Object.{texts_len, fields_len}
-use Rattle.cache_law.specs.State.{State, opening, reserve}
-use Rattle.cache_law.specs.Law.{reply_to, after, allowed}
+use Rattle.cache_law.specs.State.{State, at_moment, reserve}
+use Rattle.cache_law.specs.Beginning.{Beginning}
+use Rattle.cache_law.specs.Law.{step_of, after, MayAnswer}
 
 -- the texts of a call
 abbrev pub call_len : Call → ℕ
 call_len Begin = 0
-call_len (Lookup key request) = texts_len key + length request.url + fields_len request.fields
+call_len (Lookup query) = texts_len query.key + length query.request.url + fields_len query.request.fields
 call_len (Pick vcl target word) = length target
 call_len (Insert token object) =
     texts_len object.key + length object.reason + fields_len object.fields + length object.body
@@ -26,33 +25,36 @@ abbrev pub bytes_of_all : List Entry → ℕ
 bytes_of_all entries = sum_by (λ entry. bytes_of entry.call) entries
 
 -- The call fits a history of this many bytes that reached the state: with its entry, and with what is
--- reserved for the closing of what is open after it, the limit isn't passed.
-pub record Fits (params : Params) (boot : Boot) (state : State) (used caller moment : ℕ) (call : Call) : Type 0 where
-  pub within : used + bytes_of call + reserve (after state caller moment call (reply_to params boot state caller moment call)) ≤ params.history
+-- reserved for the closing of what is open behind the law's reply, the limit isn't passed.
+pub record Fits (beginning : Beginning) (state : State) (used caller moment : ℕ) (call : Call) : Type 0 where
+  pub within : used + bytes_of call + reserve (step_of beginning state caller moment call).state ≤ beginning.params.history
 
--- the entry may come next: no moment goes back, and the answer is the law's or a refused insertion
-pub record Follows (params : Params) (boot : Boot) (state : State) (entry : Entry) : Type 0 where
+-- the entry may come next: no moment goes back, and the call may be answered so
+pub record Follows (beginning : Beginning) (state : State) (entry : Entry) : Type 0 where
   pub no_earlier : state.moment ≤ entry.moment
-  pub answer : entry.reply ≡ allowed entry.reply (reply_to params boot state entry.caller entry.moment entry.call)
+  pub answer : MayAnswer (at_moment entry.moment state) entry.call (step_of beginning state entry.caller entry.moment entry.call).reply entry.reply
 
-abbrev pub next_state : State → Entry → State
-next_state state entry = after state entry.caller entry.moment entry.call entry.reply
+abbrev pub next_state : Beginning → State → Entry → State
+next_state beginning state entry = after beginning state entry.caller entry.moment entry.call entry.reply
 
--- the state that entries reach
-abbrev pub reached_from : State → List Entry → State
-reached_from state [] = state
-reached_from state (entry ∷ entries) = reached_from (next_state state entry) entries
+-- the state that entries reach from a state
+abbrev pub reached_from : Beginning → State → List Entry → State
+reached_from beginning state [] = state
+reached_from beginning state (entry ∷ entries) = reached_from beginning (next_state beginning state entry) entries
 
-abbrev pub reached : List Entry → State
-reached entries = reached_from opening entries
+-- the state that entries reach from the beginning
+abbrev pub reached : Beginning → List Entry → State
+reached beginning entries = reached_from beginning beginning.base entries
 
 -- each entry follows those before it and fits
-abbrev pub LegalFrom : Params → Boot → State → ℕ → List Entry → Type 0
-LegalFrom params boot state used [] = Unit {0}
-LegalFrom params boot state used (entry ∷ entries) =
-    Follows params boot state entry
-    × Fits params boot state used entry.caller entry.moment entry.call
-    × LegalFrom params boot (next_state state entry) (used + bytes_of entry.call) entries
+abbrev pub LegalFrom : Beginning → State → ℕ → List Entry → Type 0
+LegalFrom beginning state used [] = Unit {0}
+LegalFrom beginning state used (entry ∷ entries) =
+    Follows beginning state entry
+    × Fits beginning state used entry.caller entry.moment entry.call
+    × LegalFrom beginning (next_state beginning state entry) (used + bytes_of entry.call) entries
 
-abbrev pub Legal : Params → Boot → List Entry → Type 0
-Legal params boot entries = LegalFrom params boot opening 0 entries
+-- what is open at the beginning is within the limit, and so is each entry, which follows those before it
+pub record Legal (beginning : Beginning) (entries : List Entry) : Type 0 where
+  pub opens : reserve beginning.base ≤ beginning.params.history
+  pub each : LegalFrom beginning beginning.base 0 entries

@@ -1,101 +1,125 @@
--- What each call answers, and the state that it leaves.
-use Rattle.std.specs.Prelude.{ℕ, Bool, true, false, List, ◌∷◌, ◌+◌, ◌-◌, ◌^◌, ◌&&◌, Option, Some, None, min, nat_lt, sum_by, find, slice_set, if◌then◌else◌}
-use Rattle.std.specs.List.{position_or_len}
-use Rattle.cache_law.specs.declared.setting.Params.{Params}
-use Rattle.cache_law.specs.declared.setting.Boot.{Boot}
+-- What each call answers together with the state that it leaves, and what may be answered in its place.
+use Rattle.std.specs.Prelude.{◌≡◌, ◌≢◌, ◌⊎◌, ℕ, List, ◌∷◌, ◌+◌, Option, Some, None, nat_lt, if◌then◌else◌}
 use Rattle.cache_law.specs.declared.object.Object.{Object}
 use Rattle.cache_law.specs.declared.object.ObjectView.{ObjectView}
+use Rattle.cache_law.specs.declared.call.Query.{Query}
 use Rattle.cache_law.specs.declared.call.Call.{Call}
 use Rattle.cache_law.specs.declared.call.Call.TheVariants.{Begin, Lookup, Pick, Insert, End}
 use Rattle.cache_law.specs.declared.call.Reply.{Reply}
 use Rattle.cache_law.specs.declared.call.Reply.TheVariants.{Began, NoRound, Hit, Miss, Picked, Stored, NotOpen, NotInTime, NoRoom, Refused, Ended}
-use Rattle.cache_law.specs.Object.{serves_key, is_fresh, in_time, size_of, those_in_time}
-use Rattle.cache_law.specs.State.{State, has_round, has_fetch, without_fetch, without_fetches_of, without_round_of}
+use Rattle.cache_law.specs.Object.{in_time, size_of}
+use Rattle.cache_law.specs.State.{State, Held, at_moment, has_round, has_fetch, without_fetch, without_fetches_of, without_round_of, stored_over, sizes_of}
+use Rattle.cache_law.specs.Beginning.{Beginning}
+use Rattle.cache_law.specs.Lookup.{Scan, scanned}
 
--- the number of the opening VCL
-abbrev pub boot_vcl : ℕ
-boot_vcl = 1
+-- a reply, and the state behind it
+pub record Step : Type 0 where
+  pub reply : Reply
+  pub state : State
 
--- an object of the key that is fresh at the moment
-abbrev pub serves : List (List ℕ) → ℕ → ObjectView → Bool
-serves key moment view = serves_key view.object.key key && is_fresh moment view.object
+-- the reply leaves the state as it is
+abbrev pub leaving : State → Reply → Step
+leaving state reply = record { reply = reply; state = state }
 
--- the object with one more hit, where a number of 64 bits has one more
-abbrev pub raised : ObjectView → ObjectView
-raised view = record view { hits = min (view.hits + 1) (2 ^ 64 - 1) }
-
-abbrev pub hit_or_miss : ℕ → Option ObjectView → Reply
-hit_or_miss next None = Miss next
-hit_or_miss next (Some view) = Hit (raised view)
-
--- the sizes of the objects in time, and of one more
-abbrev pub room_wanted : ℕ → List ObjectView → Object → ℕ
-room_wanted moment views object = sum_by (λ view. size_of view.object) (those_in_time moment views) + size_of object
-
--- the answer to the insertion of an open fetch
-abbrev pub insertion : ℕ → ℕ → List ObjectView → ℕ → Object → Reply
-insertion room moment views token object =
-    if in_time moment object then (if nat_lt room (room_wanted moment views object) then NoRoom else Stored token) else NotInTime
-
--- what a call of this caller answers at this moment
-abbrev pub reply_to : Params → Boot → State → ℕ → ℕ → Call → Reply
-reply_to params boot state caller moment Begin =
-    if has_round state.rounds caller then NoRound else Began state.next boot_vcl boot.text
-reply_to params boot state caller moment (Lookup key request) =
-    if has_round state.rounds caller then hit_or_miss state.next (find (serves key moment) state.objects) else NoRound
-reply_to params boot state caller moment (Pick vcl target word) = Picked (Some target)
-reply_to params boot state caller moment (Insert token object) =
-    if has_fetch state.fetches caller token then insertion params.room moment state.objects token object else NotOpen
-reply_to params boot state caller moment End = if has_round state.rounds caller then Ended else NoRound
-
-abbrev pub after_begin : State → ℕ → Reply → State
-after_begin state caller (Began number vcl text) =
-    record state { next = state.next + 1; rounds = record { caller = caller; vcl = vcl } ∷ state.rounds }
-after_begin state caller reply = state
-
--- a hit is counted; a miss opens a fetch
-abbrev pub after_lookup : State → ℕ → ℕ → List (List ℕ) → Reply → State
-after_lookup state caller moment key (Hit view) =
-    record state { objects = slice_set state.objects (position_or_len (serves key moment) state.objects) view }
-after_lookup state caller moment key (Miss token) =
-    record state { next = state.next + 1; fetches = record { token = token; caller = caller } ∷ state.fetches }
-after_lookup state caller moment key reply = state
-
--- what is stored stands first, and what isn't in time any more goes; each answer but NotOpen closes the fetch
-abbrev pub after_insert : State → ℕ → ℕ → Object → Reply → State
-after_insert state moment token object (Stored number) =
-    record state {
-      objects = record { number = token; hits = 0; object = object } ∷ those_in_time moment state.objects;
-      fetches = without_fetch token state.fetches;
+-- Begin draws the round's number, and the round runs under the active VCL.
+abbrev pub begun : State → ℕ → Step
+begun state caller =
+    if has_round state.rounds caller
+    then leaving state NoRound
+    else record {
+      reply = Began state.next state.active.number state.active.text;
+      state = record state {
+        next = state.next + 1;
+        rounds = record { caller = caller; vcl = state.active.number } ∷ state.rounds;
+      };
     }
-after_insert state moment token object NotOpen = state
-after_insert state moment token object reply = record state { fetches = without_fetch token state.fetches }
 
-abbrev pub after_end : State → ℕ → Reply → State
-after_end state caller Ended =
-    record state { rounds = without_round_of caller state.rounds; fetches = without_fetches_of caller state.fetches }
-after_end state caller reply = state
+-- A miss draws a number and opens a fetch of the key.
+abbrev pub missed : State → ℕ → List (List ℕ) → Step
+missed state caller key =
+    record {
+      reply = Miss state.next;
+      state = record state {
+        next = state.next + 1;
+        fetches = record { token = state.next; caller = caller; key = key } ∷ state.fetches;
+      };
+    }
 
-abbrev pub after_call : State → ℕ → ℕ → Call → Reply → State
-after_call state caller moment Begin reply = after_begin state caller reply
-after_call state caller moment (Lookup key request) reply = after_lookup state caller moment key reply
-after_call state caller moment (Pick vcl target word) reply = state
-after_call state caller moment (Insert token object) reply = after_insert state moment token object reply
-after_call state caller moment End reply = after_end state caller reply
+-- what a lookup's scan leads to, in the state with the objects that it left
+abbrev pub found : State → ℕ → List (List ℕ) → Option ObjectView → Step
+found state caller key None = missed state caller key
+found state caller key (Some view) = leaving state (Hit view)
 
--- what a call with this reply leaves
-abbrev pub after : State → ℕ → ℕ → Call → Reply → State
-after state caller moment call reply = record (after_call state caller moment call reply) { moment = moment }
+abbrev pub found_by : State → ℕ → List (List ℕ) → Scan Held → Step
+found_by state caller key scan = found (record state { objects = scan.objects }) caller key scan.fresh
 
--- an answer of an insertion that closes the fetch
-abbrev pub closes_fetch : Reply → Bool
-closes_fetch (Stored number) = true
-closes_fetch NotInTime = true
-closes_fetch NoRoom = true
-closes_fetch reply = false
+abbrev pub looked_up : State → ℕ → Query → Step
+looked_up state caller query =
+    if has_round state.rounds caller
+    then found_by state caller query.key (scanned state.moment query state.objects)
+    else leaving state NoRound
 
--- What the cache may answer where the law gives the second: that, or Refused in place of an insertion's
--- answer that closes the fetch. The first is what it did answer.
-abbrev pub allowed : Reply → Reply → Reply
-allowed Refused reply = if closes_fetch reply then Refused else reply
-allowed answer reply = reply
+-- the reply closes the fetch
+abbrev pub closing : ℕ → State → Reply → Step
+closing token state reply = record { reply = reply; state = record state { fetches = without_fetch token state.fetches } }
+
+-- the object stands first, and its fetch is closed
+abbrev pub stored : State → ℕ → Object → Step
+stored state token object = closing token (record state { objects = stored_over token object state.objects }) (Stored token)
+
+-- an insertion of an open fetch: the object has to be in time, and its size to find room beside the others'
+abbrev pub placed : ℕ → State → ℕ → Object → Step
+placed room state token object =
+    if in_time state.moment object
+    then (if nat_lt room (sizes_of state.objects + size_of object) then closing token state NoRoom else stored state token object)
+    else closing token state NotInTime
+
+abbrev pub inserted : ℕ → State → ℕ → ℕ → Object → Step
+inserted room state caller token object =
+    if has_fetch state.fetches caller token then placed room state token object else leaving state NotOpen
+
+-- End closes the caller's round and its fetches.
+abbrev pub ended : State → ℕ → Step
+ended state caller =
+    if has_round state.rounds caller
+    then record {
+      reply = Ended;
+      state = record state {
+        rounds = without_round_of caller state.rounds;
+        fetches = without_fetches_of caller state.fetches;
+      };
+    }
+    else leaving state NoRound
+
+-- what the call is answered in a state as it is at the call's moment, with this room for objects
+abbrev pub answered : ℕ → State → ℕ → Call → Step
+answered room state caller Begin = begun state caller
+answered room state caller (Lookup query) = looked_up state caller query
+answered room state caller (Pick vcl target word) = leaving state (Picked (Some target))
+answered room state caller (Insert token object) = inserted room state caller token object
+answered room state caller End = ended state caller
+
+-- what a call of this caller is answered at this moment, and the state behind that
+abbrev pub step_of : Beginning → State → ℕ → ℕ → Call → Step
+step_of beginning state caller moment call = answered beginning.params.room (at_moment moment state) caller call
+
+-- What the cache may answer in this state, as it is at the call's moment, where the law gives this reply: that
+-- reply, or, to an insertion that isn't NotOpen, that memory was wanting.
+abbrev pub MayAnswer : State → Call → Reply → Reply → Type 0
+MayAnswer state (Insert token object) law answer = (answer ≡ law) ⊎ ((answer ≡ Refused) × (law ≢ NotOpen))
+MayAnswer state call law answer = answer ≡ law
+
+-- the state behind a refused call: the insertion's fetch is closed, and nothing else changes
+abbrev pub refused : State → Call → State
+refused state (Insert token object) = record state { fetches = without_fetch token state.fetches }
+refused state call = state
+
+-- of two states, that behind a refusal or that behind the law's reply
+abbrev pub behind : Reply → State → State → State
+behind Refused refusal law = refusal
+behind reply refusal law = law
+
+-- the state that a call with this reply leaves
+abbrev pub after : Beginning → State → ℕ → ℕ → Call → Reply → State
+after beginning state caller moment call reply =
+    behind reply (refused (at_moment moment state) call) (step_of beginning state caller moment call).state

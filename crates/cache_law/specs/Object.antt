@@ -1,11 +1,10 @@
 -- Objects, how long they serve, and how much room they take (Varnish Users Guide, "Grace mode and keep").
-use Rattle.std.specs.Prelude.{ℕ, Bool, List, ◌+◌, ◌*◌, ◌+ℤ◌, pos, length, sum_by, filter}
+use Rattle.std.specs.Prelude.{ℕ, Bool, List, ◌+◌, ◌*◌, ◌+ℤ◌, pos, length, sum_by}
 use Rattle.std.specs.Int.Signed.{lt_z}
 use Rattle.std.specs.Str.{bytes_eq}
 use Rattle.std.specs.Cmp.Lexicographic.{pointwise}
 use Rattle.http_heads.specs.declared.fields.Field.{Field}
 use Rattle.cache_law.specs.declared.object.Object.{Object}
-use Rattle.cache_law.specs.declared.object.ObjectView.{ObjectView}
 
 -- one list of texts is another
 abbrev pub serves_key : List (List ℕ) → List (List ℕ) → Bool
@@ -30,7 +29,3 @@ fields_len fields = sum_by (λ field. length field.name + length field.value) fi
 -- what an object takes of the room: 512 bytes, its key, its fields with 4 bytes for each, and its body
 abbrev pub size_of : Object → ℕ
 size_of object = 512 + texts_len object.key + fields_len object.fields + 4 * length object.fields + length object.body
-
--- the stored objects that are in time
-abbrev pub those_in_time : ℕ → List ObjectView → List ObjectView
-those_in_time moment views = filter (λ view. in_time moment view.object) views

@@ -52,10 +52,10 @@ pub fn entry_bytes(call: &Call) -> u128
 {
     match call {
         Call::Begin => 64,
-        Call::Lookup { key, request } => {
-            let key = texts_bytes(64, key.as_slice());
-            let url = plus(key, request.url.bytes().len());
-            fields_bytes(url, request.fields.as_slice())
+        Call::Lookup(query) => {
+            let key = texts_bytes(64, query.key.as_slice());
+            let url = plus(key, query.request.url.bytes().len());
+            fields_bytes(url, query.request.fields.as_slice())
         }
         Call::Pick { target, .. } => plus(64, target.bytes().len()),
         Call::Insert { object, .. } => {

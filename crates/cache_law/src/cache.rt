@@ -1,8 +1,7 @@
 // A cache as the layers above know it.
-ghost use Rattle.std.specs.Prelude.{◌≡◌, ◌↔◌, [], List, IfOk, IfErr, OnErr, IsTrue, true, IsErrOf};
+ghost use Rattle.std.specs.Prelude.{◌≡◌, [], List, IfOk, OnErr, true, IsErrOf};
 ghost use Rattle.cache_law.specs.declared.call.Entry.{Entry as HistoryEntry};
-ghost use Rattle.cache_law.specs.declared.setting.Params.{Params as Limits};
-ghost use Rattle.cache_law.specs.declared.setting.Boot.{Boot as Opening};
+ghost use Rattle.cache_law.specs.Beginning.{Beginning, beginning_of};
 ghost use Rattle.cache_law.specs.Core.{Entered, FitsBehind, moment_of, is_kept};
 ghost use Rattle.cache_law.specs.History.{Legal, reached};
 
@@ -28,18 +27,16 @@ pub enum StepError {
 
 /// A cache: it answers calls one after another and keeps the history of them.
 pub trait CacheCore: Sized {
+    /// The limits, and the state before the first entry.
+    ghost beginning: { Self → Beginning };
+
     /// The entries so far, in order.
     ghost history: { Self → List HistoryEntry };
 
-    ghost limits: { Self → Limits };
-
-    ghost opened: { Self → Opening };
-
     /// A cache without an object or an entry.
     fn make(alloc: Global, params: &Params, boot: Boot) -> Result<Self, AllocError>
-        ensures history { IfOk result (λ core. history core ≡ []) }
-        ensures params { IfOk result (λ core. limits core ≡ params.now) }
-        ensures boot { IfOk result (λ core. opened core ≡ boot) };
+        ensures begins { IfOk result (λ core. beginning core ≡ beginning_of params.now boot) }
+        ensures history { IfOk result (λ core. history core ≡ []) };
 
     /// Answers one call of the caller, at the reading of the clock in milliseconds since 1970 or at the
     /// moment of the entry before, where that is greater. After an error all is as before.
@@ -50,15 +47,13 @@ pub trait CacheCore: Sized {
         reading: u64,
         call: Call,
     ) -> Result<Told, StepError>
-        ensures told { IfOk result (Entered (limits self.old) (opened self.old) (history self.old) (history self.new) caller reading call) }
+        ensures told { IfOk result (Entered (beginning self.old) (history self.old) (history self.new) caller reading call) }
         ensures full { IsErrOf result StepError.HistoryFull
-            ↔ ¬ FitsBehind (limits self.old) (opened self.old) (history self.old) caller (moment_of (history self.old) reading) call }
-        ensures kept { is_kept (reached (history self.old)) caller call ≡ true → IsErrOf result StepError.NoMemory → ⊥ }
+            → ¬ FitsBehind (beginning self.old) (history self.old) caller (moment_of (beginning self.old) (history self.old) reading) call }
+        ensures kept { is_kept (reached (beginning self.old) (history self.old)) caller call ≡ true → IsErrOf result StepError.NoMemory → ⊥ }
         ensures err { OnErr result (history self.new ≡ history self.old) }
-        ensures legal { Legal (limits self.old) (opened self.old) (history self.old) →
-            Legal (limits self.new) (opened self.new) (history self.new) }
-        ensures same { limits self.new ≡ limits self.old }
-        ensures same_boot { opened self.new ≡ opened self.old };
+        ensures legal { Legal (beginning self.old) (history self.old) → Legal (beginning self.new) (history self.new) }
+        ensures same { beginning self.new ≡ beginning self.old };
 
     /// The history.
     fn into_history(self) -> Sequence<Entry>

@@ -1,5 +1,5 @@
 // The calls of a cache, its replies, and an entry of its history.
-use crate::{Object, ObjectView};
+use crate::{Object, ObjectView, Shared};
 use http_heads::Fields;
 use std::alloc::{AllocError, Global};
 use units::{Copied, Sequence, Text};
@@ -11,16 +11,21 @@ pub struct RequestView {
     pub fields: Fields,
 }
 
-/// A call of the cache.
+/// What a lookup asks for.
+#[derive(Drop)]
+pub struct Query {
+    /// The texts that `hash_data` was given, in order.
+    pub key: Sequence<Text>,
+    pub request: RequestView,
+}
+
+/// A call of the cache. What is large in one stands behind a pointer, so that an entry is small.
 #[derive(Drop)]
 pub enum Call {
     /// Opens a round of the caller under the active VCL.
     Begin,
     /// Asks for an object of the key.
-    Lookup {
-        key: Sequence<Text>,
-        request: RequestView,
-    },
+    Lookup(Shared<Query>),
     /// Asks which backend a target stands for. So far a target is the name of one backend.
     Pick {
         vcl: u32,
@@ -28,10 +33,7 @@ pub enum Call {
         word: u64,
     },
     /// Hands over the object that the fetch of this number made.
-    Insert {
-        token: u64,
-        object: Object,
-    },
+    Insert { token: u64, object: Shared<Object> },
     /// Closes the caller's round and its open fetches.
     End,
 }
@@ -57,7 +59,7 @@ pub enum Reply {
     NotInTime,
     /// The objects in time leave no room for it. The fetch is closed.
     NoRoom,
-    /// Memory was wanting. The fetch is closed.
+    /// Memory was wanting: the one answer that the law leaves free. The fetch is closed.
     Refused,
     /// The round is closed.
     Ended,
@@ -82,7 +84,7 @@ impl Copied for Reply {
                 text: text.copy()?,
             }),
             Reply::NoRound => Ok(Reply::NoRound),
-            Reply::Hit(view) => Ok(Reply::Hit(view.copied(alloc)?)),
+            Reply::Hit(view) => Ok(Reply::Hit(view.copy()?)),
             Reply::Miss { token } => Ok(Reply::Miss { token: *token }),
             Reply::Picked(None) => Ok(Reply::Picked(None)),
             Reply::Picked(Some(name)) => Ok(Reply::Picked(Some(name.copy()?))),

@@ -1,10 +1,11 @@
 // Objects, and how long they serve.
-ghost use Rattle.std.specs.Prelude.{◌≡◌, ◌^◌, ◌+ℤ◌, ◌≤ℤ◌, neg_ℤ, pos};
+ghost use Rattle.std.specs.Prelude.{◌≡◌, ◌^◌, ◌+ℤ◌, ◌≤ℤ◌, neg_ℤ, pos, IfOk};
 ghost use Rattle.cache_law.specs.Object.{serves_key, in_time, is_fresh};
 
+use crate::Shared;
 use http_heads::Fields;
-use std::alloc::{AllocError, Global};
-use units::{Copied, Sequence, Text, same_text};
+use std::alloc::AllocError;
+use units::{Sequence, Text, same_text};
 
 /// When an object came to be and how long it serves, in milliseconds. `origin` counts from 1970.
 #[derive(Clone, Copy, Debug)]
@@ -33,28 +34,18 @@ pub struct ObjectView {
     pub number: u64,
     /// How often it was given.
     pub hits: u64,
-    pub object: Object,
+    pub object: Shared<Object>,
 }
 
-impl Copied for Object {
-    fn copied(&self, alloc: Global) -> Result<Self, AllocError> {
-        Ok(Object {
-            key: self.key.copied(alloc)?,
-            status: self.status,
-            reason: self.reason.copy()?,
-            fields: self.fields.copied(alloc)?,
-            body: self.body.copy()?,
-            timing: self.timing,
-        })
-    }
-}
-
-impl Copied for ObjectView {
-    fn copied(&self, alloc: Global) -> Result<Self, AllocError> {
+impl ObjectView {
+    /// The same view again, of the same object.
+    pub fn copy(&self) -> Result<ObjectView, AllocError>
+        ensures { IfOk result (λ view. view ≡ self.now) }
+    {
         Ok(ObjectView {
             number: self.number,
             hits: self.hits,
-            object: self.object.copied(alloc)?,
+            object: self.object.copy()?,
         })
     }
 }

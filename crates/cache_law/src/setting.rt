@@ -1,6 +1,5 @@
 // What is fixed for a run.
-use std::alloc::{AllocError, Global};
-use units::{Copied, Sequence, Text};
+use units::{Sequence, Text};
 
 /// The two limits of a run, in bytes.
 #[derive(Clone, Copy, Debug)]

@@ -1,0 +1,27 @@
+-- Where a history begins.
+use Rattle.std.specs.Prelude.{[]}
+use Rattle.cache_law.specs.declared.setting.Params.{Params}
+use Rattle.cache_law.specs.declared.setting.Boot.{Boot}
+use Rattle.cache_law.specs.State.{State}
+
+-- the limits, and the state before the first entry
+pub record Beginning : Type 0 where
+  pub params : Params
+  pub base : State
+
+-- a run's first state: nothing is stored or open, and the opening VCL, number 1, is active
+abbrev pub base_of : Boot → State
+base_of boot =
+    record {
+      moment = 0;
+      next = 1;
+      active = record { number = 1; text = boot.text; backends = boot.backends };
+      bans = [];
+      objects = [];
+      fetches = [];
+      rounds = [];
+    }
+
+-- the beginning of a run with these limits and this opening VCL
+abbrev pub beginning_of : Params → Boot → Beginning
+beginning_of params boot = record { params = params; base = base_of boot }
