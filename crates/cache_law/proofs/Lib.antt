@@ -1,3 +1,5 @@
+pub mod Growth
 pub mod Histories
-pub mod Reserve
+pub mod Lawful
 pub mod Moments
+pub mod Reserve

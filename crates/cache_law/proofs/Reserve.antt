@@ -20,6 +20,7 @@ use Rattle.cache_law.specs.Law.{Step, step_of, answered, begun, leaving, found, 
 use Rattle.cache_law.specs.History.{bytes_of, bytes_of_all, next_state, reached_from, reached, LegalFrom, Legal}
 use Rattle.cache_law.specs.Core.{FitsBehind}
 use Rattle.cache_law.proofs.Histories.{bytes_of_all-cons}
+use Rattle.cache_law.proofs.Lawful.{after-lawful, not_open}
 
 -- an element more or not
 kept_or_not : {X : Type 0} (b : Bool) (x : X) (ys : List X) → length (cond b (x ∷ ys) ys) ≤ length ys + 1
@@ -58,61 +59,6 @@ length-without_round_of rounds caller any =
 pub length-without_fetch : (fetches : List OpenFetch) (caller token : ℕ) → has_fetch fetches caller token ≡ true → length (without_fetch token fetches) + 1 ≤ length fetches
 length-without_fetch fetches caller token any =
     length-filter_not (λ (fetch : OpenFetch). (fetch.token == token) && (fetch.caller == caller)) (λ (fetch : OpenFetch). not (fetch.token == token)) (λ fetch e. not_of _ (and_parts _ _ e).0) fetches any
-
--- the law never answers that memory was wanting
-abbrev pub is_refusal : Reply → Bool
-is_refusal Refused = true
-is_refusal reply = false
-
-begun_lawful : (state : State) (caller : ℕ) (open_ : Bool) (drawn : Step) → is_refusal drawn.reply ≡ false → is_refusal (cond open_ (leaving state NoRound) drawn).reply ≡ false
-begun_lawful state caller true drawn h = refl
-begun_lawful state caller false drawn h = h
-
-found_lawful : (state : State) (caller : ℕ) (key : List (List ℕ)) (fresh : Option ObjectView) → is_refusal (found state caller key fresh).reply ≡ false
-found_lawful state caller key None = refl
-found_lawful state caller key (Some view) = refl
-
-looked_lawful : (state : State) (open_ : Bool) (step : Step) → is_refusal step.reply ≡ false → is_refusal (cond open_ step (leaving state NoRound)).reply ≡ false
-looked_lawful state true step h = h
-looked_lawful state false step h = refl
-
-inserted_lawful : (state : State) (token : ℕ) (object : Object) (open_ lives full : Bool) → is_refusal (cond open_ (cond lives (cond full (closing token state NoRoom) (stored state token object)) (closing token state NotInTime)) (leaving state NotOpen)).reply ≡ false
-inserted_lawful state token object false lives full = refl
-inserted_lawful state token object true false full = refl
-inserted_lawful state token object true true false = refl
-inserted_lawful state token object true true true = refl
-
-pub answers_lawfully : (room : ℕ) (state : State) (caller : ℕ) (call : Call) → is_refusal (answered room state caller call).reply ≡ false
-answers_lawfully room state caller Begin = begun_lawful state caller (has_round state.rounds caller) _ refl
-answers_lawfully room state caller (Lookup query) =
-    looked_lawful state (has_round state.rounds caller) _ (found_lawful (record state { objects = (scanned state.moment query state.objects).objects }) caller query.key (scanned state.moment query state.objects).fresh)
-answers_lawfully room state caller (Pick vcl target word) = refl
-answers_lawfully room state caller (Insert token object) =
-    inserted_lawful state token object (has_fetch state.fetches caller token) (in_time state.moment object) _
-answers_lawfully room state caller End = looked_lawful state (has_round state.rounds caller) _ refl
-
-behind_lawful : (reply : Reply) (refusal law : State) → is_refusal reply ≡ false → behind reply refusal law ≡ law
-behind_lawful (Began number vcl text) refusal law h = refl
-behind_lawful NoRound refusal law h = refl
-behind_lawful (Hit view) refusal law h = refl
-behind_lawful (Miss token) refusal law h = refl
-behind_lawful (Picked name) refusal law h = refl
-behind_lawful (Stored number) refusal law h = refl
-behind_lawful NotOpen refusal law h = refl
-behind_lawful NotInTime refusal law h = refl
-behind_lawful NoRoom refusal law h = refl
-behind_lawful Refused refusal law h = absurd (true≢false h)
-behind_lawful Ended refusal law h = refl
-
--- behind the law's reply is the law's state
-pub after-lawful : (beginning : Beginning) (state : State) (caller moment : ℕ) (call : Call) (answer : Reply) → answer ≡ (step_of beginning state caller moment call).reply → after beginning state caller moment call answer ≡ (step_of beginning state caller moment call).state
-after-lawful beginning state caller moment call answer e =
-    behind_lawful answer _ _ (ap is_refusal e ∙ answers_lawfully beginning.params.room (at_moment moment state) caller call)
-
--- the insertion of a fetch that isn't open is answered so
-pub not_open : (room : ℕ) (state : State) (caller token : ℕ) (object : Object) (opened : Bool) (step : Step) → (cond opened step (leaving state NotOpen)).reply ≢ NotOpen → opened ≡ true
-not_open room state caller token object true step other = refl
-not_open room state caller token object false step other = absurd (other refl)
 
 -- whatever the law answers to it, an insertion of an open fetch closes it
 pub reserve-inserted : (room : ℕ) (state : State) (caller token : ℕ) (object : Object) (opened lives full : Bool) → reserve (cond opened (cond lives (cond full (closing token state NoRoom) (stored state token object)) (closing token state NotInTime)) (leaving state NotOpen)).state ≡ 64 * (length state.rounds + cond opened (length (without_fetch token state.fetches)) (length state.fetches))
