@@ -1,4 +1,4 @@
-pub mod Totals
-pub mod Lookups
+pub mod Scans
 pub mod Reserves
+pub mod Replies
 pub mod Steps

@@ -1,38 +1,40 @@
--- What is reserved behind a call, by what was open before it.
-use Rattle.std.proofs.Common.{◌≡◌, ℕ, Bool, true, false, cond, List, ◌+◌, ◌*◌, ◌&&◌, length, find, position, is_none, Option, Some, None, refl, arith, sym, ap, ◌∙◌}
-use Rattle.cache_law.specs.declared.setting.Params.{Params}
-use Rattle.cache_law.specs.declared.setting.Boot.{Boot}
+-- What is reserved behind a call, by the place of the object that it is answered with and by what was open before it.
+use Rattle.std.proofs.Common.{◌≡◌, ℕ, Bool, true, false, cond, List, ◌+◌, ◌*◌, ◌&&◌, length, position, is_none, Option, Some, None, refl, arith, sym, ap, ◌∙◌, nat_lt}
 use Rattle.cache_law.specs.declared.object.Object.{Object}
 use Rattle.cache_law.specs.declared.object.ObjectView.{ObjectView}
-use Rattle.cache_law.specs.declared.call.RequestView.{RequestView}
+use Rattle.cache_law.specs.declared.call.Query.{Query}
 use Rattle.cache_law.specs.declared.call.Call.TheVariants.{Lookup, Insert}
-use Rattle.cache_law.specs.declared.call.Reply.TheVariants.{NoRound, Stored, NotOpen, NotInTime, NoRoom}
-use Rattle.cache_law.specs.State.{State, has_round, has_fetch, without_fetch, reserve}
-use Rattle.cache_law.specs.Law.{serves, hit_or_miss, reply_to, after}
-use Rattle.flat_core.proofs.Lookups.{found, missed}
+use Rattle.cache_law.specs.declared.call.Reply.TheVariants.{NoRound}
+use Rattle.cache_law.specs.Object.{in_time, size_of}
+use Rattle.cache_law.specs.State.{State, Held, at_moment, those_in_time, has_round, has_fetch, without_fetch, reserve, sizes_of}
+use Rattle.cache_law.specs.Lookup.{Scan, scanned}
+use Rattle.cache_law.specs.Law.{answered, found, leaving}
+use Rattle.cache_law.proofs.Reserve.{reserve-inserted}
+use Rattle.flat_core.specs.Kept.{held_all, is_hit}
+use Rattle.flat_core.proofs.Scans.{scan_at, scan_missed, scan_found, hit_place, no_place}
 
-none_by_place : {X : Type 0} (p : X → Bool) (xs : List X) (o : Option ℕ) → position p xs ≡ o → is_none (find p xs) ≡ is_none o
-none_by_place p xs None e = ap is_none (missed p xs e)
-none_by_place p xs (Some i) e = ap is_none (found p xs i e).1
+-- whether the scan ends at an object is whether there is a place
+fresh_by_place : (now : ℕ) (query : Query) (views : List ObjectView) (o : Option ℕ) → position (λ (held : Held). is_hit now query held.view) (held_all views) ≡ o → is_none (scan_at now query views).fresh ≡ is_none o
+fresh_by_place now query views None e = ap (λ (scan : Scan Held). is_none scan.fresh) (scan_missed now query views (no_place now query views e))
+fresh_by_place now query views (Some place) e =
+    let at_ = hit_place now query views place e in
+    ap (λ (scan : Scan Held). is_none scan.fresh) (scan_found now query views place at_.0 at_.1).2
 
-lookup_by_cases : (old : State) (caller moment : ℕ) (key : List (List ℕ)) (request : RequestView) (opened : Bool) (o : Option ObjectView) → 64 * (cond (opened && is_none o) (length old.rounds + length old.fetches + 1) (length old.rounds + length old.fetches)) ≡ reserve (after old caller moment (Lookup key request) (cond opened (hit_or_miss old.next o) NoRound))
-lookup_by_cases old caller moment key request false o = refl
-lookup_by_cases old caller moment key request true None = omega arith
-lookup_by_cases old caller moment key request true (Some view) = refl
+by_cases : (state : State) (caller : ℕ) (key : List (List ℕ)) (opened : Bool) (objects : List Held) (fresh : Option ObjectView) → 64 * (cond (opened && is_none fresh) (length state.rounds + length state.fetches + 1) (length state.rounds + length state.fetches)) ≡ reserve (cond opened (found (record state { objects = objects }) caller key fresh) (leaving state NoRound)).state
+by_cases state caller key false objects fresh = refl
+by_cases state caller key true objects None = omega arith
+by_cases state caller key true objects (Some view) = refl
 
 -- a fetch more is open exactly behind a miss
-pub lookup_reserve : (params : Params) (boot : Boot) (old : State) (caller moment : ℕ) (key : List (List ℕ)) (request : RequestView) (misses : Bool) → misses ≡ (has_round old.rounds caller && is_none (position (serves key moment) old.objects)) → 64 * (cond misses (length old.rounds + length old.fetches + 1) (length old.rounds + length old.fetches)) ≡ reserve (after old caller moment (Lookup key request) (reply_to params boot old caller moment (Lookup key request)))
-lookup_reserve params boot old caller moment key request misses e =
+pub lookup_reserve : (room : ℕ) (old : State) (views : List ObjectView) (now caller : ℕ) (query : Query) (place : Option ℕ) (misses : Bool) → old.objects ≡ held_all views → place ≡ position (λ (held : Held). is_hit now query held.view) old.objects → misses ≡ (has_round old.rounds caller && is_none place) → 64 * (cond misses (length old.rounds + length old.fetches + 1) (length old.rounds + length old.fetches)) ≡ reserve (answered room (at_moment now old) caller (Lookup query)).state
+lookup_reserve room old views now caller query place misses kept found_ e =
+    let fresh = (scanned now query (those_in_time now old.objects)).fresh in
+    let same : is_none place ≡ is_none fresh = sym (ap (λ (objects : List Held). is_none (scanned now query (those_in_time now objects)).fresh) kept ∙ fresh_by_place now query views place (sym (found_ ∙ ap (position (λ (held : Held). is_hit now query held.view)) kept))) in
     ap (λ (b : Bool). 64 * (cond b (length old.rounds + length old.fetches + 1) (length old.rounds + length old.fetches)))
-    (e ∙ ap (λ (b : Bool). has_round old.rounds caller && b) (sym (none_by_place (serves key moment) old.objects (position (serves key moment) old.objects) refl)))
-    ∙ lookup_by_cases old caller moment key request (has_round old.rounds caller) (find (serves key moment) old.objects)
-
-insert_by_cases : (old : State) (caller moment token : ℕ) (object : Object) (opened lives full : Bool) → 64 * (length old.rounds + cond opened (length (without_fetch token old.fetches)) (length old.fetches)) ≡ reserve (after old caller moment (Insert token object) (cond opened (cond lives (cond full NoRoom (Stored token)) NotInTime) NotOpen))
-insert_by_cases old caller moment token object false lives full = refl
-insert_by_cases old caller moment token object true false full = refl
-insert_by_cases old caller moment token object true true false = refl
-insert_by_cases old caller moment token object true true true = refl
+    (e ∙ ap (λ (b : Bool). has_round old.rounds caller && b) same)
+    ∙ by_cases (at_moment now old) caller query.key (has_round old.rounds caller) (scanned now query (those_in_time now old.objects)).objects fresh
 
 -- whatever the insertion answers, it closes its fetch
-pub insert_reserve : (params : Params) (boot : Boot) (old : State) (caller moment token : ℕ) (object : Object) → 64 * (length old.rounds + cond (has_fetch old.fetches caller token) (length (without_fetch token old.fetches)) (length old.fetches)) ≡ reserve (after old caller moment (Insert token object) (reply_to params boot old caller moment (Insert token object)))
-insert_reserve params boot old caller moment token object = insert_by_cases old caller moment token object (has_fetch old.fetches caller token) _ _
+pub insert_reserve : (room : ℕ) (old : State) (now caller token : ℕ) (object : Object) → 64 * (length old.rounds + cond (has_fetch old.fetches caller token) (length (without_fetch token old.fetches)) (length old.fetches)) ≡ reserve (answered room (at_moment now old) caller (Insert token object)).state
+insert_reserve room old now caller token object =
+    sym (reserve-inserted room (at_moment now old) caller token object (has_fetch old.fetches caller token) (in_time now object) (nat_lt room (sizes_of (those_in_time now old.objects) + size_of object)))

@@ -1,109 +1,148 @@
 -- One more entry keeps what the plain cache promises.
-use Rattle.std.proofs.Common.{true, not, cond, ◌==◌, ◌≡◌, ℕ, List, [], ◌∷◌, ◌++◌, ◌+◌, ◌*◌, ◌≤◌, ◌<◌, ◌^◌, max, length, refl, arith, sym, ap, ◌∙◌, subst, length-append}
+use Rattle.std.proofs.Common.{true, cond, ◌≡◌, ℕ, List, [], ◌∷◌, ◌++◌, ◌+◌, ◌*◌, ◌≤◌, ◌==◌, not, max, length, refl, arith, sym, ap, ◌∙◌, subst, length-append, nat_lt}
 use Rattle.std.proofs.lemmas.Bool.{false≢true, cond-true}
-use Rattle.cache_law.specs.declared.setting.Params.{Params}
-use Rattle.cache_law.specs.declared.setting.Boot.{Boot}
 use Rattle.cache_law.specs.declared.object.Object.{Object}
 use Rattle.cache_law.specs.declared.call.Call.{Call}
 use Rattle.cache_law.specs.declared.call.Call.TheVariants.{Begin, Lookup, Pick, Insert, End}
 use Rattle.cache_law.specs.declared.call.Reply.{Reply}
-use Rattle.cache_law.specs.declared.call.Reply.TheVariants.{Began, Miss, Stored, NotOpen, Ended}
 use Rattle.cache_law.specs.declared.call.Entry.{Entry}
 use Rattle.cache_law.specs.declared.cache.Told.{Told}
-use Rattle.cache_law.specs.State.{State, reserve, has_fetch, without_fetch}
-use Rattle.cache_law.specs.Law.{reply_to, after, after_begin, after_lookup, after_insert, after_end}
-use Rattle.cache_law.specs.History.{bytes_of, bytes_of_all, Fits, Follows, reached, Legal}
-use Rattle.cache_law.specs.Core.{Entered, entry_of, is_kept}
-use Rattle.cache_law.proofs.Histories.{reached-push, bytes_of_all-push, bytes_of_all-least, Legal-push}
-use Rattle.cache_law.proofs.Reserve.{reserve-allowed, length-without_fetch, length-without_round_of, length-filter-le}
-use Rattle.cache_law.specs.declared.state.OpenFetch.{OpenFetch}
-use Rattle.flat_core.proofs.Reserves.{insert_reserve}
+use Rattle.cache_law.specs.Object.{in_time, size_of}
+use Rattle.cache_law.specs.State.{State, at_moment, as_seen, reserve, has_round, has_fetch, without_fetch, those_in_time, sizes_of}
+use Rattle.cache_law.specs.Beginning.{Beginning}
+use Rattle.cache_law.specs.Law.{step_of, answered, after, behind, refused, MayAnswer}
+use Rattle.cache_law.specs.History.{bytes_of, bytes_of_all, Fits, Follows, next_state, reached, Legal}
+use Rattle.cache_law.specs.Core.{Entered, FitsBehind, entry_of, moment_of, is_kept}
+use Rattle.cache_law.proofs.Growth.{after_grows}
+use Rattle.cache_law.proofs.Histories.{reached-push, bytes_of_all-push, Legal-push}
+use Rattle.cache_law.proofs.Moments.{at_moment-later}
+use Rattle.cache_law.proofs.Reserve.{reserve-after, reserve-inserted, ending_takes, length-without_fetch}
 use Rattle.flat_core.specs.declared.answer.Answer.{Answer}
 use Rattle.flat_core.specs.Step.{Answers}
 use Rattle.flat_core.specs.Plain.{Sound}
 
-next_by_begin : (old : State) (caller : ℕ) (reply : Reply) → (after_begin old caller reply).next ≤ old.next + 1
-next_by_begin old caller (Began number vcl text) = omega arith
-next_by_begin old caller reply = omega arith
+-- A call that is made of a plain cache: what the cache keeps, the call with its moment, and how many rounds and
+-- fetches are open behind the law's answer.
+pub record Made : Type 0 where
+  pub beginning : Beginning
+  pub entries : List Entry
+  pub room : ℕ
+  pub used : ℕ
+  pub old : State
+  pub caller : ℕ
+  pub reading : ℕ
+  pub moment : ℕ
+  pub call : Call
+  pub opens : ℕ
+  pub sound : Sound beginning entries room used old
+  pub at_ : moment ≡ max old.moment reading
+  pub reserves : 64 * opens ≡ reserve (step_of beginning old caller moment call).state
 
-next_by_lookup : (old : State) (caller moment : ℕ) (key : List (List ℕ)) (reply : Reply) → (after_lookup old caller moment key reply).next ≤ old.next + 1
-next_by_lookup old caller moment key (Miss token) = omega arith
-next_by_lookup old caller moment key reply = omega arith
+-- the state that the entries reach
+abbrev pub before : Made → State
+before made = reached made.beginning made.entries
 
-next_by_insert : (old : State) (moment token : ℕ) (object : Object) (reply : Reply) → (after_insert old moment token object reply).next ≤ old.next + 1
-next_by_insert old moment token object (Stored number) = omega arith
-next_by_insert old moment token object NotOpen = omega arith
-next_by_insert old moment token object reply = omega arith
+-- the entry of the call with this reply
+abbrev pub entry_with : Made → Reply → Entry
+entry_with made reply = record { caller = made.caller; moment = made.moment; call = made.call; reply = reply }
 
-next_by_end : (old : State) (caller : ℕ) (reply : Reply) → (after_end old caller reply).next ≤ old.next + 1
-next_by_end old caller Ended = omega arith
-next_by_end old caller reply = omega arith
+same_moment : (made : Made) → made.old.moment ≡ (before made).moment
+same_moment made = ap (λ (s : State). s.moment) made.sound.reaches
 
--- a call draws one number at most
-next_after : (old : State) (caller moment : ℕ) (call : Call) (reply : Reply) → (after old caller moment call reply).next ≤ old.next + 1
-next_after old caller moment Begin reply = next_by_begin old caller reply
-next_after old caller moment (Lookup key request) reply = next_by_lookup old caller moment key reply
-next_after old caller moment (Pick vcl target word) reply = omega arith
-next_after old caller moment (Insert token object) reply = next_by_insert old moment token object reply
-next_after old caller moment End reply = next_by_end old caller reply
+-- at the call's moment what is kept is the state that the entries reach
+same_state : (made : Made) → at_moment made.moment made.old ≡ at_moment made.moment (before made)
+same_state made =
+    sym (at_moment-later made.old.moment made.moment (omega (arith, made.at_)) made.old)
+    ∙ ap (at_moment made.moment) made.sound.reaches
+    ∙ at_moment-later (before made).moment made.moment (omega (arith, made.at_, same_moment made)) (before made)
 
--- there is a number more
-pub next_fits : (limit : ℕ) (entries : List Entry) (room used : ℕ) (state : State) → Sound limit entries room used state → limit < 2 ^ 64 → state.next + 1 < 2 ^ 64
-next_fits limit entries room used state sound small =
-    omega (arith, sound.counts, sound.within, sound.numbers, bytes_of_all-least entries)
+same_reserve : (made : Made) → reserve (step_of made.beginning made.old made.caller made.moment made.call).state ≡ reserve (step_of made.beginning (before made) made.caller made.moment made.call).state
+same_reserve made = ap (λ (s : State). reserve (answered made.beginning.params.room s made.caller made.call).state) (same_state made)
 
--- what is reserved behind the answer is what the call had to fit with
-reserve_left : (old new : State) (caller moment : ℕ) (call : Call) (law : Reply) (answer : Answer) → Answers old new caller moment call law answer → reserve new ≡ reserve (after old caller moment call law)
-reserve_left old new caller moment call law answer answers =
-    ap reserve answers.leaves ∙ reserve-allowed old caller moment call answer.told law answers.allows
+-- within the limit is what fits, and what fits is within the limit
+pub fits_behind : (made : Made) → made.used + bytes_of made.call + 64 * made.opens ≤ made.beginning.params.history → FitsBehind made.beginning made.entries made.caller made.moment made.call
+fits_behind made h = record { within = omega (arith, h, made.sound.counts, made.reserves, same_reserve made) }
 
-pub sound_behind : (params : Params) (boot : Boot) (entries : List Entry) (room used : ℕ) (old new : State) (caller moment : ℕ) (call : Call) (answer : Answer) (opens larger : ℕ) → Sound params.history entries room used old → Fits params boot old used caller moment call → Answers old new caller moment call (reply_to params boot old caller moment call) answer → 64 * opens ≡ reserve (after old caller moment call (reply_to params boot old caller moment call)) → length entries + (opens + 1) ≤ larger → Sound params.history (entries ++ record { caller = caller; moment = moment; call = call; reply = answer.kept } ∷ []) larger (used + bytes_of call) new
-sound_behind params boot entries room used old new caller moment call answer opens larger sound fits answers open_ room_ =
-    let entry : Entry = record { caller = caller; moment = moment; call = call; reply = answer.kept } in
-    let left = reserve_left old new caller moment call (reply_to params boot old caller moment call) answer answers in
+pub within_limit : (made : Made) → FitsBehind made.beginning made.entries made.caller (moment_of made.beginning made.entries made.reading) made.call → made.used + bytes_of made.call + 64 * made.opens ≤ made.beginning.params.history
+within_limit made fits =
+    let at_ : moment_of made.beginning made.entries made.reading ≡ made.moment = ap (λ (m : ℕ). max m made.reading) (sym (same_moment made)) ∙ sym made.at_ in
+    let fits_ : FitsBehind made.beginning made.entries made.caller made.moment made.call = subst (λ (m : ℕ). FitsBehind made.beginning made.entries made.caller m made.call) at_ fits in
+    omega (arith, fits_.within, made.sound.counts, made.reserves, same_reserve made)
+
+-- the answer, and what is kept behind it
+pub record Answered (made : Made) : Type 0 where
+  pub new : State
+  pub answer : Answer
+  pub answers : Answers made.old new made.moment made.call (step_of made.beginning made.old made.caller made.moment made.call) answer
+  pub within : made.used + bytes_of made.call + 64 * made.opens ≤ made.beginning.params.history
+
+same_after : (made : Made) (reply : Reply) → after made.beginning made.old made.caller made.moment made.call reply ≡ after made.beginning (before made) made.caller made.moment made.call reply
+same_after made reply =
+    ap (λ (s : State). behind reply (refused s made.call) (answered made.beginning.params.room s made.caller made.call).state) (same_state made)
+
+-- what is kept behind the answer is the state that the entries and the answer's reach
+reaches_behind : (made : Made) (done : Answered made) → as_seen done.new ≡ as_seen (reached made.beginning (made.entries ++ entry_with made done.answer.kept ∷ []))
+reaches_behind made done =
+    let told = done.answer.told in
+    let left : State = after made.beginning (before made) made.caller made.moment made.call told in
+    let moment : left.moment ≡ made.moment = (after_grows made.beginning (before made) made.caller made.moment made.call told).moment in
+    ap (λ (m : ℕ). at_moment m done.new) done.answers.moment
+    ∙ done.answers.leaves
+    ∙ ap (at_moment made.moment) (same_after made told)
+    ∙ ap (λ (m : ℕ). at_moment m left) (sym moment)
+    ∙ ap (λ (r : Reply). as_seen (next_state made.beginning (before made) (entry_with made r))) (sym done.answers.twice)
+    ∙ ap as_seen (sym (reached-push made.beginning made.entries (entry_with made done.answer.kept)))
+
+-- what is reserved behind the answer is at most what the call had to fit with
+reserve_left : (made : Made) (done : Answered made) → reserve done.new ≤ 64 * made.opens
+reserve_left made done =
+    let least = reserve-after made.beginning made.old made.caller made.moment made.call done.answer.told done.answers.allows in
+    omega (arith, least, made.reserves, ap reserve done.answers.leaves)
+
+pub sound_behind : (made : Made) (done : Answered made) (larger : ℕ) → length made.entries + (made.opens + 1) ≤ larger → Sound made.beginning (made.entries ++ entry_with made done.answer.kept ∷ []) larger (made.used + bytes_of made.call) done.new
+sound_behind made done larger room_ =
+    let entry : Entry = entry_with made done.answer.kept in
+    let left = reserve_left made done in
     record {
-      reaches = answers.leaves ∙ ap (after old caller moment call) (sym answers.twice) ∙ ap (λ (s : State). after s caller moment call answer.kept) sound.reaches ∙ sym (reached-push entries entry);
-      counts = omega (arith, sound.counts, bytes_of_all-push entries entry);
-      within = omega (arith, fits.within, left);
-      numbers = omega (arith, ap (λ (s : State). s.next) answers.leaves, next_after old caller moment call answer.told, sound.numbers, length-append entries (entry ∷ []));
-      reserved = omega (arith, left, open_, room_, length-append entries (entry ∷ []));
+      reaches = reaches_behind made done;
+      counts = omega (arith, made.sound.counts, bytes_of_all-push made.entries entry);
+      within = omega (arith, done.within, left);
+      numbers = omega (arith, ap (λ (s : State). s.next) done.answers.leaves, (after_grows made.beginning made.old made.caller made.moment made.call done.answer.told).next, made.sound.numbers, length-append made.entries (entry ∷ []));
+      reserved = omega (arith, left, room_, length-append made.entries (entry ∷ []));
     }
 
-pub entered : (params : Params) (boot : Boot) (entries : List Entry) (room used : ℕ) (old new : State) (caller reading moment : ℕ) (call : Call) (answer : Answer) → Sound params.history entries room used old → moment ≡ max old.moment reading → Fits params boot old used caller moment call → Answers old new caller moment call (reply_to params boot old caller moment call) answer → Entered params boot entries (entries ++ record { caller = caller; moment = moment; call = call; reply = answer.kept } ∷ []) caller reading call (record { moment = moment; place = length entries; reply = answer.told })
-entered params boot entries room used old new caller reading moment call answer sound at_ fits answers =
-    let by_reached : old ≡ reached entries = sound.reaches in
-    let fits_ : Fits params boot old (bytes_of_all entries) caller moment call = subst (λ (n : ℕ). Fits params boot old n caller moment call) sound.counts fits in
+pub entered : (made : Made) (done : Answered made) (place : ℕ) → place ≡ length made.entries → Entered made.beginning made.entries (made.entries ++ entry_with made done.answer.kept ∷ []) made.caller made.reading made.call (record { moment = made.moment; place = place; reply = done.answer.told })
+entered made done place last =
     record {
-      joined = ap (λ (r : Reply). entries ++ record { caller = caller; moment = moment; call = call; reply = r } ∷ []) answers.twice;
-      moment = at_ ∙ ap (λ (s : State). max s.moment reading) by_reached;
-      place = refl;
-      follows = subst (λ (s : State). Follows params boot s (record { caller = caller; moment = moment; call = call; reply = answer.told })) by_reached
-          (record { no_earlier = omega (arith, at_); answer = answers.allows });
-      fits = subst (λ (s : State). Fits params boot s (bytes_of_all entries) caller moment call) by_reached fits_;
+      joined = ap (λ (r : Reply). made.entries ++ entry_with made r ∷ []) done.answers.twice;
+      moment = made.at_ ∙ ap (λ (m : ℕ). max m made.reading) (same_moment made);
+      place = last;
+      follows = record {
+        no_earlier = omega (arith, made.at_, same_moment made);
+        answer = subst (λ (s : State). MayAnswer s made.call (answered made.beginning.params.room s made.caller made.call).reply done.answer.told) (same_state made) done.answers.allows;
+      };
+      fits = fits_behind made done.within;
     }
 
 -- an entry that joined a legal history leaves it legal
-pub legal_behind : (params : Params) (boot : Boot) (old new : List Entry) (caller reading : ℕ) (call : Call) (told : Told) → Entered params boot old new caller reading call told → Legal params boot old → Legal params boot new
-legal_behind params boot old new caller reading call told joins legal =
-    subst (Legal params boot) (sym joins.joined) (Legal-push params boot old (entry_of caller call told) legal joins.follows joins.fits)
+pub legal_behind : (beginning : Beginning) (old new : List Entry) (caller reading : ℕ) (call : Call) (told : Told) → Entered beginning old new caller reading call told → Legal beginning old → Legal beginning new
+legal_behind beginning old new caller reading call told joins legal =
+    subst (Legal beginning) (sym joins.joined) (Legal-push beginning old (entry_of caller call told) legal joins.follows joins.fits)
 
 -- a call for which memory is kept frees what is reserved for it
-closing_frees : (params : Params) (boot : Boot) (state : State) (caller moment : ℕ) (call : Call) → is_kept state caller call ≡ true → reserve (after state caller moment call (reply_to params boot state caller moment call)) + 64 ≤ reserve state
-closing_frees params boot state caller moment Begin kept = absurd (false≢true kept)
-closing_frees params boot state caller moment (Lookup key request) kept = absurd (false≢true kept)
-closing_frees params boot state caller moment (Pick vcl target word) kept = absurd (false≢true kept)
-closing_frees params boot state caller moment (Insert token object) kept =
+closing_frees : (room : ℕ) (state : State) (caller moment : ℕ) (call : Call) → is_kept state caller call ≡ true → reserve (answered room (at_moment moment state) caller call).state + 64 ≤ reserve state
+closing_frees room state caller moment Begin kept = absurd (false≢true kept)
+closing_frees room state caller moment (Lookup query) kept = absurd (false≢true kept)
+closing_frees room state caller moment (Pick vcl target word) kept = absurd (false≢true kept)
+closing_frees room state caller moment (Insert token object) kept =
     let here : cond (has_fetch state.fetches caller token) (length (without_fetch token state.fetches)) (length state.fetches) ≡ length (without_fetch token state.fetches) = cond-true _ _ _ kept in
-    omega (arith, insert_reserve params boot state caller moment token object, here, length-without_fetch state.fetches caller token kept)
-closing_frees params boot state caller moment End kept =
-    rw kept (omega (arith, length-without_round_of state.rounds caller kept, length-filter-le (λ (fetch : OpenFetch). not (fetch.caller == caller)) state.fetches))
+    let closed = reserve-inserted room (at_moment moment state) caller token object (has_fetch state.fetches caller token) (in_time moment object) (nat_lt room (sizes_of (those_in_time moment state.objects) + size_of object)) in
+    omega (arith, closed, here, length-without_fetch state.fetches caller token kept)
+closing_frees room state caller moment End kept = ending_takes (at_moment moment state) caller (has_round state.rounds caller) refl kept
 
 -- so there is room for its entry
-pub room_kept : (params : Params) (boot : Boot) (entries : List Entry) (room used : ℕ) (state : State) (caller moment : ℕ) (call : Call) (opens : ℕ) → Sound params.history entries room used state → is_kept (reached entries) caller call ≡ true → 64 * opens ≡ reserve (after state caller moment call (reply_to params boot state caller moment call)) → length entries + (opens + 1) ≤ room
-room_kept params boot entries room used state caller moment call opens sound kept open_ =
-    let here : is_kept state caller call ≡ true = ap (λ (s : State). is_kept s caller call) sound.reaches ∙ kept in
-    omega (arith, open_, sound.reserved, closing_frees params boot state caller moment call here)
-
--- what fits is counted by 64 bits
-pub opens_few : (params : Params) (boot : Boot) (state : State) (used caller moment : ℕ) (call : Call) (opens : ℕ) → Fits params boot state used caller moment call → params.history < 2 ^ 64 → 64 * opens ≡ reserve (after state caller moment call (reply_to params boot state caller moment call)) → opens + 1 < 2 ^ 64
-opens_few params boot state used caller moment call opens fits small open_ = omega (arith, fits.within, open_)
+pub room_kept : (made : Made) → is_kept (before made) made.caller made.call ≡ true → length made.entries + (made.opens + 1) ≤ made.room
+room_kept made kept =
+    let here : is_kept made.old made.caller made.call ≡ true = ap (λ (s : State). is_kept s made.caller made.call) made.sound.reaches ∙ kept in
+    let frees = closing_frees made.beginning.params.room made.old made.caller made.moment made.call here in
+    omega (arith, frees, made.reserves, made.sound.reserved)

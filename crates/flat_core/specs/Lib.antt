@@ -1,2 +1,3 @@
+pub mod Kept
 pub mod Step
 pub mod Plain

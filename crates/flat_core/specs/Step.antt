@@ -1,13 +1,14 @@
--- What one call does to the state.
+-- What one call does to what is kept.
 use Rattle.std.specs.Prelude.{◌≡◌, ℕ}
 use Rattle.cache_law.specs.declared.call.Call.{Call}
-use Rattle.cache_law.specs.declared.call.Reply.{Reply}
-use Rattle.cache_law.specs.State.{State}
-use Rattle.cache_law.specs.Law.{after, allowed}
+use Rattle.cache_law.specs.State.{State, at_moment}
+use Rattle.cache_law.specs.Law.{Step, MayAnswer, behind, refused}
 use Rattle.flat_core.specs.declared.answer.Answer.{Answer}
 
--- the call had this answer, twice, where the law gives this reply, and the state is what that leaves
-pub record Answers (old new : State) (caller moment : ℕ) (call : Call) (law : Reply) (answer : Answer) : Type 0 where
+-- The call had this answer, twice, where the law gives this reply and state; and what is kept is what the answer
+-- leaves, but for objects that aren't in time any more.
+pub record Answers (old new : State) (now : ℕ) (call : Call) (law : Step) (answer : Answer) : Type 0 where
   pub twice : answer.kept ≡ answer.told
-  pub allows : answer.told ≡ allowed answer.told law
-  pub leaves : new ≡ after old caller moment call answer.told
+  pub allows : MayAnswer (at_moment now old) call law.reply answer.told
+  pub moment : new.moment ≡ now
+  pub leaves : at_moment now new ≡ at_moment now (behind answer.told (refused (at_moment now old) call) law.state)

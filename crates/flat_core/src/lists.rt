@@ -1,94 +1,135 @@
 // The law's tests of the lists that a cache holds, and the changes that it makes to them.
-ghost use Rattle.std.specs.Prelude.{◌≡◌, ◌+◌, ◌-◌, ◌^◌, min, position, length};
-ghost use Rattle.cache_law.specs.State.{has_round, has_fetch, without_fetch, without_fetches_of, without_round_of};
-ghost use Rattle.cache_law.specs.Law.{serves, room_wanted};
-ghost use Rattle.cache_law.specs.Object.{size_of, those_in_time};
+ghost use Rattle.std.specs.Prelude.{◌≡◌, ◌+◌, ◌-◌, ◌^◌, ◌∷◌, min, position, length, filter, OnOk, OnErr};
+ghost use Rattle.std.specs.List.{list_all};
+ghost use Rattle.cache_law.specs.Object.{in_time};
+ghost use Rattle.cache_law.specs.State.{has_round, has_fetch, without_fetch, without_fetches_of, without_round_of, sizes_of};
+ghost use Rattle.flat_core.specs.Kept.{held_all, is_hit};
 
 use cache_law::{
-    Object, ObjectView, OpenFetch, OpenRound, is_fresh_at, is_in_time, object_size, same_key,
+    Object, ObjectView, OpenFetch, OpenRound, Query, Shared, is_fresh_at, is_in_time, object_size,
+    same_key,
 };
-use units::Text;
+use std::alloc::AllocError;
+use std::collections::VecDeque;
 
 /// Whether a round of the caller is open.
-pub(crate) fn has_round(rounds: &[OpenRound], caller: u32) -> bool
-    ensures { result ≡ has_round rounds.now caller }
+pub(crate) fn has_round(rounds: &VecDeque<OpenRound>, caller: u32) -> bool
+    ensures { result ≡ has_round rounds.now.items caller }
 {
     rounds.iter().any(|round| round.caller == caller)
 }
 
 /// Whether a fetch of this number is open for the caller.
-pub(crate) fn has_fetch(fetches: &[OpenFetch], caller: u32, token: u64) -> bool
-    ensures { result ≡ has_fetch fetches.now caller token }
+pub(crate) fn has_fetch(fetches: &VecDeque<OpenFetch>, caller: u32, token: u64) -> bool
+    ensures { result ≡ has_fetch fetches.now.items caller token }
 {
     fetches
         .iter()
         .any(|fetch| fetch.token == token && fetch.caller == caller)
 }
 
-/// Whether the object is of the key and fresh at the moment.
-fn is_serving(key: &[Text], moment: u64, view: &ObjectView) -> bool
-    ensures { result ≡ serves key.now moment view.now }
+/// Whether the object is in time at the moment and serves the query.
+fn is_hit(moment: u64, query: &Query, view: &ObjectView) -> bool
+    ensures { result ≡ is_hit moment query.now view.now }
 {
-    same_key(view.object.key.as_slice(), key) && is_fresh_at(moment, &view.object)
+    is_in_time(moment, &view.object)
+        && same_key(view.object.key.as_slice(), query.key.as_slice())
+        && is_fresh_at(moment, &view.object)
 }
 
-/// The place of the first object of the key that is fresh at the moment.
-pub(crate) fn place_of(objects: &[ObjectView], key: &[Text], moment: u64) -> Option<usize>
-    ensures { result ≡ position (serves key.now moment) objects.now }
+/// The place of the first object that is in time at the moment and serves the query.
+pub(crate) fn place_of(
+    objects: &VecDeque<ObjectView>,
+    moment: u64,
+    query: &Query,
+) -> Option<usize>
+    ensures { result ≡ position (is_hit moment query.now) objects.now.items }
+{
+    objects.iter().position(|view| is_hit(moment, query, view))
+}
+
+/// What the objects take of the room beside what is counted already, or the greatest number of 128 bits where that is
+/// less.
+fn sizes_from(start: u128, objects: &[ObjectView]) -> u128
+    ensures { result ≡ min (start + sizes_of (held_all objects.now)) (2 ^ 128 - 1) }
+{
+    let mut total = start;
+    for view in objects {
+        total = total.saturating_add(object_size(&view.object));
+    }
+    total
+}
+
+/// What the objects take of the room, or the greatest number of 128 bits where that is less.
+pub(crate) fn sizes_of(objects: &VecDeque<ObjectView>) -> u128
+    ensures { result ≡ min (sizes_of (held_all objects.now.items)) (2 ^ 128 - 1) }
+{
+    let (newer, older) = objects.as_slices();
+    sizes_from(sizes_from(0, newer), older)
+}
+
+fn are_in_time(objects: &VecDeque<ObjectView>, moment: u64) -> bool
+    ensures { result ≡ list_all (λ view. in_time moment view.object) objects.now.items }
 {
     objects
         .iter()
-        .position(|view| is_serving(key, moment, view))
+        .all(|view| is_in_time(moment, &view.object))
 }
 
-/// What the objects in time and one more take of the room, or the greatest number of 128 bits where that
-/// is less.
-pub(crate) fn room_for(objects: &[ObjectView], moment: u64, object: &Object) -> u128
-    ensures { result ≡ min (room_wanted moment objects.now object.now) (2 ^ 128 - 1) }
+/// Drops the objects that aren't in time any more. Where there are none, nothing moves.
+pub(crate) fn keep_in_time(objects: &mut VecDeque<ObjectView>, moment: u64)
+    ensures { objects.new.items ≡ filter (λ view. in_time moment view.object) objects.old.items }
 {
-    let mut total: u128 = 0;
-    for view in objects {
-        if is_in_time(moment, &view.object) {
-            total = total.saturating_add(object_size(&view.object));
-        }
+    if !are_in_time(objects, moment) {
+        objects.retain(|view| is_in_time(moment, &view.object));
     }
-    total.saturating_add(object_size(object))
 }
 
-/// Drops the objects that aren't in time any more.
-pub(crate) fn keep_in_time(objects: &mut Vec<ObjectView>, moment: u64)
-    ensures { objects.new.items ≡ those_in_time moment objects.old.items }
+/// Puts the object before the others, under the number of its fetch.
+pub(crate) fn put_first(
+    objects: &mut VecDeque<ObjectView>,
+    token: u64,
+    object: &Shared<Object>,
+) -> Result<(), AllocError>
+    ensures ok { OnOk result (objects.new.items ≡ record { number = token; hits = 0; object = object.now } ∷ objects.old.items) }
+    ensures err { OnErr result (objects.new.items ≡ objects.old.items) }
 {
-    objects.retain(|view| is_in_time(moment, &view.object));
+    let view = ObjectView {
+        number: token,
+        hits: 0,
+        object: object.copy()?,
+    };
+    objects.push_front(view)?;
+    Ok(())
 }
 
-pub(crate) fn close_fetch(fetches: &mut Vec<OpenFetch>, token: u64)
+pub(crate) fn close_fetch(fetches: &mut VecDeque<OpenFetch>, token: u64)
     ensures { fetches.new.items ≡ without_fetch token fetches.old.items }
 {
     fetches.retain(|fetch| fetch.token != token);
 }
 
-pub(crate) fn close_fetches_of(fetches: &mut Vec<OpenFetch>, caller: u32)
+pub(crate) fn close_fetches_of(fetches: &mut VecDeque<OpenFetch>, caller: u32)
     ensures { fetches.new.items ≡ without_fetches_of caller fetches.old.items }
 {
     fetches.retain(|fetch| fetch.caller != caller);
 }
 
-pub(crate) fn close_round_of(rounds: &mut Vec<OpenRound>, caller: u32)
+pub(crate) fn close_round_of(rounds: &mut VecDeque<OpenRound>, caller: u32)
     ensures { rounds.new.items ≡ without_round_of caller rounds.old.items }
 {
     rounds.retain(|round| round.caller != caller);
 }
 
 /// How many fetches there are beside that of this number.
-pub(crate) fn count_without(fetches: &[OpenFetch], token: u64) -> usize
-    ensures { result ≡ length (without_fetch token fetches.now) }
+pub(crate) fn count_without(fetches: &VecDeque<OpenFetch>, token: u64) -> usize
+    ensures { result ≡ length (without_fetch token fetches.now.items) }
 {
     fetches.iter().filter(|fetch| fetch.token != token).count()
 }
 
-pub(crate) fn count_fetches_without(fetches: &[OpenFetch], caller: u32) -> usize
-    ensures { result ≡ length (without_fetches_of caller fetches.now) }
+pub(crate) fn count_fetches_without(fetches: &VecDeque<OpenFetch>, caller: u32) -> usize
+    ensures { result ≡ length (without_fetches_of caller fetches.now.items) }
 {
     fetches
         .iter()
@@ -96,8 +137,8 @@ pub(crate) fn count_fetches_without(fetches: &[OpenFetch], caller: u32) -> usize
         .count()
 }
 
-pub(crate) fn count_rounds_without(rounds: &[OpenRound], caller: u32) -> usize
-    ensures { result ≡ length (without_round_of caller rounds.now) }
+pub(crate) fn count_rounds_without(rounds: &VecDeque<OpenRound>, caller: u32) -> usize
+    ensures { result ≡ length (without_round_of caller rounds.now.items) }
 {
     rounds.iter().filter(|round| round.caller != caller).count()
 }

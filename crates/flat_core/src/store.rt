@@ -1,73 +1,96 @@
 // What the plain cache holds, and how each call changes it.
-ghost use Rattle.std.specs.Prelude.{◌≡◌, ℕ, ◌∷◌, ◌+◌, ◌*◌, ◌<◌, ◌^◌, true, length, IfOk, OnOk, OnErr, IsOk, IsTrue, ◌≤◌, ◌↔◌, ◌&&◌, is_none, find, position, slice_index_or, slice_set, if◌then◌else◌};
+ghost use Rattle.std.specs.Prelude.{◌≡◌, ℕ, ◌+◌, ◌*◌, ◌<◌, ◌^◌, true, length, if◌then◌else◌, Some, IfOk, OnOk, OnErr, IsOk, IsTrue, ◌≤◌, ◌↔◌, slice_index_or, slice_set};
 ghost use Rattle.cache_law.specs.declared.object.ObjectView.{ObjectView as Stood};
 ghost use Rattle.cache_law.specs.declared.call.Call.TheVariants.{Begin as BeginCall, Lookup as LookupCall, Pick as PickCall, Insert as InsertCall, End as EndCall};
-ghost use Rattle.cache_law.specs.declared.call.Reply.TheVariants.{Began, NoRound, Hit, Picked, NotOpen, Ended};
-ghost use Rattle.cache_law.specs.declared.setting.Params.{Params as Limits};
-ghost use Rattle.cache_law.specs.declared.setting.Boot.{Boot as Opening};
-ghost use Rattle.cache_law.specs.State.{opening, has_round, has_fetch, reserve, without_fetch, without_fetches_of, without_round_of};
-ghost use Rattle.cache_law.specs.Law.{reply_to, after, serves, hit_or_miss, raised, insertion, boot_vcl};
-ghost use Rattle.cache_law.specs.History.{Fits};
+ghost use Rattle.cache_law.specs.declared.call.Reply.TheVariants.{Began, Hit, Picked};
+ghost use Rattle.cache_law.specs.State.{at_moment, reserve, has_round, has_fetch, without_fetch, without_fetches_of, without_round_of};
+ghost use Rattle.cache_law.specs.Beginning.{base_of};
+ghost use Rattle.cache_law.specs.Lookup.{raised};
+ghost use Rattle.cache_law.specs.Law.{answered, begun, looked_up, leaving, inserted, ended};
 ghost use Rattle.cache_law.specs.Core.{is_kept};
+ghost use Rattle.flat_core.specs.Kept.{place_for};
 ghost use Rattle.flat_core.specs.Step.{Answers};
 
 use crate::answer::Answer;
 use crate::lists::{
     close_fetch, close_fetches_of, close_round_of, count_fetches_without, count_rounds_without,
-    count_without, has_fetch, has_round, keep_in_time, place_of, room_for,
+    count_without, has_fetch, has_round, keep_in_time, place_of, put_first, sizes_of,
 };
 use cache_law::{
-    Boot, Call, Object, ObjectView, OpenFetch, OpenRound, Params, Reply, RequestView, entry_bytes,
-    is_in_time,
+    Boot, Call, Object, ObjectView, OpenFetch, OpenRound, Query, Reply, Shared, Vcl, is_in_time,
+    object_size,
 };
 use std::alloc::{AllocError, Global};
+use std::collections::VecDeque;
 use std::marker::Model;
-use units::{Copied, Sequence, Text};
+use units::{Copied, Text};
 
 /// The number of the opening VCL.
 const BOOT_VCL: u32 = 1;
 
-/// The state, with the newest of each list first.
+/// What is kept, with the newest of each list first. Objects that aren't in time any more stand here until the
+/// next insertion: the law answers from those in time alone.
 #[derive(Drop)]
 pub(crate) struct Store {
     moment: u64,
     next: u64,
-    objects: Vec<ObjectView>,
-    fetches: Vec<OpenFetch>,
-    rounds: Vec<OpenRound>,
+    active: Vcl,
+    objects: VecDeque<ObjectView>,
+    fetches: VecDeque<OpenFetch>,
+    rounds: VecDeque<OpenRound>,
 }
 
 impl Model for Store {
+    ghost use Rattle.std.specs.Prelude.{[]};
     ghost use Rattle.cache_law.specs.State.{State};
+    ghost use Rattle.flat_core.specs.Kept.{held_all};
 
     ghost Value = { State };
 
     ghost view = { λ s. record {
       moment = s.moment;
       next = s.next;
-      objects = s.objects.items;
+      active = s.active;
+      bans = [];
+      objects = held_all s.objects.items;
       fetches = s.fetches.items;
       rounds = s.rounds.items;
     } };
 }
 
 impl Store {
-    pub fn new(alloc: Global) -> Store
-        ensures { result ≡ opening }
+    pub fn new(alloc: Global, boot: &Boot) -> Result<Store, AllocError>
+        ensures { IfOk result (λ store. store ≡ base_of boot.now) }
     {
-        Store {
+        let active = Vcl {
+            number: BOOT_VCL,
+            text: boot.text.copy()?,
+            backends: boot.backends.copied(alloc)?,
+        };
+        Ok(Store {
             moment: 0,
             next: 1,
-            objects: Vec::new(alloc),
-            fetches: Vec::new(alloc),
-            rounds: Vec::new(alloc),
-        }
+            active,
+            objects: VecDeque::new(alloc),
+            fetches: VecDeque::new(alloc),
+            rounds: VecDeque::new(alloc),
+        })
     }
 
     pub fn moment(&self) -> u64
         ensures { result ≡ self.now.moment }
     {
         self.moment
+    }
+
+    /// The place of the object that the call is answered with.
+    pub fn find(&self, moment: u64, call: &Call) -> Option<usize>
+        ensures { result ≡ place_for self.now moment call.now }
+    {
+        match call {
+            Call::Lookup(query) => place_of(&self.objects, moment, query),
+            Call::Begin | Call::Pick { .. } | Call::Insert { .. } | Call::End => None,
+        }
     }
 
     /// How many rounds and fetches are open.
@@ -78,22 +101,22 @@ impl Store {
         self.rounds.len() as u128 + self.fetches.len() as u128
     }
 
-    /// How many rounds and fetches are open after the call.
-    pub fn open_after(&self, caller: u32, moment: u64, call: &Call) -> u128
-        ensures reserve { (params : Limits) (boot : Opening) →
-            64 * result ≡ reserve (after self.now caller moment call.now (reply_to params boot self.now caller moment call.now)) }
+    /// How many rounds and fetches are open behind the law's answer to the call, which finds its object here.
+    pub fn open_after(&self, caller: u32, moment: u64, call: &Call, place: Option<usize>) -> u128
+        requires { place ≡ place_for self.now moment call.now }
+        ensures reserve { (room : ℕ) → 64 * result ≡ reserve (answered room (at_moment moment self.now) caller call.now).state }
         ensures bound { result ≤ 2 ^ 65 }
     {
         match call {
             Call::Begin => {
-                if has_round(self.rounds.as_slice(), caller) {
+                if has_round(&self.rounds, caller) {
                     self.open()
                 } else {
                     self.open() + 1
                 }
             }
-            Call::Lookup { key, .. } => {
-                if self.is_miss(caller, moment, key.as_slice()) {
+            Call::Lookup(_) => {
+                if has_round(&self.rounds, caller) && place.is_none() {
                     self.open() + 1
                 } else {
                     self.open()
@@ -105,22 +128,15 @@ impl Store {
         }
     }
 
-    fn is_miss(&self, caller: u32, moment: u64, key: &[Text]) -> bool
-        ensures { result ≡ (has_round self.now.rounds caller && is_none (position (serves key.now moment) self.now.objects)) }
-    {
-        has_round(self.rounds.as_slice(), caller)
-            && place_of(self.objects.as_slice(), key, moment).is_none()
-    }
-
     /// What is open once the fetch is closed, if it is open for the caller.
     fn open_without_fetch(&self, caller: u32, token: u64) -> u128
         ensures value { result ≡ length self.now.rounds + (if has_fetch self.now.fetches caller token then length (without_fetch token self.now.fetches) else length self.now.fetches) }
         ensures bound { result < 2 ^ 65 }
     {
-        if !has_fetch(self.fetches.as_slice(), caller, token) {
+        if !has_fetch(&self.fetches, caller, token) {
             return self.open();
         }
-        let others = count_without(self.fetches.as_slice(), token);
+        let others = count_without(&self.fetches, token);
         self.rounds.len() as u128 + others as u128
     }
 
@@ -131,71 +147,59 @@ impl Store {
             else length self.now.rounds + length self.now.fetches) }
         ensures bound { result < 2 ^ 65 }
     {
-        if !has_round(self.rounds.as_slice(), caller) {
+        if !has_round(&self.rounds, caller) {
             return self.open();
         }
-        let rounds = count_rounds_without(self.rounds.as_slice(), caller);
-        let fetches = count_fetches_without(self.fetches.as_slice(), caller);
+        let rounds = count_rounds_without(&self.rounds, caller);
+        let fetches = count_fetches_without(&self.fetches, caller);
         rounds as u128 + fetches as u128
     }
 
-    /// Whether the call fits behind a history of this many bytes.
-    pub fn fits(&self, params: &Params, used: u64, caller: u32, moment: u64, call: &Call) -> bool
-        ensures { (boot : Opening) → (IsTrue result ↔ Fits params.now boot self.now used caller moment call.now) }
-    {
-        let reserved = 64 * self.open_after(caller, moment, call);
-        let wanted = entry_bytes(call)
-            .saturating_add(u128::from(used))
-            .saturating_add(reserved);
-        wanted <= u128::from(params.history)
-    }
-
-    /// Answers the call, and leaves the state behind it. Where memory is wanting, all is as before.
+    /// Answers the call, which finds its object here, and leaves what is kept behind it. Where memory is wanting,
+    /// all is as before.
     pub fn answer(
         &mut self,
         alloc: Global,
-        params: &Params,
-        boot: &Boot,
+        room: u64,
         caller: u32,
         moment: u64,
         call: &Call,
+        place: Option<usize>,
     ) -> Result<Answer, AllocError>
-        requires { self.old.next + 1 < 2 ^ 64 }
-        ensures ok { IfOk result (Answers self.old self.new caller moment call.now (reply_to params.now boot.now self.old caller moment call.now)) }
+        requires found { place ≡ place_for self.old moment call.now }
+        requires numbers { self.old.next + 1 < 2 ^ 64 }
+        ensures ok { IfOk result (Answers self.old self.new moment call.now (answered room (at_moment moment self.old) caller call.now)) }
         ensures err { OnErr result (self.new ≡ self.old) }
         ensures kept { is_kept self.old caller call.now ≡ true → IsOk result }
     {
         match call {
-            Call::Begin => self.begin(boot, caller, moment),
-            Call::Lookup { key, request } => self.lookup(alloc, caller, moment, key, request),
+            Call::Begin => self.begin(caller, moment),
+            Call::Lookup(query) => self.lookup(alloc, caller, moment, query, place),
             Call::Pick { target, .. } => self.pick(moment, target),
-            Call::Insert { token, object } => {
-                Ok(self.insert(alloc, params.room, caller, moment, *token, object))
-            }
+            Call::Insert { token, object } => Ok(self.insert(room, caller, moment, *token, object)),
             Call::End => Ok(self.end(caller, moment)),
         }
     }
 
-    fn begin(&mut self, boot: &Boot, caller: u32, moment: u64) -> Result<Answer, AllocError>
+    fn begin(&mut self, caller: u32, moment: u64) -> Result<Answer, AllocError>
         requires { self.old.next + 1 < 2 ^ 64 }
-        ensures ok { IfOk result (Answers self.old self.new caller moment BeginCall
-            (if has_round self.old.rounds caller then NoRound else Began self.old.next boot_vcl boot.now.text)) }
+        ensures ok { IfOk result (Answers self.old self.new moment BeginCall (begun (at_moment moment self.old) caller)) }
         ensures err { OnErr result (self.new ≡ self.old) }
     {
-        if has_round(self.rounds.as_slice(), caller) {
+        if has_round(&self.rounds, caller) {
             self.moment = moment;
             return Ok(Answer {
                 told: Reply::NoRound,
                 kept: Reply::NoRound,
             });
         }
-        let told = began(self.next, boot)?;
-        let kept = began(self.next, boot)?;
+        let told = began(self.next, &self.active)?;
+        let kept = began(self.next, &self.active)?;
         let round = OpenRound {
             caller,
-            vcl: BOOT_VCL,
+            vcl: self.active.number,
         };
-        self.rounds.insert(0, round)?;
+        self.rounds.push_front(round)?;
         self.next += 1;
         self.moment = moment;
         Ok(Answer { told, kept })
@@ -206,30 +210,31 @@ impl Store {
         alloc: Global,
         caller: u32,
         moment: u64,
-        key: &Sequence<Text>,
-        request: &RequestView,
+        query: &Shared<Query>,
+        place: Option<usize>,
     ) -> Result<Answer, AllocError>
-        requires { self.old.next + 1 < 2 ^ 64 }
-        ensures ok { IfOk result (Answers self.old self.new caller moment (LookupCall key.now request.now)
-            (if has_round self.old.rounds caller then hit_or_miss self.old.next (find (serves key.now moment) self.old.objects) else NoRound)) }
+        requires found { place ≡ place_for self.old moment (LookupCall query.now) }
+        requires numbers { self.old.next + 1 < 2 ^ 64 }
+        ensures ok { IfOk result (Answers self.old self.new moment (LookupCall query.now) (looked_up (at_moment moment self.old) caller query.now)) }
         ensures err { OnErr result (self.new ≡ self.old) }
     {
-        if !has_round(self.rounds.as_slice(), caller) {
+        if !has_round(&self.rounds, caller) {
             self.moment = moment;
             return Ok(Answer {
                 told: Reply::NoRound,
                 kept: Reply::NoRound,
             });
         }
-        match place_of(self.objects.as_slice(), key.as_slice(), moment) {
+        match place {
             Some(place) => {
-                let answer = hit_at(alloc, &mut self.objects, place)?;
+                let answer = hit_at(&mut self.objects, place)?;
                 self.moment = moment;
                 Ok(answer)
             }
             None => {
                 let token = self.next;
-                self.fetches.insert(0, OpenFetch { token, caller })?;
+                let key = query.key.copied(alloc)?;
+                self.fetches.push_front(OpenFetch { token, caller, key })?;
                 self.next += 1;
                 self.moment = moment;
                 Ok(Answer {
@@ -242,7 +247,7 @@ impl Store {
 
     /// So far a target is the name of one backend.
     fn pick(&mut self, moment: u64, target: &Text) -> Result<Answer, AllocError>
-        ensures ok { (caller vcl word : ℕ) → IfOk result (Answers self.old self.new caller moment (PickCall vcl target.now word) (Picked (Some target.now))) }
+        ensures ok { (vcl word : ℕ) → IfOk result (Answers self.old self.new moment (PickCall vcl target.now word) (leaving (at_moment moment self.old) (Picked (Some target.now)))) }
         ensures err { OnErr result (self.new ≡ self.old) }
     {
         let told = target.copy()?;
@@ -257,18 +262,16 @@ impl Store {
     /// Where memory is wanting, the insertion is refused.
     fn insert(
         &mut self,
-        alloc: Global,
         room: u64,
         caller: u32,
         moment: u64,
         token: u64,
-        object: &Object,
+        object: &Shared<Object>,
     ) -> Answer
-        ensures { Answers self.old self.new caller moment (InsertCall token object.now)
-            (if has_fetch self.old.fetches caller token then insertion room moment self.old.objects token object.now else NotOpen) result }
+        ensures { Answers self.old self.new moment (InsertCall token object.now) (inserted room (at_moment moment self.old) caller token object.now) result }
     {
         self.moment = moment;
-        if !has_fetch(self.fetches.as_slice(), caller, token) {
+        if !has_fetch(&self.fetches, caller, token) {
             return Answer {
                 told: Reply::NotOpen,
                 kept: Reply::NotOpen,
@@ -281,19 +284,19 @@ impl Store {
                 kept: Reply::NotInTime,
             };
         }
-        if room_for(self.objects.as_slice(), moment, object) > u128::from(room) {
+        keep_in_time(&mut self.objects, moment);
+        if sizes_of(&self.objects).saturating_add(object_size(object)) > u128::from(room) {
             return Answer {
                 told: Reply::NoRoom,
                 kept: Reply::NoRoom,
             };
         }
-        if put_first(alloc, &mut self.objects, token, object).is_err() {
+        if put_first(&mut self.objects, token, object).is_err() {
             return Answer {
                 told: Reply::Refused,
                 kept: Reply::Refused,
             };
         }
-        keep_in_time(&mut self.objects, moment);
         Answer {
             told: Reply::Stored(token),
             kept: Reply::Stored(token),
@@ -301,10 +304,10 @@ impl Store {
     }
 
     fn end(&mut self, caller: u32, moment: u64) -> Answer
-        ensures { Answers self.old self.new caller moment EndCall (if has_round self.old.rounds caller then Ended else NoRound) result }
+        ensures { Answers self.old self.new moment EndCall (ended (at_moment moment self.old) caller) result }
     {
         self.moment = moment;
-        if !has_round(self.rounds.as_slice(), caller) {
+        if !has_round(&self.rounds, caller) {
             return Answer {
                 told: Reply::NoRound,
                 kept: Reply::NoRound,
@@ -319,26 +322,26 @@ impl Store {
     }
 }
 
-fn began(number: u64, boot: &Boot) -> Result<Reply, AllocError>
-    ensures { IfOk result (λ reply. reply ≡ Began number boot_vcl boot.now.text) }
+fn began(number: u64, vcl: &Vcl) -> Result<Reply, AllocError>
+    ensures { IfOk result (λ reply. reply ≡ Began number vcl.now.number vcl.now.text) }
 {
     Ok(Reply::Began {
         number,
-        vcl: BOOT_VCL,
-        text: boot.text.copy()?,
+        vcl: vcl.number,
+        text: vcl.text.copy()?,
     })
 }
 
 /// Counts a hit of the object at this place, and answers with it.
-fn hit_at(alloc: Global, objects: &mut Vec<ObjectView>, place: usize) -> Result<Answer, AllocError>
+fn hit_at(objects: &mut VecDeque<ObjectView>, place: usize) -> Result<Answer, AllocError>
     requires { place < length objects.old.items }
     ensures told { IfOk result (λ answer. (d : Stood) → answer.told ≡ Hit (raised (slice_index_or objects.old.items place d))) }
     ensures twice { IfOk result (λ answer. answer.kept ≡ answer.told) }
     ensures counted { OnOk result ((d : Stood) → objects.new.items ≡ slice_set objects.old.items place (raised (slice_index_or objects.old.items place d))) }
     ensures err { OnErr result (objects.new.items ≡ objects.old.items) }
 {
-    let told = raised(alloc, &objects[place])?;
-    let kept = raised(alloc, &objects[place])?;
+    let told = raised(&objects[place])?;
+    let kept = raised(&objects[place])?;
     let view = &mut objects[place];
     view.hits = view.hits.saturating_add(1);
     Ok(Answer {
@@ -347,32 +350,13 @@ fn hit_at(alloc: Global, objects: &mut Vec<ObjectView>, place: usize) -> Result<
     })
 }
 
-/// A copy of the object, with one more hit.
-fn raised(alloc: Global, view: &ObjectView) -> Result<ObjectView, AllocError>
+/// The view with one more hit, of the same object.
+fn raised(view: &ObjectView) -> Result<ObjectView, AllocError>
     ensures { IfOk result (λ copy. copy ≡ raised view.now) }
 {
     Ok(ObjectView {
         number: view.number,
         hits: view.hits.saturating_add(1),
-        object: view.object.copied(alloc)?,
+        object: view.object.copy()?,
     })
-}
-
-/// Puts a copy of the object before the others.
-fn put_first(
-    alloc: Global,
-    objects: &mut Vec<ObjectView>,
-    token: u64,
-    object: &Object,
-) -> Result<(), AllocError>
-    ensures ok { OnOk result (objects.new.items ≡ record { number = token; hits = 0; object = object.now } ∷ objects.old.items) }
-    ensures err { OnErr result (objects.new.items ≡ objects.old.items) }
-{
-    let view = ObjectView {
-        number: token,
-        hits: 0,
-        object: object.copied(alloc)?,
-    };
-    objects.insert(0, view)?;
-    Ok(())
 }

@@ -1,6 +1,6 @@
 use super::*;
 use cache_law::{
-    Boot, CacheCore, Call, Object, Params, Reply, RequestView, StepError, Timing, Told,
+    Boot, CacheCore, Call, Object, Params, Query, Reply, RequestView, Shared, StepError, Timing, Told,
 };
 use http_heads::Fields;
 use std::alloc::{AllocError, Global};
@@ -40,16 +40,21 @@ fn object_of(alloc: Global, name: &[u8], body: &[u8], ttl: i64) -> Result<Object
     })
 }
 
+fn query_of(alloc: Global, name: &[u8]) -> Result<Shared<Query>, AllocError> {
+    let query = Query {
+        key: key_of(alloc, name)?,
+        request: RequestView {
+            url: Text::of(alloc, b"")?,
+            fields: Fields::new(alloc),
+        },
+    };
+    Shared::new(alloc, query)
+}
+
 fn call_of(alloc: Global, ask: Ask) -> Result<Call, AllocError> {
     Ok(match ask {
         Ask::Begin => Call::Begin,
-        Ask::Lookup(name) => Call::Lookup {
-            key: key_of(alloc, name)?,
-            request: RequestView {
-                url: Text::of(alloc, b"")?,
-                fields: Fields::new(alloc),
-            },
-        },
+        Ask::Lookup(name) => Call::Lookup(query_of(alloc, name)?),
         Ask::Pick(target) => Call::Pick {
             vcl: 1,
             target: Text::of(alloc, target)?,
@@ -57,7 +62,7 @@ fn call_of(alloc: Global, ask: Ask) -> Result<Call, AllocError> {
         },
         Ask::Insert(token, name, body, ttl) => Call::Insert {
             token,
-            object: object_of(alloc, name, body, ttl)?,
+            object: Shared::new(alloc, object_of(alloc, name, body, ttl)?)?,
         },
         Ask::End => Call::End,
     })

@@ -1,40 +1,117 @@
-use Rattle.std.proofs.Common.{rules, ◌≡◌, ◌<◌, ◌+◌, arith, length, ◌≤◌, ◌++◌, ◌∷◌, [], sym, subst}
+use Rattle.std.proofs.Common.{rules, true, ◌≡◌, ◌+◌, ◌*◌, ◌≤◌, ◌++◌, ◌∷◌, [], ◌<◌, arith, length, refl}
+use Rattle.std.specs.Prelude.{IsTrue}
 use Rattle.std.specs.Vec.{vec_capacity}
-use Rattle.cache_law.specs.History.{Fits, Legal, bytes_of}
+use Rattle.cache_law.specs.Beginning.{beginning_of}
+use Rattle.cache_law.specs.History.{bytes_of, Legal}
 use Rattle.flat_core.specs.Plain.{Plain}
-use Rattle.flat_core.proofs.Steps.{sound_behind, legal_behind, room_kept, opens_few, entered}
+use Rattle.flat_core.proofs.Steps.{Made, Answered, within_limit, room_kept, sound_behind, entered, legal_behind}
 use Rattle.flat_core.proofs.cache.FlatCoreCacheCore.step.Goals as goal
 
-pub overflow_cast-open : goal.overflow_cast-open
-overflow_cast-open c =
-    let fits : Fits c.self.inside.params c.self.inside.boot c.self.inside.store c.self.inside.used c.args.caller c.max-moment.result c.args.call = search rules in
-    let few = opens_few c.self.inside.params c.self.inside.boot c.self.inside.store c.self.inside.used c.args.caller c.max-moment.result c.args.call c.open_after-open.result fits (omega arith) (c.open_after-open.ensures.reserve c.self.inside.params c.self.inside.boot) in
-    omega (arith, few)
-
-pub overflow_add-open : goal.overflow_add-open
-overflow_add-open c =
-    let fits : Fits c.self.inside.params c.self.inside.boot c.self.inside.store c.self.inside.used c.args.caller c.max-moment.result c.args.call = search rules in
-    let few = opens_few c.self.inside.params c.self.inside.boot c.self.inside.store c.self.inside.used c.args.caller c.max-moment.result c.args.call c.open_after-open.result fits (omega arith) (c.open_after-open.ensures.reserve c.self.inside.params c.self.inside.boot) in
-    omega (arith, few)
+pub returns-then-not-fits-clause-full : goal.returns-then-not-fits-clause-full
+returns-then-not-fits-clause-full c =
+    let made : Made = record {
+      beginning = beginning_of c.self.inside.params c.self.inside.boot;
+      entries = c.self.inside.entries.items;
+      room = vec_capacity c.self.inside.entries;
+      used = c.self.inside.used;
+      old = c.self.inside.store;
+      caller = c.args.caller;
+      reading = c.args.reading;
+      moment = c.max-moment.result;
+      call = c.args.call;
+      opens = c.open_after-open.result;
+      sound = c.self.invariant;
+      at_ = search rules;
+      reserves = c.open_after-open.ensures.reserve c.self.inside.params.room;
+    } in
+    rw (← c.self.view_is) (λ full fits. let within = within_limit made fits in let yes_ : IsTrue c.fits.result = c.fits.ensures.1 within in search rules)
 
 pub returns-then-is_err-clause-kept : goal.returns-then-is_err-clause-kept
-returns-then-is_err-clause-kept c kept no_memory =
+returns-then-is_err-clause-kept c =
+    let made : Made = record {
+      beginning = beginning_of c.self.inside.params c.self.inside.boot;
+      entries = c.self.inside.entries.items;
+      room = vec_capacity c.self.inside.entries;
+      used = c.self.inside.used;
+      old = c.self.inside.store;
+      caller = c.args.caller;
+      reading = c.args.reading;
+      moment = c.max-moment.result;
+      call = c.args.call;
+      opens = c.open_after-open.result;
+      sound = c.self.invariant;
+      at_ = search rules;
+      reserves = c.open_after-open.ensures.reserve c.self.inside.params.room;
+    } in
     let full : vec_capacity c.self.inside.entries < length c.self.inside.entries.items + (c.open_after-open.result + 1) = search rules in
-    let room = room_kept c.self.inside.params c.self.inside.boot c.self.inside.entries.items (vec_capacity c.self.inside.entries) c.self.inside.used c.self.inside.store c.args.caller c.max-moment.result c.args.call c.open_after-open.result c.self.invariant (search rules) (c.open_after-open.ensures.reserve c.self.inside.params c.self.inside.boot) in
-    omega (arith, full, room)
+    rw (← c.self.view_is) (λ kept no_memory. let room = room_kept made kept in omega (arith, full, room))
 
 pub invariant_of-self-2 : goal.invariant_of-self-2
 invariant_of-self-2 c =
-    let fits : Fits c.self.inside.params c.self.inside.boot c.self.inside.store c.self.inside.used c.args.caller c.max-moment.result c.args.call = search rules in
-    let bytes : c.entry_bytes.result ≡ bytes_of c.args.call = omega (arith, fits.within) in
+    let made : Made = record {
+      beginning = beginning_of c.self.inside.params c.self.inside.boot;
+      entries = c.self.inside.entries.items;
+      room = vec_capacity c.self.inside.entries;
+      used = c.self.inside.used;
+      old = c.self.inside.store;
+      caller = c.args.caller;
+      reading = c.args.reading;
+      moment = c.max-moment.result;
+      call = c.args.call;
+      opens = c.open_after-open.result;
+      sound = c.self.invariant;
+      at_ = search rules;
+      reserves = c.open_after-open.ensures.reserve c.self.inside.params.room;
+    } in
+    let within : made.used + bytes_of made.call + 64 * made.opens ≤ made.beginning.params.history = search rules in
+    let done : Answered made = record { new = c.answer.new.self; answer = c.in-Ok.answer; answers = search rules; within = within } in
+    let bytes : c.entry_bytes.result ≡ bytes_of c.args.call = omega (arith, within) in
     let items : c.push_within_room.new.entries.items ≡ c.self.inside.entries.items ++ record { caller = c.args.caller; moment = c.max-moment.result; call = c.args.call; reply = c.in-Ok.answer.kept } ∷ [] = search rules in
     let room : length c.self.inside.entries.items + (c.open_after-open.result + 1) ≤ vec_capacity c.push_within_room.new.entries = search rules in
-    rw (items, bytes) (sound_behind c.self.inside.params c.self.inside.boot c.self.inside.entries.items (vec_capacity c.self.inside.entries) c.self.inside.used c.self.inside.store c.answer.new.self c.args.caller c.max-moment.result c.args.call c.in-Ok.answer c.open_after-open.result (vec_capacity c.push_within_room.new.entries) c.self.invariant fits (search rules) (c.open_after-open.ensures.reserve c.self.inside.params c.self.inside.boot) room)
+    rw (items, bytes) (sound_behind made done (vec_capacity c.push_within_room.new.entries) room)
+
+pub returns-clause-told : goal.returns-clause-told
+returns-clause-told c =
+    let made : Made = record {
+      beginning = beginning_of c.self.inside.params c.self.inside.boot;
+      entries = c.self.inside.entries.items;
+      room = vec_capacity c.self.inside.entries;
+      used = c.self.inside.used;
+      old = c.self.inside.store;
+      caller = c.args.caller;
+      reading = c.args.reading;
+      moment = c.max-moment.result;
+      call = c.args.call;
+      opens = c.open_after-open.result;
+      sound = c.self.invariant;
+      at_ = search rules;
+      reserves = c.open_after-open.ensures.reserve c.self.inside.params.room;
+    } in
+    let within : made.used + bytes_of made.call + 64 * made.opens ≤ made.beginning.params.history = search rules in
+    let done : Answered made = record { new = c.answer.new.self; answer = c.in-Ok.answer; answers = search rules; within = within } in
+    let bytes : c.entry_bytes.result ≡ bytes_of c.args.call = omega (arith, within) in
+    let items : c.push_within_room.new.entries.items ≡ c.self.inside.entries.items ++ record { caller = c.args.caller; moment = c.max-moment.result; call = c.args.call; reply = c.in-Ok.answer.kept } ∷ [] = search rules in
+    rw (← c.self.view_is, items) (entered made done c.len-place.result (search rules))
 
 pub returns-clause-legal : goal.returns-clause-legal
-returns-clause-legal c legal =
-    let fits : Fits c.self.inside.params c.self.inside.boot c.self.inside.store c.self.inside.used c.args.caller c.max-moment.result c.args.call = search rules in
+returns-clause-legal c =
+    let made : Made = record {
+      beginning = beginning_of c.self.inside.params c.self.inside.boot;
+      entries = c.self.inside.entries.items;
+      room = vec_capacity c.self.inside.entries;
+      used = c.self.inside.used;
+      old = c.self.inside.store;
+      caller = c.args.caller;
+      reading = c.args.reading;
+      moment = c.max-moment.result;
+      call = c.args.call;
+      opens = c.open_after-open.result;
+      sound = c.self.invariant;
+      at_ = search rules;
+      reserves = c.open_after-open.ensures.reserve c.self.inside.params.room;
+    } in
+    let within : made.used + bytes_of made.call + 64 * made.opens ≤ made.beginning.params.history = search rules in
+    let done : Answered made = record { new = c.answer.new.self; answer = c.in-Ok.answer; answers = search rules; within = within } in
+    let bytes : c.entry_bytes.result ≡ bytes_of c.args.call = omega (arith, within) in
     let items : c.push_within_room.new.entries.items ≡ c.self.inside.entries.items ++ record { caller = c.args.caller; moment = c.max-moment.result; call = c.args.call; reply = c.in-Ok.answer.kept } ∷ [] = search rules in
-    rw items (legal_behind c.self.inside.params c.self.inside.boot c.self.inside.entries.items _ c.args.caller c.args.reading c.args.call _
-    (entered c.self.inside.params c.self.inside.boot c.self.inside.entries.items (vec_capacity c.self.inside.entries) c.self.inside.used c.self.inside.store c.answer.new.self c.args.caller c.args.reading c.max-moment.result c.args.call c.in-Ok.answer c.self.invariant (search rules) fits (search rules))
-    (subst (λ (v : Plain). Legal v.params v.boot v.entries) (sym c.self.view_is) legal))
+    rw (← c.self.view_is, items) (legal_behind _ _ _ _ _ _ _ (entered made done _ refl))
