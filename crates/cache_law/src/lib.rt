@@ -20,7 +20,7 @@ pub use bytes::{entry_bytes, object_size};
 pub use cache::{CacheCore, StepError, Told};
 pub use call::{Call, Entry, Query, Reply, RequestView};
 pub use laws::closing_fits;
-pub use object::{Object, ObjectView, Timing, is_fresh_at, is_in_time, same_key};
+pub use object::{Object, ObjectView, Timing, is_fresh_at, is_in_time};
 pub use setting::{Boot, Params};
 pub use shared::Shared;
 pub use state::{OpenFetch, OpenRound, Vcl};

@@ -1,11 +1,11 @@
 // Objects, and how long they serve.
 ghost use Rattle.std.specs.Prelude.{◌≡◌, ◌^◌, ◌+ℤ◌, ◌≤ℤ◌, neg_ℤ, pos, IfOk};
-ghost use Rattle.cache_law.specs.Object.{serves_key, in_time, is_fresh};
+ghost use Rattle.cache_law.specs.Object.{in_time, is_fresh};
 
 use crate::Shared;
 use http_heads::Fields;
 use std::alloc::AllocError;
-use units::{Sequence, Text, same_text};
+use units::{Sequence, Text};
 
 /// When an object came to be and how long it serves, in milliseconds. `origin` counts from 1970.
 #[derive(Clone, Copy, Debug)]
@@ -47,17 +47,6 @@ impl ObjectView {
             hits: self.hits,
             object: self.object.copy()?,
         })
-    }
-}
-
-/// Whether two keys are the same list of texts.
-pub fn same_key(a: &[Text], b: &[Text]) -> bool
-    ensures { result ≡ serves_key a.now b.now }
-{
-    match (a, b) {
-        ([], []) => true,
-        ([x, rest @ ..], [y, others @ ..]) => same_text(x, y) && same_key(rest, others),
-        _ => false,
     }
 }
 

@@ -79,6 +79,13 @@ FoundAt now query views place =
     (view : ObjectView) × ((d : ObjectView) → get_or views place d ≡ view)
     × (scan_at now query views ≡ record { fresh = Some (raised view); objects = those_in_time now (held_all (set views place (raised view))) })
 
+-- an object that is no hit before objects of which one is found
+found_later : (now : ℕ) (query : Query) (view : ObjectView) (views : List ObjectView) (hit : ObjectView) (left : List Held) → is_hit now query view ≡ false → scan_at now query views ≡ record { fresh = Some (raised hit); objects = left } → scan_at now query (view ∷ views) ≡ record { fresh = Some (raised hit); objects = cond (in_time now view.object) (held_of view ∷ left) left }
+found_later now query view views hit left e rest =
+    scan_other now query view (in_time now view.object) (serves now query view.object) (those_in_time now (held_all views)) refl refl e
+    ∙ ap (λ (scan : Scan Held). cond (in_time now view.object) (passing (held_of view) scan) scan) rest
+    ∙ passed_or_gone (in_time now view.object) (held_of view) (Some (raised hit)) left
+
 found_step : (now : ℕ) (query : Query) (view : ObjectView) (views : List ObjectView) (place : ℕ) (hit : Bool) → hit ≡ is_hit now query view → cond (not hit) (1 + position_or_len (is_hit now query) views) 0 ≡ place → place < length (view ∷ views) → ((i : ℕ) → position_or_len (is_hit now query) views ≡ i → i < length views → FoundAt now query views i) → FoundAt now query (view ∷ views) place
 found_step now query view views zero true e at_ below later =
     let lives : in_time now view.object ≡ true = (and_parts _ _ (sym e)).0 in
@@ -89,10 +96,7 @@ found_step now query view views (suc place) true e at_ below later = cc
 found_step now query view views zero false e at_ below later = absurd (omega arith)
 found_step now query view views (suc place) false e at_ below later =
     let rest = later place (omega arith) (omega arith) in
-    (rest.0, rest.1,
-      scan_other now query view (in_time now view.object) (serves now query view.object) (those_in_time now (held_all views)) refl refl (sym e)
-      ∙ ap (λ (scan : Scan Held). cond (in_time now view.object) (passing (held_of view) scan) scan) rest.2
-      ∙ passed_or_gone (in_time now view.object) (held_of view) (Some (raised rest.0)) (those_in_time now (held_all (set views place (raised rest.0)))))
+    (rest.0, rest.1, found_later now query view views rest.0 (those_in_time now (held_all (set views place (raised rest.0)))) (sym e) rest.2)
 
 pub scan_found : (now : ℕ) (query : Query) (views : List ObjectView) (place : ℕ) → position_or_len (is_hit now query) views ≡ place → place < length views → FoundAt now query views place
 scan_found now query [] place at_ below = absurd (omega arith)

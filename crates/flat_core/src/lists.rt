@@ -7,7 +7,6 @@ ghost use Rattle.flat_core.specs.Kept.{held_all, is_hit};
 
 use cache_law::{
     Object, ObjectView, OpenFetch, OpenRound, Query, Shared, is_fresh_at, is_in_time, object_size,
-    same_key,
 };
 use std::alloc::AllocError;
 use std::collections::VecDeque;
@@ -33,7 +32,7 @@ fn is_hit(moment: u64, query: &Query, view: &ObjectView) -> bool
     ensures { result ≡ is_hit moment query.now view.now }
 {
     is_in_time(moment, &view.object)
-        && same_key(view.object.key.as_slice(), query.key.as_slice())
+        && view.object.key.as_slice() == query.key.as_slice()
         && is_fresh_at(moment, &view.object)
 }
 
