@@ -1,6 +1,5 @@
 -- An answer leaves the moment as it is, and draws one number at most.
-use Rattle.std.proofs.Common.{◌≡◌, ℕ, Bool, true, false, cond, List, ◌+◌, ◌≤◌, Option, Some, None, nat_lt, refl, arith}
-use Rattle.cache_law.specs.declared.object.Object.{Object}
+use Rattle.std.proofs.Common.{◌≡◌, ℕ, Bool, true, false, cond, List, ◌+◌, ◌≤◌, Option, Some, None, refl, arith}
 use Rattle.cache_law.specs.declared.object.ObjectView.{ObjectView}
 use Rattle.cache_law.specs.declared.call.Call.{Call}
 use Rattle.cache_law.specs.declared.call.Call.TheVariants.{Begin, Lookup, Pick, Insert, End}
@@ -10,7 +9,7 @@ use Rattle.cache_law.specs.Object.{in_time}
 use Rattle.cache_law.specs.State.{State, Held, at_moment, has_round, has_fetch}
 use Rattle.cache_law.specs.Beginning.{Beginning}
 use Rattle.cache_law.specs.Lookup.{scanned}
-use Rattle.cache_law.specs.Law.{Step, answered, leaving, found, closing, stored, refused, behind, after}
+use Rattle.cache_law.specs.Law.{Step, answered, found, closing, refused, behind, after}
 
 pub record Grows (old new : State) : Type 0 where
   pub moment : new.moment ≡ old.moment
@@ -34,12 +33,12 @@ pub answered_grows : (room : ℕ) (state : State) (caller : ℕ) (call : Call) �
 answered_grows room state caller Begin = either state (has_round state.rounds caller) _ _ (stays state) (record { moment = refl; next = omega arith })
 answered_grows room state caller (Lookup query) =
     either state (has_round state.rounds caller) _ _
-      (found_grows state (scanned state.moment query state.objects).objects caller query.key (scanned state.moment query state.objects).fresh) (stays state)
+    (found_grows state (scanned state.moment query state.objects).objects caller query.key (scanned state.moment query state.objects).fresh) (stays state)
 answered_grows room state caller (Pick vcl target word) = stays state
 answered_grows room state caller (Insert token object) =
     either state (has_fetch state.fetches caller token) _ _
-      (either state (in_time state.moment object) _ _ (either state _ _ _ (closes state token NoRoom) (record { moment = refl; next = omega arith })) (closes state token NotInTime))
-      (stays state)
+    (either state (in_time state.moment object) _ _ (either state _ _ _ (closes state token NoRoom) (record { moment = refl; next = omega arith })) (closes state token NotInTime))
+    (stays state)
 answered_grows room state caller End = either state (has_round state.rounds caller) _ _ (record { moment = refl; next = omega arith }) (stays state)
 
 refused_grows : (state : State) (call : Call) → Grows state (refused state call)

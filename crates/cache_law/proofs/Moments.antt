@@ -1,5 +1,5 @@
 -- What isn't in time at a moment isn't in time later, so a state can be read as it is at its own moment first.
-use Rattle.std.proofs.Common.{◌≡◌, ℕ, ℤ, Bool, true, false, cond, List, [], ◌∷◌, ◌≤◌, pos, negsuc, refl, arith, ap, nat_lt}
+use Rattle.std.proofs.Common.{◌≡◌, ℕ, ℤ, Bool, true, false, cond, List, [], ◌∷◌, ◌≤◌, pos, negsuc, refl, arith, ap}
 use Rattle.std.specs.Int.Signed.{lt_z}
 use Rattle.std.proofs.lemmas.Bool.{ltb-true, lt-ltb, false≢true}
 use Rattle.cache_law.specs.declared.call.Call.{Call}

@@ -1,22 +1,18 @@
 -- What is reserved serves the closing of what is open.
-use Rattle.std.proofs.Common.{◌≡◌, ◌≢◌, ◌⊎◌, ℕ, Bool, true, false, not, cond, List, [], ◌∷◌, ◌+◌, ◌*◌, ◌≤◌, inl, inr, ◌||◌, ◌&&◌, ◌==◌, length, filter, Option, Some, None, nat_lt, refl, arith, sym, ap, subst, ◌∙◌}
+use Rattle.std.proofs.Common.{◌≡◌, ℕ, Bool, true, false, not, cond, List, [], ◌∷◌, ◌+◌, ◌*◌, ◌≤◌, inl, inr, ◌||◌, ◌&&◌, ◌==◌, length, filter, refl, arith, sym, ap, subst}
 use Rattle.std.specs.List.{list_any}
 use Rattle.std.proofs.lemmas.Bool.{cases_Bool, cond-false, true≢false, false≢true, and_parts}
 use Rattle.cache_law.specs.declared.object.Object.{Object}
-use Rattle.cache_law.specs.declared.object.ObjectView.{ObjectView}
-use Rattle.cache_law.specs.declared.call.Query.{Query}
 use Rattle.cache_law.specs.declared.call.Call.{Call}
 use Rattle.cache_law.specs.declared.call.Call.TheVariants.{Begin, Lookup, Pick, Insert, End}
 use Rattle.cache_law.specs.declared.call.Reply.{Reply}
-use Rattle.cache_law.specs.declared.call.Reply.TheVariants.{Began, NoRound, Hit, Miss, Picked, Stored, NotOpen, NotInTime, NoRoom, Refused, Ended}
+use Rattle.cache_law.specs.declared.call.Reply.TheVariants.{NoRound, NotOpen, NotInTime, NoRoom, Ended}
 use Rattle.cache_law.specs.declared.call.Entry.{Entry}
 use Rattle.cache_law.specs.declared.state.OpenRound.{OpenRound}
 use Rattle.cache_law.specs.declared.state.OpenFetch.{OpenFetch}
 use Rattle.cache_law.specs.State.{State, at_moment, reserve, has_round, has_fetch, without_fetch, without_round_of}
-use Rattle.cache_law.specs.Object.{in_time}
 use Rattle.cache_law.specs.Beginning.{Beginning}
-use Rattle.cache_law.specs.Lookup.{scanned}
-use Rattle.cache_law.specs.Law.{Step, step_of, answered, begun, leaving, found, placed, inserted, closing, stored, ended, after, behind, refused, MayAnswer}
+use Rattle.cache_law.specs.Law.{step_of, leaving, closing, stored, after, MayAnswer}
 use Rattle.cache_law.specs.History.{bytes_of, bytes_of_all, next_state, reached_from, reached, LegalFrom, Legal}
 use Rattle.cache_law.specs.Core.{FitsBehind}
 use Rattle.cache_law.proofs.Histories.{bytes_of_all-cons}
@@ -84,7 +80,7 @@ reserve-after beginning state caller moment (Insert token object) answer (inl la
 reserve-after beginning state caller moment (Insert token object) answer (inr free) =
     let opened = not_open beginning.params.room (at_moment moment state) caller token object (has_fetch state.fetches caller token) _ free.1 in
     let least = refused_by_cases (at_moment moment state) token (has_fetch state.fetches caller token) _ opened
-      (reserve-inserted beginning.params.room (at_moment moment state) caller token object (has_fetch state.fetches caller token) _ _) in
+    (reserve-inserted beginning.params.room (at_moment moment state) caller token object (has_fetch state.fetches caller token) _ _) in
     subst (λ (r : Reply). reserve (after beginning state caller moment (Insert token object) r) ≤ reserve (step_of beginning state caller moment (Insert token object)).state) (sym free.0) least
 reserve-after beginning state caller moment End answer may =
     omega (arith, ap reserve (after-lawful beginning state caller moment End answer may))

@@ -27,11 +27,7 @@ pub enum Call {
     /// Asks for an object of the key.
     Lookup(Shared<Query>),
     /// Asks which backend a target stands for. So far a target is the name of one backend.
-    Pick {
-        vcl: u32,
-        target: Text,
-        word: u64,
-    },
+    Pick { vcl: u32, target: Text, word: u64 },
     /// Hands over the object that the fetch of this number made.
     Insert { token: u64, object: Shared<Object> },
     /// Closes the caller's round and its open fetches.

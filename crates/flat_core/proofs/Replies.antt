@@ -1,24 +1,24 @@
 -- What each answer of the plain cache leaves is what the law leaves.
-use Rattle.std.proofs.Common.{◌≡◌, ◌≢◌, ℕ, Bool, true, false, cond, List, [], ◌∷◌, ◌+◌, ◌<◌, ◌≤◌, length, get_or, set, find, position, filter, Option, Some, None, nat_lt, inl, inr, refl, arith, sym, ap, ◌∙◌, subst}
+use Rattle.std.proofs.Common.{◌≡◌, ◌≢◌, ℕ, Bool, true, false, cond, List, ◌∷◌, ◌+◌, ◌<◌, ◌≤◌, length, get_or, set, find, filter, None, nat_lt, inr, refl, arith, sym, ap, ◌∙◌, subst}
 use Rattle.std.specs.List.{position_or_len}
 use Rattle.std.proofs.lemmas.Bool.{cond-true, cond-false, lt-ltb, le-ltb}
 use Rattle.cache_law.specs.declared.object.Object.{Object}
 use Rattle.cache_law.specs.declared.object.ObjectView.{ObjectView}
 use Rattle.cache_law.specs.declared.call.Query.{Query}
 use Rattle.cache_law.specs.declared.call.Call.{Call}
-use Rattle.cache_law.specs.declared.call.Call.TheVariants.{Begin, Lookup, Pick, Insert, End}
+use Rattle.cache_law.specs.declared.call.Call.TheVariants.{Begin, Lookup, Insert, End}
 use Rattle.cache_law.specs.declared.call.Reply.{Reply}
-use Rattle.cache_law.specs.declared.call.Reply.TheVariants.{Began, NoRound, Hit, Miss, Picked, Stored, NotOpen, NotInTime, NoRoom, Refused, Ended}
+use Rattle.cache_law.specs.declared.call.Reply.TheVariants.{Began, NoRound, Hit, Miss, Stored, NotOpen, NotInTime, NoRoom, Refused, Ended}
 use Rattle.cache_law.specs.declared.state.OpenFetch.{OpenFetch}
 use Rattle.cache_law.specs.declared.state.OpenRound.{OpenRound}
 use Rattle.cache_law.specs.Object.{in_time, size_of}
 use Rattle.cache_law.specs.State.{State, Held, those_in_time, at_moment, has_round, has_fetch, without_fetch, without_fetches_of, without_round_of, stored_over, sizes_of}
 use Rattle.cache_law.specs.Lookup.{Scan, scanned, raised}
-use Rattle.cache_law.specs.Law.{Step, MayAnswer, behind, refused, leaving, begun, found, found_by, looked_up, closing, stored, placed, inserted, ended}
+use Rattle.cache_law.specs.Law.{Step, behind, refused, leaving, begun, found_by, looked_up, closing, stored, placed, inserted, ended}
 use Rattle.cache_law.proofs.Moments.{those_in_time-later}
 use Rattle.cache_law.proofs.Lawful.{is_refusal, behind_lawful, MayAnswer-lawful}
 use Rattle.flat_core.specs.declared.answer.Answer.{Answer}
-use Rattle.flat_core.specs.Kept.{held_of, held_all, is_hit}
+use Rattle.flat_core.specs.Kept.{held_all, is_hit}
 use Rattle.flat_core.specs.Step.{Answers}
 use Rattle.flat_core.proofs.Scans.{held_all-filter, scan_missed, scan_found}
 
@@ -41,7 +41,7 @@ by_law old new now call law reply state answer is_ lawful at_ same told kept =
 pub stays : (old : State) (now : ℕ) (call : Call) (law : Step) (reply : Reply) (answer : Answer) → law ≡ leaving (at_moment now old) reply → is_refusal reply ≡ false → answer.told ≡ reply → answer.kept ≡ reply → Answers old (record old { moment = now }) now call law answer
 stays old now call law reply answer is_ lawful told kept =
     by_law old (record old { moment = now }) now call law reply (at_moment now old) answer is_ lawful refl
-      (ap (λ (objects : List Held). record old { moment = now; objects = objects }) (sym (once now old.objects))) told kept
+    (ap (λ (objects : List Held). record old { moment = now; objects = objects }) (sym (once now old.objects))) told kept
 
 -- the caller's round is open already, or isn't open
 pub begins_not : (old : State) (now caller : ℕ) (answer : Answer) → has_round old.rounds caller ≡ true → answer.told ≡ NoRound → answer.kept ≡ NoRound → Answers old (record old { moment = now }) now Begin (begun (at_moment now old) caller) answer
@@ -62,8 +62,8 @@ inserts_not room old now caller token object answer closed told kept =
 pub begins : (old : State) (now caller : ℕ) (rounds : List OpenRound) (answer : Answer) → has_round old.rounds caller ≡ false → rounds ≡ record { caller = caller; vcl = old.active.number } ∷ old.rounds → answer.told ≡ Began old.next old.active.number old.active.text → answer.kept ≡ Began old.next old.active.number old.active.text → Answers old (record old { moment = now; next = old.next + 1; rounds = rounds }) now Begin (begun (at_moment now old) caller) answer
 begins old now caller rounds answer closed opens told kept =
     by_law old _ now Begin (begun (at_moment now old) caller) _ _ answer (cond-false _ _ _ closed) refl refl
-      (ap (λ (r : List OpenRound). record old { moment = now; next = old.next + 1; rounds = r; objects = those_in_time now old.objects }) opens
-        ∙ ap (λ (objects : List Held). record old { moment = now; next = old.next + 1; rounds = record { caller = caller; vcl = old.active.number } ∷ old.rounds; objects = objects }) (sym (once now old.objects))) told kept
+    (ap (λ (r : List OpenRound). record old { moment = now; next = old.next + 1; rounds = r; objects = those_in_time now old.objects }) opens
+    ∙ ap (λ (objects : List Held). record old { moment = now; next = old.next + 1; rounds = record { caller = caller; vcl = old.active.number } ∷ old.rounds; objects = objects }) (sym (once now old.objects))) told kept
 
 -- the law's step of a lookup in an open round, by what its scan gives
 by_scan : (old : State) (now caller : ℕ) (query : Query) (scan : Scan Held) → has_round old.rounds caller ≡ true → scanned now query (those_in_time now old.objects) ≡ scan → looked_up (at_moment now old) caller query ≡ found_by (at_moment now old) caller query.key scan
@@ -73,10 +73,10 @@ by_scan old now caller query scan opened e = cond-true _ _ _ opened ∙ ap (foun
 pub misses : (old : State) (views : List ObjectView) (now caller : ℕ) (query : Query) (fetches : List OpenFetch) (answer : Answer) → old.objects ≡ held_all views → has_round old.rounds caller ≡ true → find (is_hit now query) views ≡ None → fetches ≡ record { token = old.next; caller = caller; key = query.key } ∷ old.fetches → answer.told ≡ Miss old.next → answer.kept ≡ Miss old.next → Answers old (record old { moment = now; next = old.next + 1; fetches = fetches }) now (Lookup query) (looked_up (at_moment now old) caller query) answer
 misses old views now caller query fetches answer kept_ opened none_ opens told kept =
     by_law old _ now (Lookup query) (looked_up (at_moment now old) caller query) _ _ answer
-      (by_scan old now caller query _ opened (ap (λ (objects : List Held). scanned now query (those_in_time now objects)) kept_ ∙ scan_missed now query views none_ ∙ ap (λ (objects : List Held). record { fresh = None; objects = those_in_time now objects }) (sym kept_)))
-      refl refl
-      (ap (λ (f : List OpenFetch). record old { moment = now; next = old.next + 1; fetches = f; objects = those_in_time now old.objects }) opens
-        ∙ ap (λ (objects : List Held). record old { moment = now; next = old.next + 1; fetches = record { token = old.next; caller = caller; key = query.key } ∷ old.fetches; objects = objects }) (sym (once now old.objects))) told kept
+    (by_scan old now caller query _ opened (ap (λ (objects : List Held). scanned now query (those_in_time now objects)) kept_ ∙ scan_missed now query views none_ ∙ ap (λ (objects : List Held). record { fresh = None; objects = those_in_time now objects }) (sym kept_)))
+    refl refl
+    (ap (λ (f : List OpenFetch). record old { moment = now; next = old.next + 1; fetches = f; objects = those_in_time now old.objects }) opens
+    ∙ ap (λ (objects : List Held). record old { moment = now; next = old.next + 1; fetches = record { token = old.next; caller = caller; key = query.key } ∷ old.fetches; objects = objects }) (sym (once now old.objects))) told kept
 
 -- a hit is counted
 pub hits : (old : State) (views later : List ObjectView) (now caller : ℕ) (query : Query) (place : ℕ) (answer : Answer) → old.objects ≡ held_all views → has_round old.rounds caller ≡ true → position_or_len (is_hit now query) views ≡ place → place < length views → ((d : ObjectView) → answer.told ≡ Hit (raised (get_or views place d))) → answer.kept ≡ answer.told → ((d : ObjectView) → later ≡ set views place (raised (get_or views place d))) → Answers old (record old { moment = now; objects = held_all later }) now (Lookup query) (looked_up (at_moment now old) caller query) answer
@@ -86,11 +86,11 @@ hits old views later now caller query place answer kept_ opened at_ below told t
     let told_ : answer.told ≡ Hit (raised view) = told view ∙ ap (λ (v : ObjectView). Hit (raised v)) (first.1 view) in
     let later_ : later ≡ set views place (raised view) = counted view ∙ ap (λ (v : ObjectView). set views place (raised v)) (first.1 view) in
     by_law old (record old { moment = now; objects = held_all later }) now (Lookup query) (looked_up (at_moment now old) caller query) (Hit (raised view))
-      (record old { moment = now; objects = those_in_time now (held_all (set views place (raised view))) }) answer
-      (by_scan old now caller query _ opened (ap (λ (objects : List Held). scanned now query (those_in_time now objects)) kept_ ∙ first.2))
-      refl refl
-      (ap (λ (v : List ObjectView). record old { moment = now; objects = those_in_time now (held_all v) }) later_
-        ∙ ap (λ (objects : List Held). record old { moment = now; objects = objects }) (sym (once now (held_all (set views place (raised view)))))) told_ (twice ∙ told_)
+    (record old { moment = now; objects = those_in_time now (held_all (set views place (raised view))) }) answer
+    (by_scan old now caller query _ opened (ap (λ (objects : List Held). scanned now query (those_in_time now objects)) kept_ ∙ first.2))
+    refl refl
+    (ap (λ (v : List ObjectView). record old { moment = now; objects = those_in_time now (held_all v) }) later_
+    ∙ ap (λ (objects : List Held). record old { moment = now; objects = objects }) (sym (once now (held_all (set views place (raised view)))))) told_ (twice ∙ told_)
 
 -- the law's step of an insertion of an open fetch
 by_fetch : (room : ℕ) (old : State) (now caller token : ℕ) (object : Object) (step : Step) → has_fetch old.fetches caller token ≡ true → placed room (at_moment now old) token object ≡ step → inserted room (at_moment now old) caller token object ≡ step
@@ -100,8 +100,8 @@ by_fetch room old now caller token object step opened e = cond-true _ _ _ opened
 closes : (old : State) (now token : ℕ) (object : Object) (law : Step) (reply : Reply) (objects : List Held) (fetches : List OpenFetch) (answer : Answer) → law ≡ closing token (at_moment now old) reply → is_refusal reply ≡ false → those_in_time now objects ≡ those_in_time now old.objects → fetches ≡ without_fetch token old.fetches → answer.told ≡ reply → answer.kept ≡ reply → Answers old (record old { moment = now; objects = objects; fetches = fetches }) now (Insert token object) law answer
 closes old now token object law reply objects fetches answer is_ lawful same closed told kept =
     by_law old _ now (Insert token object) law reply _ answer is_ lawful refl
-      (ap (λ (f : List OpenFetch). record old { moment = now; objects = those_in_time now objects; fetches = f }) closed
-        ∙ ap (λ (o : List Held). record old { moment = now; objects = o; fetches = without_fetch token old.fetches }) (same ∙ sym (once now old.objects))) told kept
+    (ap (λ (f : List OpenFetch). record old { moment = now; objects = those_in_time now objects; fetches = f }) closed
+    ∙ ap (λ (o : List Held). record old { moment = now; objects = o; fetches = without_fetch token old.fetches }) (same ∙ sym (once now old.objects))) told kept
 
 -- those in time of what was thinned out are those in time of all
 thinned : (now : ℕ) (views kept : List ObjectView) → kept ≡ filter (λ (view : ObjectView). in_time now view.object) views → those_in_time now (held_all kept) ≡ those_in_time now (held_all views)
@@ -119,8 +119,8 @@ no_room room old views left now caller token object fetches answer kept_ opened 
     let sizes = sizes_left old views left now kept_ thinned_ in
     let full_ : nat_lt room (sizes_of (those_in_time now old.objects) + size_of object) ≡ true = lt-ltb _ _ (omega (arith, full, sizes)) in
     closes old now token object _ NoRoom (held_all left) fetches answer
-      (by_fetch room old now caller token object _ opened (cond-true _ _ _ lives ∙ cond-true _ _ _ full_)) refl
-      (thinned now views left thinned_ ∙ ap (those_in_time now) (sym kept_)) closed told kept
+    (by_fetch room old now caller token object _ opened (cond-true _ _ _ lives ∙ cond-true _ _ _ full_)) refl
+    (thinned now views left thinned_ ∙ ap (those_in_time now) (sym kept_)) closed told kept
 
 pub stores : (room : ℕ) (old : State) (views left later : List ObjectView) (now caller token : ℕ) (object : Object) (fetches : List OpenFetch) (answer : Answer) → old.objects ≡ held_all views → has_fetch old.fetches caller token ≡ true → in_time now object ≡ true → left ≡ filter (λ (view : ObjectView). in_time now view.object) views → sizes_of (held_all left) + size_of object ≤ room → later ≡ record { number = token; hits = 0; object = object } ∷ left → fetches ≡ without_fetch token old.fetches → answer.told ≡ Stored token → answer.kept ≡ Stored token → Answers old (record old { moment = now; objects = held_all later; fetches = fetches }) now (Insert token object) (inserted room (at_moment now old) caller token object) answer
 stores room old views left later now caller token object fetches answer kept_ opened lives thinned_ fits first closed told kept =
@@ -128,10 +128,10 @@ stores room old views left later now caller token object fetches answer kept_ op
     let fits_ : nat_lt room (sizes_of (those_in_time now old.objects) + size_of object) ≡ false = le-ltb _ _ (omega (arith, fits, sizes)) in
     let left_ : held_all left ≡ those_in_time now old.objects = ap held_all thinned_ ∙ held_all-filter now views ∙ ap (those_in_time now) (sym kept_) in
     by_law old _ now (Insert token object) _ (Stored token) _ answer
-      (by_fetch room old now caller token object _ opened (cond-true _ _ _ lives ∙ cond-false _ _ _ fits_)) refl refl
-      (ap (λ (v : List ObjectView). record old { moment = now; objects = those_in_time now (held_all v); fetches = fetches }) first
-        ∙ ap (λ (o : List Held). record old { moment = now; objects = those_in_time now (stored_over token object o); fetches = fetches }) left_
-        ∙ ap (λ (f : List OpenFetch). record old { moment = now; objects = those_in_time now (stored_over token object (those_in_time now old.objects)); fetches = f }) closed) told kept
+    (by_fetch room old now caller token object _ opened (cond-true _ _ _ lives ∙ cond-false _ _ _ fits_)) refl refl
+    (ap (λ (v : List ObjectView). record old { moment = now; objects = those_in_time now (held_all v); fetches = fetches }) first
+    ∙ ap (λ (o : List Held). record old { moment = now; objects = those_in_time now (stored_over token object o); fetches = fetches }) left_
+    ∙ ap (λ (f : List OpenFetch). record old { moment = now; objects = those_in_time now (stored_over token object (those_in_time now old.objects)); fetches = f }) closed) told kept
 
 -- an insertion of an open fetch isn't answered that it isn't open
 placed_reply : (state : State) (token : ℕ) (object : Object) (lives full : Bool) → (cond lives (cond full (closing token state NoRoom) (stored state token object)) (closing token state NotInTime)).reply ≢ NotOpen
@@ -155,6 +155,6 @@ refuses room old views left now caller token object fetches answer kept_ opened 
 pub ends : (old : State) (now caller : ℕ) (rounds : List OpenRound) (fetches : List OpenFetch) (answer : Answer) → has_round old.rounds caller ≡ true → rounds ≡ without_round_of caller old.rounds → fetches ≡ without_fetches_of caller old.fetches → answer.told ≡ Ended → answer.kept ≡ Ended → Answers old (record old { moment = now; rounds = rounds; fetches = fetches }) now End (ended (at_moment now old) caller) answer
 ends old now caller rounds fetches answer opened closed closed_ told kept =
     by_law old _ now End _ Ended _ answer (cond-true _ _ _ opened) refl refl
-      (ap (λ (r : List OpenRound). record old { moment = now; objects = those_in_time now old.objects; rounds = r; fetches = fetches }) closed
-        ∙ ap (λ (f : List OpenFetch). record old { moment = now; objects = those_in_time now old.objects; rounds = without_round_of caller old.rounds; fetches = f }) closed_
-        ∙ ap (λ (o : List Held). record old { moment = now; objects = o; rounds = without_round_of caller old.rounds; fetches = without_fetches_of caller old.fetches }) (sym (once now old.objects))) told kept
+    (ap (λ (r : List OpenRound). record old { moment = now; objects = those_in_time now old.objects; rounds = r; fetches = fetches }) closed
+    ∙ ap (λ (f : List OpenFetch). record old { moment = now; objects = those_in_time now old.objects; rounds = without_round_of caller old.rounds; fetches = f }) closed_
+    ∙ ap (λ (o : List Held). record old { moment = now; objects = o; rounds = without_round_of caller old.rounds; fetches = without_fetches_of caller old.fetches }) (sym (once now old.objects))) told kept

@@ -1,5 +1,5 @@
 -- What a lookup's scan finds and leaves, where the place of the first hit is known.
-use Rattle.std.proofs.Common.{zero, suc, ◌≡◌, ℕ, Bool, true, false, not, cond, List, [], ◌∷◌, ◌+◌, ◌<◌, ◌≤◌, ◌&&◌, length, get_or, set, find, position, filter, slice_get, Option, Some, None, nat_lt, refl, arith, sym, ap, ◌∙◌, subst}
+use Rattle.std.proofs.Common.{zero, suc, ◌≡◌, ℕ, Bool, true, false, not, cond, List, [], ◌∷◌, ◌+◌, ◌<◌, ◌≤◌, ◌&&◌, length, get_or, set, find, position, filter, slice_get, Option, Some, None, nat_lt, refl, arith, sym, ap, ◌∙◌}
 use Rattle.std.specs.List.{position_or_len, list_all}
 use Rattle.std.proofs.lemmas.List.Folds.{find_at}
 use Rattle.std.proofs.lemmas.Bool.{ltb-true, ltb-false, and_parts, cond-true}
@@ -88,10 +88,12 @@ found_later now query view views hit left e rest =
 
 found_step : (now : ℕ) (query : Query) (view : ObjectView) (views : List ObjectView) (place : ℕ) (hit : Bool) → hit ≡ is_hit now query view → cond (not hit) (1 + position_or_len (is_hit now query) views) 0 ≡ place → place < length (view ∷ views) → ((i : ℕ) → position_or_len (is_hit now query) views ≡ i → i < length views → FoundAt now query views i) → FoundAt now query (view ∷ views) place
 found_step now query view views zero true e at_ below later =
-    let lives : in_time now view.object ≡ true = (and_parts _ _ (sym e)).0 in
-    (view, λ d. refl,
+    let lives : in_time now view.object ≡ true = (and_parts _ _ (sym e)).0 in (
+      view,
+      λ d. refl,
       scan_hit now query view (in_time now view.object) (serves now query view.object) (those_in_time now (held_all views)) refl refl (sym e)
-      ∙ ap (λ (objects : List Held). record { fresh = Some (raised view); objects = objects }) (sym (cond-true _ (held_of (raised view) ∷ those_in_time now (held_all views)) (those_in_time now (held_all views)) lives)))
+          ∙ ap (λ (objects : List Held). record { fresh = Some (raised view); objects = objects }) (sym (cond-true _ (held_of (raised view) ∷ those_in_time now (held_all views)) (those_in_time now (held_all views)) lives)),
+    )
 found_step now query view views (suc place) true e at_ below later = cc
 found_step now query view views zero false e at_ below later = absurd (omega arith)
 found_step now query view views (suc place) false e at_ below later =

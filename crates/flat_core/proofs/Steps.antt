@@ -1,7 +1,6 @@
 -- One more entry keeps what the plain cache promises.
-use Rattle.std.proofs.Common.{true, cond, ◌≡◌, ℕ, List, [], ◌∷◌, ◌++◌, ◌+◌, ◌*◌, ◌≤◌, ◌==◌, not, max, length, refl, arith, sym, ap, ◌∙◌, subst, length-append, nat_lt}
+use Rattle.std.proofs.Common.{true, cond, ◌≡◌, ℕ, List, [], ◌∷◌, ◌++◌, ◌+◌, ◌*◌, ◌≤◌, max, length, refl, arith, sym, ap, ◌∙◌, subst, length-append, nat_lt}
 use Rattle.std.proofs.lemmas.Bool.{false≢true, cond-true}
-use Rattle.cache_law.specs.declared.object.Object.{Object}
 use Rattle.cache_law.specs.declared.call.Call.{Call}
 use Rattle.cache_law.specs.declared.call.Call.TheVariants.{Begin, Lookup, Pick, Insert, End}
 use Rattle.cache_law.specs.declared.call.Reply.{Reply}
@@ -11,7 +10,7 @@ use Rattle.cache_law.specs.Object.{in_time, size_of}
 use Rattle.cache_law.specs.State.{State, at_moment, as_seen, reserve, has_round, has_fetch, without_fetch, those_in_time, sizes_of}
 use Rattle.cache_law.specs.Beginning.{Beginning}
 use Rattle.cache_law.specs.Law.{step_of, answered, after, behind, refused, MayAnswer}
-use Rattle.cache_law.specs.History.{bytes_of, bytes_of_all, Fits, Follows, next_state, reached, Legal}
+use Rattle.cache_law.specs.History.{bytes_of, next_state, reached, Legal}
 use Rattle.cache_law.specs.Core.{Entered, FitsBehind, entry_of, moment_of, is_kept}
 use Rattle.cache_law.proofs.Growth.{after_grows}
 use Rattle.cache_law.proofs.Histories.{reached-push, bytes_of_all-push, Legal-push}

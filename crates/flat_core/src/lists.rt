@@ -37,11 +37,7 @@ fn is_hit(moment: u64, query: &Query, view: &ObjectView) -> bool
 }
 
 /// The place of the first object that is in time at the moment and serves the query.
-pub(crate) fn place_of(
-    objects: &VecDeque<ObjectView>,
-    moment: u64,
-    query: &Query,
-) -> Option<usize>
+pub(crate) fn place_of(objects: &VecDeque<ObjectView>, moment: u64, query: &Query) -> Option<usize>
     ensures { result ≡ position (is_hit moment query.now) objects.now.items }
 {
     objects.iter().position(|view| is_hit(moment, query, view))
@@ -70,9 +66,7 @@ pub(crate) fn sizes_of(objects: &VecDeque<ObjectView>) -> u128
 fn are_in_time(objects: &VecDeque<ObjectView>, moment: u64) -> bool
     ensures { result ≡ list_all (λ view. in_time moment view.object) objects.now.items }
 {
-    objects
-        .iter()
-        .all(|view| is_in_time(moment, &view.object))
+    objects.iter().all(|view| is_in_time(moment, &view.object))
 }
 
 /// Drops the objects that aren't in time any more. Where there are none, nothing moves.

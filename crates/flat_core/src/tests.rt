@@ -1,6 +1,7 @@
 use super::*;
 use cache_law::{
-    Boot, CacheCore, Call, Object, Params, Query, Reply, RequestView, Shared, StepError, Timing, Told,
+    Boot, CacheCore, Call, Object, Params, Query, Reply, RequestView, Shared, StepError, Timing,
+    Told,
 };
 use http_heads::Fields;
 use std::alloc::{AllocError, Global};
@@ -13,8 +14,10 @@ enum Ask {
     Begin,
     Lookup(&'static [u8]),
     Pick(&'static [u8]),
-    // the number of the fetch, the key, the body, and how long the object serves from 0 on
+    // the number of the fetch, the key, the body, and how long the object serves from 0 on, with grace for 10 s
     Insert(u64, &'static [u8], &'static [u8], i64),
+    // the same with this grace
+    InsertFor(u64, &'static [u8], i64, i64),
     End,
 }
 
@@ -24,8 +27,14 @@ fn key_of(alloc: Global, name: &[u8]) -> Result<Sequence<Text>, AllocError> {
     Ok(key)
 }
 
-fn object_of(alloc: Global, name: &[u8], body: &[u8], ttl: i64) -> Result<Object, AllocError> {
-    Ok(Object {
+fn object_of(
+    alloc: Global,
+    name: &[u8],
+    body: &[u8],
+    ttl: i64,
+    grace: i64,
+) -> Result<Shared<Object>, AllocError> {
+    let object = Object {
         key: key_of(alloc, name)?,
         status: 200,
         reason: Text::of(alloc, b"")?,
@@ -34,10 +43,11 @@ fn object_of(alloc: Global, name: &[u8], body: &[u8], ttl: i64) -> Result<Object
         timing: Timing {
             origin: 0,
             ttl,
-            grace: 10_000,
+            grace,
             keep: 0,
         },
-    })
+    };
+    Shared::new(alloc, object)
 }
 
 fn query_of(alloc: Global, name: &[u8]) -> Result<Shared<Query>, AllocError> {
@@ -62,7 +72,11 @@ fn call_of(alloc: Global, ask: Ask) -> Result<Call, AllocError> {
         },
         Ask::Insert(token, name, body, ttl) => Call::Insert {
             token,
-            object: Shared::new(alloc, object_of(alloc, name, body, ttl)?)?,
+            object: object_of(alloc, name, body, ttl, 10_000)?,
+        },
+        Ask::InsertFor(token, name, ttl, grace) => Call::Insert {
+            token,
+            object: object_of(alloc, name, b"", ttl, grace)?,
         },
         Ask::End => Call::End,
     })
@@ -176,8 +190,9 @@ fn rounds(rt: HostRuntime) -> Result<(), Fail> {
     Ok(())
 }
 
-// The room and the limit of the history, the calls before, the last call and its outcome.
-type Limit = (u64, u64, &'static [Ask], Ask, (&'static str, u64, u64));
+// The room and the limit of the history, the calls before, all at 0, the reading at the last call, that call, and its
+// outcome.
+type Limit = (u64, u64, &'static [Ask], u64, Ask, (&'static str, u64, u64));
 
 #[test]
 fn limits(rt: HostRuntime) -> Result<(), Fail> {
@@ -185,17 +200,31 @@ fn limits(rt: HostRuntime) -> Result<(), Fail> {
     let opened: &[Ask] = &[Ask::Begin];
     let fetching: &[Ask] = &[Ask::Begin, Ask::Lookup(b"a")];
     let body: &[u8] = b"0123456789012345678901234567890123456789012345678901234567";
-    let cases: [Limit; 8] = [
-        (0, 127, &[], Ask::Begin, ("history full", 0, 0)),
-        (0, 128, &[], Ask::Begin, ("began", 1, 1)),
-        (0, 191, opened, Ask::Lookup(b""), ("history full", 0, 0)),
-        (0, 255, opened, Ask::Lookup(b""), ("history full", 0, 0)),
-        (0, 256, opened, Ask::Lookup(b""), ("miss", 2, 0)),
-        (0, 128, opened, Ask::End, ("ended", 0, 0)),
+    let stored: &[Ask] = &[
+        Ask::Begin,
+        Ask::Lookup(b"a"),
+        Ask::Insert(2, b"a", b"", 1),
+        Ask::Lookup(b"b"),
+    ];
+    // fresh for 100 ms, but of no use after 50
+    let short: &[Ask] = &[
+        Ask::Begin,
+        Ask::Lookup(b"a"),
+        Ask::InsertFor(2, b"a", 100, -50),
+    ];
+    let second = Ask::Insert(3, b"b", b"", 20_000);
+    let cases: [Limit; 12] = [
+        (0, 127, &[], 0, Ask::Begin, ("history full", 0, 0)),
+        (0, 128, &[], 0, Ask::Begin, ("began", 1, 1)),
+        (0, 191, opened, 0, Ask::Lookup(b""), ("history full", 0, 0)),
+        (0, 255, opened, 0, Ask::Lookup(b""), ("history full", 0, 0)),
+        (0, 256, opened, 0, Ask::Lookup(b""), ("miss", 2, 0)),
+        (0, 128, opened, 0, Ask::End, ("ended", 0, 0)),
         (
             570,
             1_000,
             fetching,
+            0,
             Ask::Insert(2, b"a", body, 1),
             ("no room", 0, 0),
         ),
@@ -203,18 +232,24 @@ fn limits(rt: HostRuntime) -> Result<(), Fail> {
             571,
             1_000,
             fetching,
+            0,
             Ask::Insert(2, b"a", body, 1),
             ("stored", 2, 0),
         ),
+        // the first object is in time until 10,001
+        (1_025, 1_000, stored, 10_000, second, ("no room", 0, 0)),
+        (1_025, 1_000, stored, 10_001, second, ("stored", 3, 0)),
+        (600, 1_000, short, 49, Ask::Lookup(b"a"), ("hit", 2, 1)),
+        (600, 1_000, short, 50, Ask::Lookup(b"a"), ("miss", 3, 0)),
     ];
-    for (room, history, before, last, wanted) in cases {
+    for (room, history, before, reading, last, wanted) in cases {
         let mut core = core_of(alloc, room, history)?;
         for ask in before {
             let answer = core.step(alloc, 7, 0, call_of(alloc, *ask)?);
             assert!(rt; answer.is_ok(), "{room} {history}");
         }
-        let answer = core.step(alloc, 7, 0, call_of(alloc, last)?);
-        assert_eq!(rt; outcome(&answer), wanted, "{room} {history}");
+        let answer = core.step(alloc, 7, reading, call_of(alloc, last)?);
+        assert_eq!(rt; outcome(&answer), wanted, "{room} {history} {reading}");
     }
     Ok(())
 }

@@ -1,9 +1,8 @@
-use Rattle.std.proofs.Common.{rules, true, ◌≡◌, ◌+◌, ◌*◌, ◌≤◌, ◌++◌, ◌∷◌, [], ◌<◌, arith, length, refl}
+use Rattle.std.proofs.Common.{rules, ◌≡◌, ◌+◌, ◌*◌, ◌≤◌, ◌++◌, ◌∷◌, [], ◌<◌, arith, length, refl}
 use Rattle.std.specs.Prelude.{IsTrue}
 use Rattle.std.specs.Vec.{vec_capacity}
 use Rattle.cache_law.specs.Beginning.{beginning_of}
-use Rattle.cache_law.specs.History.{bytes_of, Legal}
-use Rattle.flat_core.specs.Plain.{Plain}
+use Rattle.cache_law.specs.History.{bytes_of}
 use Rattle.flat_core.proofs.Steps.{Made, Answered, within_limit, room_kept, sound_behind, entered, legal_behind}
 use Rattle.flat_core.proofs.cache.FlatCoreCacheCore.step.Goals as goal
 

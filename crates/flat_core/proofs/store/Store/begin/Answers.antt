@@ -1,5 +1,4 @@
 use Rattle.std.proofs.Common.{rules, refl}
-
 use Rattle.flat_core.proofs.Replies.{begins_not, begins}
 use Rattle.flat_core.proofs.store.Store.begin.Goals as goal
 

@@ -1,5 +1,4 @@
 use Rattle.std.proofs.Common.{rules, refl}
-
 use Rattle.flat_core.proofs.Replies.{ends_not, ends}
 use Rattle.flat_core.proofs.store.Store.end.Goals as goal
 

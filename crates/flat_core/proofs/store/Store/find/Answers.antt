@@ -1,4 +1,4 @@
-use Rattle.std.proofs.Common.{rules, sym, ◌∙◌}
+use Rattle.std.proofs.Common.{sym, ◌∙◌}
 use Rattle.flat_core.proofs.Scans.{position-held_all}
 use Rattle.flat_core.proofs.store.Store.find.Goals as goal
 

@@ -1,5 +1,4 @@
 use Rattle.std.proofs.Common.{rules, refl}
-
 use Rattle.flat_core.proofs.Scans.{hit_place, no_place}
 use Rattle.flat_core.proofs.Replies.{looks_not, hits, misses}
 use Rattle.flat_core.proofs.store.Store.lookup.Goals as goal

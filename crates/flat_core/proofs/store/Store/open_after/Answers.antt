@@ -1,4 +1,4 @@
-use Rattle.std.proofs.Common.{rules, true, false, refl, ap, sym}
+use Rattle.std.proofs.Common.{rules, true, false, ap, sym}
 use Rattle.cache_law.specs.State.{State}
 use Rattle.flat_core.proofs.Reserves.{lookup_reserve, insert_reserve}
 use Rattle.flat_core.proofs.store.Store.open_after.Goals as goal
