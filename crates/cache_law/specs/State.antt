@@ -56,6 +56,10 @@ has_round rounds caller = list_any (λ round. round.caller == caller) rounds
 abbrev pub has_fetch : List OpenFetch → ℕ → ℕ → Bool
 has_fetch fetches caller token = list_any (λ fetch. (fetch.token == token) && (fetch.caller == caller)) fetches
 
+-- no open fetch has the number
+abbrev pub is_closed : List OpenFetch → ℕ → Bool
+is_closed fetches token = not (list_any (λ fetch. fetch.token == token) fetches)
+
 -- the fetches without the one of this number
 abbrev pub without_fetch : ℕ → List OpenFetch → List OpenFetch
 without_fetch token fetches = filter (λ fetch. not (fetch.token == token)) fetches

@@ -4,6 +4,7 @@ ghost use Rattle.cache_law.specs.declared.call.Entry.{Entry as HistoryEntry};
 ghost use Rattle.cache_law.specs.Beginning.{Beginning, beginning_of};
 ghost use Rattle.cache_law.specs.Core.{Entered, FitsBehind, moment_of, is_kept};
 ghost use Rattle.cache_law.specs.History.{Legal, reached};
+ghost use Rattle.cache_law.specs.State.{is_closed};
 
 use crate::{Boot, Call, Entry, Params, Reply};
 use std::alloc::{AllocError, Global};
@@ -54,6 +55,10 @@ pub trait CacheCore: Sized {
         ensures err { OnErr result (history self.new ≡ history self.old) }
         ensures legal { Legal (beginning self.old) (history self.old) → Legal (beginning self.new) (history self.new) }
         ensures same { beginning self.new ≡ beginning self.old };
+
+    /// Whether no open fetch has the number. It takes no memory.
+    fn closed(&self, token: u64) -> bool
+        ensures { result ≡ is_closed (reached (beginning self.now) (history self.now)).fetches token };
 
     /// The history.
     fn into_history(self) -> Sequence<Entry>

@@ -88,6 +88,10 @@ impl CacheCore for FlatCore {
         })
     }
 
+    fn closed(&self, token: u64) -> bool {
+        self.store.closed(token)
+    }
+
     fn into_history(self) -> Sequence<Entry> {
         Sequence::from_vec(self.entries)
     }

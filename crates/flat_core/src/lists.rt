@@ -1,8 +1,8 @@
 // The law's tests of the lists that a cache holds, and the changes that it makes to them.
-ghost use Rattle.std.specs.Prelude.{◌≡◌, ◌+◌, ◌-◌, ◌^◌, ◌∷◌, min, position, length, filter, OnOk, OnErr};
-ghost use Rattle.std.specs.List.{list_all};
+ghost use Rattle.std.specs.Prelude.{◌≡◌, ◌==◌, ◌+◌, ◌-◌, ◌^◌, ◌∷◌, min, position, length, filter, OnOk, OnErr};
+ghost use Rattle.std.specs.List.{list_all, list_any};
 ghost use Rattle.cache_law.specs.Object.{in_time};
-ghost use Rattle.cache_law.specs.State.{has_round, has_fetch, without_fetch, without_fetches_of, without_round_of, sizes_of};
+ghost use Rattle.cache_law.specs.State.{has_round, has_fetch, is_closed, without_fetch, without_fetches_of, without_round_of, sizes_of};
 ghost use Rattle.flat_core.specs.Kept.{held_all, is_hit};
 
 use cache_law::{
@@ -25,6 +25,20 @@ pub(crate) fn has_fetch(fetches: &VecDeque<OpenFetch>, caller: u32, token: u64) 
     fetches
         .iter()
         .any(|fetch| fetch.token == token && fetch.caller == caller)
+}
+
+/// Whether a fetch of this number is open.
+fn is_open(fetches: &VecDeque<OpenFetch>, token: u64) -> bool
+    ensures { result ≡ list_any (λ fetch. fetch.token == token) fetches.now.items }
+{
+    fetches.iter().any(|fetch| fetch.token == token)
+}
+
+/// Whether no open fetch has the number.
+pub(crate) fn is_closed(fetches: &VecDeque<OpenFetch>, token: u64) -> bool
+    ensures { result ≡ is_closed fetches.now.items token }
+{
+    !is_open(fetches, token)
 }
 
 /// Whether the object is in time at the moment and serves the query.

@@ -3,7 +3,7 @@ ghost use Rattle.std.specs.Prelude.{◌≡◌, ℕ, ◌+◌, ◌*◌, ◌<◌, �
 ghost use Rattle.cache_law.specs.declared.object.ObjectView.{ObjectView as Stood};
 ghost use Rattle.cache_law.specs.declared.call.Call.TheVariants.{Begin as BeginCall, Lookup as LookupCall, Pick as PickCall, Insert as InsertCall, End as EndCall};
 ghost use Rattle.cache_law.specs.declared.call.Reply.TheVariants.{Began, Hit, Picked};
-ghost use Rattle.cache_law.specs.State.{at_moment, reserve, has_round, has_fetch, without_fetch, without_fetches_of, without_round_of};
+ghost use Rattle.cache_law.specs.State.{at_moment, reserve, has_round, has_fetch, is_closed, without_fetch, without_fetches_of, without_round_of};
 ghost use Rattle.cache_law.specs.Beginning.{base_of};
 ghost use Rattle.cache_law.specs.Lookup.{raised};
 ghost use Rattle.cache_law.specs.Law.{answered, begun, looked_up, leaving, inserted, ended};
@@ -14,7 +14,7 @@ ghost use Rattle.flat_core.specs.Step.{Answers};
 use crate::answer::Answer;
 use crate::lists::{
     close_fetch, close_fetches_of, close_round_of, count_fetches_without, count_rounds_without,
-    count_without, has_fetch, has_round, keep_in_time, place_of, put_first, sizes_of,
+    count_without, has_fetch, has_round, is_closed, keep_in_time, place_of, put_first, sizes_of,
 };
 use cache_law::{
     Boot, Call, Object, ObjectView, OpenFetch, OpenRound, Query, Reply, Shared, Vcl, is_in_time,
@@ -75,6 +75,13 @@ impl Store {
             fetches: VecDeque::new(alloc),
             rounds: VecDeque::new(alloc),
         })
+    }
+
+    /// Whether no open fetch has the number.
+    pub fn closed(&self, token: u64) -> bool
+        ensures { result ≡ is_closed self.now.fetches token }
+    {
+        is_closed(&self.fetches, token)
     }
 
     pub fn moment(&self) -> u64
