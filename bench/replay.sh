@@ -1,16 +1,20 @@
 #!/usr/bin/env bash
-# How the time of `varn replay` grows with the length of a session over 64 pages: sessions of 1,000, 10,000 and
-# 100,000 lines, the best of three runs each, and the ratio of each step. Run it at the top of the repository.
-# The program is built and proved first where it isn't there yet.
+# How the time and the memory of `varn replay` grow with the length of a session: sessions of 1,000 to 300,000 lines over 64
+# pages, and sessions in which each request is for a page of its own and moments go on, so that objects expire. The best of
+# three runs each, the ratio of each step, and the peak memory a line beyond that of an empty session. Run it at the top of
+# the repository. The program is built and proved first where it isn't there yet.
 . "$(dirname "$0")/prepare.sh"
 prepare varn
 python3 - "$work" "$program" <<'PY'
-import subprocess, sys, time
+import os, sys, time
 work, program = sys.argv[1:]
 REPLY = ('HTTP/1.1 200 OK\\r\\nCache-Control: max-age=120, stale-while-revalidate=0'
          '\\r\\nContent-Length: 2\\r\\n\\r\\nhi')
 
-def session(count):
+def request(page):
+    return 'req 1 "GET %s HTTP/1.1\\r\\nHost: h\\r\\n\\r\\n"' % page
+
+def few(count):
     """Lines of a session: a moment, then requests of 64 pages in turn, with the replies to those that miss."""
     lines, number, moment, stored, turn = [], 1, 0, {}, 0
     while len(lines) < count - 3:
@@ -19,29 +23,56 @@ def session(count):
             lines.append('at %d' % moment)
         page = '/page%d' % (turn % 64)
         turn += 1
-        lines.append('req 1 "GET %s HTTP/1.1\\r\\nHost: h\\r\\n\\r\\n"' % page)
+        lines.append(request(page))
         if page in stored and moment < stored[page] + 120000:
             number += 1
             continue
         lines.append('reply %d "%s"' % (number + 1, REPLY))
         stored[page] = moment
         number += 2
-    lines.append('end')
-    return '\n'.join(lines) + '\n'
+    return lines + ['end']
 
-before = None
-for count in (1000, 10000, 100000):
-    path = '%s/%d.session' % (work, count)
+def many(count):
+    """Lines of a session: a second passes, and a page that none asked for before is asked for and comes."""
+    lines, number = [], 1
+    while len(lines) < count - 3:
+        lines.append('at %d' % (1000 * number))
+        lines.append(request('/page%d' % number))
+        lines.append('reply %d "%s"' % (number + 1, REPLY))
+        number += 2
+    return lines + ['end']
+
+def run(path):
+    """The time of a run in seconds, its peak memory in bytes, and the lines that it wrote."""
+    out = '%s/out' % work
+    began = time.perf_counter()
+    child = os.fork()
+    if child == 0:
+        os.dup2(os.open(path, os.O_RDONLY), 0)
+        os.dup2(os.open(out, os.O_WRONLY | os.O_CREAT | os.O_TRUNC), 1)
+        os.execv(program, [program, 'replay'])
+    _, status, usage = os.wait4(child, 0)
+    passed = time.perf_counter() - began
+    if status != 0:
+        sys.exit('%s: status %d' % (path, status >> 8))
+    with open(out, 'rb') as written:
+        return passed, usage.ru_maxrss * 1024, sum(1 for _ in written)
+
+def written(name, lines):
+    path = '%s/%s.session' % (work, name)
     with open(path, 'w') as out:
-        out.write(session(count))
-    best = None
-    for _ in range(3):
-        with open(path) as source:
-            began = time.perf_counter()
-            done = subprocess.run([program, 'replay'], stdin=source, stdout=subprocess.PIPE, check=True)
-            passed = time.perf_counter() - began
-        best = passed if best is None else min(best, passed)
-    step = '' if before is None else '   %5.2f times as long' % (best / before)
-    print('%7d lines   %8.4f s   %7d lines written%s' % (count, best, done.stdout.count(b'\n'), step))
-    before = best
+        out.write('\n'.join(lines) + '\n')
+    return path
+
+_, least, _ = run(written('empty', ['end']))
+for name, session, counts in (('64 pages', few, (1000, 10000, 100000, 300000)),
+                              ('a page a request', many, (1000, 10000, 100000))):
+    before = None
+    for count in counts:
+        path = written('%s%d' % (name[0], count), session(count))
+        best, peak, lines = min(run(path) for _ in range(3))
+        step = '' if before is None else '   %5.2f times as long for %g times the lines' % (best / before[0], count / before[1])
+        print('%s: %7d lines   %8.4f s   %7d lines written   %5.0f bytes a line%s'
+              % (name, count, best, lines, (peak - least) / count, step), flush=True)
+        before = (best, count)
 PY

@@ -39,9 +39,9 @@ pub all_built : (lines : List NumberedLine) (i : ℕ) (events : List NumberedEve
 all_built lines i events all are = subst (λ (ls : List NumberedLine). IsBuiltAs ls events) (take_all i lines all) are
 
 -- the only whole request at the front is for no page
-pub not_a_page : (text : List ℕ) (head : RequestHead) → IsTheWholeRequest text head → (IsPageRequest head → ⊥) → (message : Message) → IsMessage text message → ⊥
-not_a_page text head the other (Whole found) is = other (subst (λ (h : RequestHead). IsPageRequest h) (the.1 found is.0) is.1)
-not_a_page text head the other Unreadable none = none head the.0
+pub not_a_page : (text : List ℕ) (head : RequestHead) (body : List ℕ) → IsTheWholeRequest text head body → (IsPageRequest head → ⊥) → (message : Message) → IsMessage text message → ⊥
+not_a_page text head body the other (Whole found more) is = other (subst (λ (h : RequestHead). IsPageRequest h) (the.1 found more is.0) is.1)
+not_a_page text head body the other Unreadable none = none head body the.0
 
 -- a reply's line stands for a reply alone
 pub no_reply : (fetch : ℕ) (text : List ℕ) → ((head : ResponseHead) (body : List ℕ) → HasWholeReply text head body → IsPageReply head → ⊥) → (event : Event) → StandsFor (lines.Reply fetch text) event → ⊥

@@ -1,120 +1,209 @@
--- What an event that is heard does to a scene.
-use Rattle.std.proofs.Common.{◌≡◌, ℕ, zero, suc, nat_lt, Bool, true, false, not, cond, List, [], ◌∷◌, ◌++◌, ◌+◌, ◌<◌, ◌≤◌, ◌==◌, ◌||◌, Some, None, length, get_or, refl, sym, ◌∙◌, ap, subst, arith, inl, inr}
+-- What an event that is heard, and a round that wakes, do to a scene.
+use Rattle.std.proofs.Common.{◌≡◌, ℕ, Bool, true, false, List, [], ◌∷◌, ◌++◌, ◌||◌, ◌==◌, Some, None, Ok, Err, Result, refl, sym, ◌∙◌, ap, subst}
 use Rattle.std.proofs.lemmas.List.{append-nil}
-use Rattle.std.proofs.lemmas.Bool.{ltb-true, ltb-false}
-use Rattle.std.proofs.lemmas.List.Folds.{find_at}
-use Rattle.std.proofs.lemmas.Option.{slice_get_cases, slice_get_past}
-use Rattle.std.specs.Prelude.{find, position, remove, slice_get}
-use Rattle.std.specs.List.{list_any, position_or_len}
-use Rattle.cache_law.specs.declared.call.Entry.{Entry}
+use Rattle.std.specs.Prelude.{find, position, remove, get_or}
+use Rattle.std.specs.List.{list_any}
 use Rattle.http_heads.specs.declared.message.ResponseHead.{ResponseHead}
+use Rattle.http_heads.specs.declared.exchange.Exchange.TheVariants as exchanges
+use Rattle.cache_law.specs.declared.call.Entry.{Entry}
+use Rattle.cache_law.specs.Beginning.{Beginning}
+use Rattle.cache_law.specs.History.{reached}
+use Rattle.cache_law.specs.State.{State, is_closed}
 use Rattle.replay.specs.declared.policy.Request.{Request}
 use Rattle.replay.specs.declared.policy.Given.{Given}
-use Rattle.replay.specs.declared.policy.Given.TheVariants.{Came}
+use Rattle.replay.specs.declared.policy.Given.TheVariants.{Start, Came, Closed}
 use Rattle.replay.specs.declared.policy.Want.{Want}
+use Rattle.replay.specs.declared.policy.Want.TheVariants.{Ask}
+use Rattle.replay.specs.declared.event.Event.{Event}
 use Rattle.replay.specs.declared.event.Event.TheVariants as events
-use Rattle.replay.specs.declared.schedule.Pending.{Pending}
-use Rattle.replay.specs.Scene.{Scene, Waiting, hears, begun, gave, with_running, is_under_way, waits_for, without_first}
-use Rattle.replay.specs.Went.{Went, IsPending, ArePending}
-use Rattle.replay.proofs.Runs.{went-then, went-one}
+use Rattle.replay.specs.declared.rounds.Pending.{Pending}
+use Rattle.replay.specs.declared.rounds.Kept.{Kept}
+use Rattle.replay.specs.declared.rounds.Break.{Break}
+use Rattle.replay.specs.Scene.{Scene, Waiting, Parked, AtRest, hears, wakes, begun, gave, with_running, is_under_way, waits_for, without_first, is_free, without_free}
+use Rattle.replay.specs.Pieces.{Pieces, Takes}
+use Rattle.replay.specs.Went.{Went, Leads, HasTurn, IsPending, IsParked, AllAlike, Stage, Change, IsAt, IsStage, IsSet, Met, Meets, NobodyRuns, ComesTo}
+use Rattle.replay.proofs.Alike.{alike-any, Found, found, not_found}
+use Rattle.replay.proofs.Asking.{leads_on}
+use Rattle.replay.proofs.Runs.{went-then, went-one, went-map}
+use Rattle.replay.proofs.Taking.{Takes-then}
+use Rattle.replay.proofs.Turns.{Breaks-behind, at_like}
 
-under_way_more : (a b : ℕ) (x y : Bool) (client : ℕ) → a ≡ b → x ≡ y → ((a == client) || x) ≡ ((b == client) || y)
-under_way_more a b x y client p q = ap (λ (n : ℕ). (n == client) || x) p ∙ ap (λ (z : Bool). (b == client) || z) q
+module _ {P : Type 0} (wants : Request → List Given → Want → Type 0) (stands : P → Request → List Given → Type 0) where
+  pending_client : (client : ℕ) (kept : Pending P) (one : Waiting) → IsPending wants stands kept one → (kept.client == client) ≡ (one.round.request.client == client)
+  pending_client client kept one is = ap (λ (n : ℕ). n == client) (sym is.leads.client_is)
 
--- a client is under way among the kept rounds where it is among those that wait
-pub under_way : {P : Type 0} (stands : P → Request → List Given → Type 0) (pending : List (Pending P)) (waiting : List Waiting) (client : ℕ) → ArePending stands pending waiting → list_any (λ (kept : Pending P). kept.client == client) pending ≡ is_under_way client waiting
-under_way stands [] [] client are = refl
-under_way stands [] (w ∷ ws) client are = absurd are
-under_way stands (p ∷ ps) [] client are = absurd are
-under_way stands (p ∷ ps) (w ∷ ws) client are = under_way_more p.client w.round.request.client _ _ client are.0.client_is (under_way stands ps ws client are.1)
+  parked_client : (client : ℕ) (kept : Kept P) (one : Parked) → IsParked wants stands kept one → (kept.client == client) ≡ (one.round.request.client == client)
+  parked_client client kept one is = ap (λ (n : ℕ). n == client) (sym is.leads.client_is)
 
-same_length : {P : Type 0} (stands : P → Request → List Given → Type 0) (pending : List (Pending P)) (waiting : List Waiting) → ArePending stands pending waiting → length pending ≡ length waiting
-same_length stands [] [] are = refl
-same_length stands [] (w ∷ ws) are = absurd are
-same_length stands (p ∷ ps) [] are = absurd are
-same_length stands (p ∷ ps) (w ∷ ws) are = ap suc (same_length stands ps ws are.1)
+  pub under_way : (pending : List (Pending P)) (parked : List (Kept P)) (scene : Scene) (client : ℕ) → AllAlike (IsPending wants stands) pending scene.waiting → AllAlike (IsParked wants stands) parked scene.parked → (list_any (λ (kept : Pending P). kept.client == client) pending || list_any (λ (kept : Kept P). kept.client == client) parked) ≡ is_under_way client scene
+  under_way pending parked scene client are too =
+      ap (λ (b : Bool). b || list_any (λ (kept : Kept P). kept.client == client) parked) (alike-any (IsPending wants stands) (λ (kept : Pending P). kept.client == client) (λ (one : Waiting). one.round.request.client == client) (pending_client client) pending scene.waiting are)
+      ∙ ap (λ (b : Bool). list_any (λ (one : Waiting). one.round.request.client == client) scene.waiting || b) (alike-any (IsParked wants stands) (λ (kept : Kept P). kept.client == client) (λ (one : Parked). one.round.request.client == client) (parked_client client) parked scene.parked too)
 
-first_more : (a b x y number : ℕ) → a ≡ b → x ≡ y → cond (not (a == number)) (1 + x) 0 ≡ cond (not (b == number)) (1 + y) 0
-first_more a b x y number p q = ap (λ (n : ℕ). cond (not (n == number)) (1 + x) 0) p ∙ ap (λ (n : ℕ). cond (not (b == number)) (1 + n) 0) q
+  pub pending_number : (number : ℕ) (kept : Pending P) (one : Waiting) → IsPending wants stands kept one → (kept.number == number) ≡ waits_for number one
+  pending_number number kept one is = ap (λ (n : ℕ). n == number) is.number_is
 
-same_place : {P : Type 0} (stands : P → Request → List Given → Type 0) (number : ℕ) (pending : List (Pending P)) (waiting : List Waiting) → ArePending stands pending waiting → position_or_len (λ (kept : Pending P). kept.number == number) pending ≡ position_or_len (waits_for number) waiting
-same_place stands number [] [] are = refl
-same_place stands number [] (w ∷ ws) are = absurd are
-same_place stands number (p ∷ ps) [] are = absurd are
-same_place stands number (p ∷ ps) (w ∷ ws) are = first_more p.number w.number _ _ number are.0.number_is (same_place stands number ps ws are.1)
+  abbrev pub FoundWaiting : List (Pending P) → List Waiting → ℕ → ℕ → Pending P → Type 0
+  FoundWaiting pending waiting number place kept = Found (IsPending wants stands) (λ (k : Pending P). k.number == number) (waits_for number) (pending_number number) pending waiting place kept
 
-others_pending : {P : Type 0} (stands : P → Request → List Given → Type 0) (place : ℕ) (pending : List (Pending P)) (waiting : List Waiting) → ArePending stands pending waiting → ArePending stands (remove pending place) (remove waiting place)
-others_pending stands zero [] [] are = tt
-others_pending stands (suc i) [] [] are = tt
-others_pending stands i [] (w ∷ ws) are = absurd are
-others_pending stands i (p ∷ ps) [] are = absurd are
-others_pending stands zero (p ∷ ps) (w ∷ ws) are = are.1
-others_pending stands (suc i) (p ∷ ps) (w ∷ ws) are = (are.0, others_pending stands i ps ws are.1)
+  pub found_waiting : (pending : List (Pending P)) (waiting : List Waiting) (number place : ℕ) (kept : Pending P) → AllAlike (IsPending wants stands) pending waiting → position (λ (k : Pending P). k.number == number) pending ≡ Some place → kept ≡ get_or pending place kept → FoundWaiting pending waiting number place kept
+  found_waiting pending waiting number place kept are at is = found (IsPending wants stands) (λ (k : Pending P). k.number == number) (waits_for number) (pending_number number) pending waiting place kept are at is
 
-kept_at : {P : Type 0} (stands : P → Request → List Given → Type 0) (place : ℕ) (pending : List (Pending P)) (waiting : List Waiting) → ArePending stands pending waiting → place < length pending → (kept : Pending P) (one : Waiting) → kept ≡ get_or pending place kept → one ≡ get_or waiting place one → IsPending stands kept one
-kept_at stands i [] [] are short kept one e f = absurd (omega arith)
-kept_at stands i [] (w ∷ ws) are short kept one e f = absurd are
-kept_at stands i (p ∷ ps) [] are short kept one e f = absurd are
-kept_at {P} stands zero (p ∷ ps) (w ∷ ws) are short kept one e f = subst (λ (k : Pending P). IsPending stands k one) (sym e) (subst (λ (x : Waiting). IsPending stands p x) (sym f) are.0)
-kept_at stands (suc i) (p ∷ ps) (w ∷ ws) are short kept one e f = kept_at stands i ps ws are.1 (omega arith) kept one e f
+  pub nobody_waiting : (pending : List (Pending P)) (waiting : List Waiting) (number : ℕ) → AllAlike (IsPending wants stands) pending waiting → position (λ (k : Pending P). k.number == number) pending ≡ None → find (waits_for number) waiting ≡ None
+  nobody_waiting pending waiting number are at = not_found (IsPending wants stands) (λ (k : Pending P). k.number == number) (waits_for number) (pending_number number) pending waiting are at
 
--- what a place that was found tells
-pub place_found : (k n place : ℕ) (b : Bool) → b ≡ nat_lt k n → cond b (Some k) None ≡ Some place → (k ≡ place) × (k < n)
-place_found k n place true e found = (cc, ltb-true k n (sym e))
-place_found k n place false e found = cc
+  pub parked_free : (state : State) (kept : Kept P) (one : Parked) → IsParked wants stands kept one → is_closed state.fetches kept.token ≡ is_free state one
+  parked_free state kept one is = ap (λ (n : ℕ). is_closed state.fetches n) is.token_is
 
-pub none_found : (k n : ℕ) (b : Bool) → b ≡ nat_lt k n → cond b (Some k) None ≡ None → n ≤ k
-none_found k n true e found = cc
-none_found k n false e found = ltb-false k n (sym e)
+  abbrev pub FoundFree : State → List (Kept P) → List Parked → ℕ → Kept P → Type 0
+  FoundFree state kept parked place one = Found (IsParked wants stands) (λ (k : Kept P). is_closed state.fetches k.token) (is_free state) (parked_free state) kept parked place one
 
--- The round that waits for the number, and what is kept of it and of the others.
-pub record Found {P : Type 0} (stands : P → Request → List Given → Type 0) (pending : List (Pending P)) (waiting : List Waiting) (number place : ℕ) (kept : Pending P) : Type 0 where
-  pub one : Waiting
-  pub is_first : find (waits_for number) waiting ≡ Some one
-  pub is_kept : IsPending stands kept one
-  pub others : ArePending stands (remove pending place) (without_first number waiting)
+  pub found_free : (state : State) (kept : List (Kept P)) (parked : List Parked) (place : ℕ) (one : Kept P) → AllAlike (IsParked wants stands) kept parked → position (λ (k : Kept P). is_closed state.fetches k.token) kept ≡ Some place → one ≡ get_or kept place one → FoundFree state kept parked place one
+  found_free state kept parked place one are at is = found (IsParked wants stands) (λ (k : Kept P). is_closed state.fetches k.token) (is_free state) (parked_free state) kept parked place one are at is
 
-pub found : {P : Type 0} (stands : P → Request → List Given → Type 0) (pending : List (Pending P)) (waiting : List Waiting) (number place : ℕ) (kept : Pending P) → ArePending stands pending waiting → position (λ (k : Pending P). k.number == number) pending ≡ Some place → kept ≡ get_or pending place kept → Found stands pending waiting number place kept
-found {P} stands pending waiting number place kept are at kept_is =
-    let k = position_or_len (λ (p : Pending P). p.number == number) pending in
-    let told = place_found k (length pending) place _ refl at in
-    let first : position_or_len (waits_for number) waiting ≡ place = sym (same_place stands number pending waiting are) ∙ told.0 in
-    let short : place < length waiting = omega (arith, told.0, told.1, same_length stands pending waiting are) in
-    let short_kept : place < length pending = omega (arith, told.0, told.1) in
-    elim (slice_get_cases waiting place).1 [
-      | inl here ↦ record {
-        one = here.0;
-        is_first = find_at (waits_for number) waiting ∙ (ap (λ (i : ℕ). slice_get waiting i) first ∙ here.2);
-        is_kept = kept_at stands place pending waiting are short_kept kept here.0 kept_is (sym here.3);
-        others = subst (λ (i : ℕ). ArePending stands (remove pending place) (remove waiting i)) (sym first) (others_pending stands place pending waiting are);
-      }
-      | inr past ↦ absurd (omega (arith, past.0))
-    ]
-
-pub not_found : {P : Type 0} (stands : P → Request → List Given → Type 0) (pending : List (Pending P)) (waiting : List Waiting) (number : ℕ) → ArePending stands pending waiting → position (λ (k : Pending P). k.number == number) pending ≡ None → find (waits_for number) waiting ≡ None
-not_found {P} stands pending waiting number are at =
-    let k = position_or_len (λ (p : Pending P). p.number == number) pending in
-    let past : length pending ≤ k = none_found k (length pending) _ refl at in
-    find_at (waits_for number) waiting ∙ slice_get_past waiting (position_or_len (waits_for number) waiting) (omega (arith, past, same_length stands pending waiting are, same_place stands number pending waiting are))
-
--- a request that begins a round
-pub request_heard : (wants : Request → List Given → Want → Type 0) (scene : Scene) (request : Request) (h0 h1 : List Entry) (H : Scene → List ℕ → Type 0) → scene.running ≡ None → is_under_way request.client scene.waiting ≡ false → Went wants (with_running scene (begun request)) [] h0 h1 H → Went wants scene (events.Request request ∷ []) h0 h1 H
-request_heard wants scene request h0 h1 H rests free went =
-    went-then wants scene (events.Request request ∷ []) [] h0 h0 h1 (λ next text. (next ≡ with_running scene (begun request)) × (text ≡ [])) H
-    (went-one wants scene (with_running scene (begun request)) (hears (events.Request request)) h0 h0 _ (rests, free, refl) (sym (append-nil h0)) (refl, refl))
-    (λ next text at. subst (λ (s : Scene). Went wants s [] h0 h1 (λ t more. H t (text ++ more))) (sym at.0) (subst (λ (x : List ℕ). Went wants (with_running scene (begun request)) [] h0 h1 (λ t more. H t (x ++ more))) (sym at.1) went))
+  pub nobody_free : (state : State) (kept : List (Kept P)) (parked : List Parked) → AllAlike (IsParked wants stands) kept parked → position (λ (k : Kept P). is_closed state.fetches k.token) kept ≡ None → find (is_free state) parked ≡ None
+  nobody_free state kept parked are at = not_found (IsParked wants stands) (λ (k : Kept P). is_closed state.fetches k.token) (is_free state) (parked_free state) kept parked are at
 
 -- the scene in which a round has its reply
 abbrev pub replied : Scene → ℕ → ResponseHead → List ℕ → Waiting → Scene
-replied scene number head body one = record {
-  moment = scene.moment;
-  running = Some (gave one.round (Came (record { moment = scene.moment; head = head; body = body })));
+replied scene number head body one = record scene {
+  running = Some (gave one.round (Came (record { moment = scene.moment; exchange = exchanges.Reply head body })));
   waiting = without_first number scene.waiting;
 }
 
--- a reply that a round waits for
-pub reply_heard : (wants : Request → List Given → Want → Type 0) (scene : Scene) (number : ℕ) (head : ResponseHead) (body : List ℕ) (one : Waiting) (h0 h1 : List Entry) (H : Scene → List ℕ → Type 0) → scene.running ≡ None → find (waits_for number) scene.waiting ≡ Some one → Went wants (replied scene number head body one) [] h0 h1 H → Went wants scene (events.Reply number head body ∷ []) h0 h1 H
-reply_heard wants scene number head body one h0 h1 H rests is went =
-    went-then wants scene (events.Reply number head body ∷ []) [] h0 h0 h1 (λ next text. (next ≡ replied scene number head body one) × (text ≡ [])) H
-    (went-one wants scene (replied scene number head body one) (hears (events.Reply number head body)) h0 h0 _ (one, rests, is, refl) (sym (append-nil h0)) (refl, refl))
-    (λ next text at. subst (λ (s : Scene). Went wants s [] h0 h1 (λ t more. H t (text ++ more))) (sym at.0) (subst (λ (x : List ℕ). Went wants (replied scene number head body one) [] h0 h1 (λ t more. H t (x ++ more))) (sym at.1) went))
+-- the scene in which a round is awake
+abbrev pub woken : Scene → Parked → Scene
+woken scene one = record scene { running = Some (gave one.round Closed); parked = without_free scene.state scene.parked }
+
+module _ (wants : Request → List Given → Want → Type 0) (beginning : Beginning) where
+  -- a request that begins a round
+  pub request_heard : (scene : Scene) (request : Request) (h0 h1 : List Entry) (H : Scene → List ℕ → Type 0) → AtRest scene → is_under_way request.client scene ≡ false → Went wants beginning (with_running scene (begun request)) [] h0 h1 H → Went wants beginning scene (events.Request request ∷ []) h0 h1 H
+  request_heard scene request h0 h1 H rests free went =
+      went-then wants beginning scene (events.Request request ∷ []) [] h0 h0 h1 (λ next text. (next ≡ with_running scene (begun request)) × (text ≡ [])) H
+      (went-one wants beginning scene (with_running scene (begun request)) (hears (events.Request request)) h0 h0 _ (rests, free, refl) (sym (append-nil h0)) (refl, refl))
+      (λ next text at. subst (λ (s : Scene). Went wants beginning s [] h0 h1 (λ t more. H t (text ++ more))) (sym at.0) (subst (λ (x : List ℕ). Went wants beginning (with_running scene (begun request)) [] h0 h1 (λ t more. H t (x ++ more))) (sym at.1) went))
+
+  -- a reply that a round waits for
+  pub reply_heard : (scene : Scene) (number : ℕ) (head : ResponseHead) (body : List ℕ) (one : Waiting) (h0 h1 : List Entry) (H : Scene → List ℕ → Type 0) → AtRest scene → find (waits_for number) scene.waiting ≡ Some one → Went wants beginning (replied scene number head body one) [] h0 h1 H → Went wants beginning scene (events.Reply number head body ∷ []) h0 h1 H
+  reply_heard scene number head body one h0 h1 H rests is went =
+      went-then wants beginning scene (events.Reply number head body ∷ []) [] h0 h0 h1 (λ next text. (next ≡ replied scene number head body one) × (text ≡ [])) H
+      (went-one wants beginning scene (replied scene number head body one) (hears (events.Reply number head body)) h0 h0 _ (one, rests, is, refl) (sym (append-nil h0)) (refl, refl))
+      (λ next text at. subst (λ (s : Scene). Went wants beginning s [] h0 h1 (λ t more. H t (text ++ more))) (sym at.0) (subst (λ (x : List ℕ). Went wants beginning (replied scene number head body one) [] h0 h1 (λ t more. H t (x ++ more))) (sym at.1) went))
+
+  -- a round that wakes
+  pub round_wakes : (scene : Scene) (one : Parked) (h0 h1 : List Entry) (H : Scene → List ℕ → Type 0) → NobodyRuns scene → find (is_free scene.state) scene.parked ≡ Some one → Went wants beginning (woken scene one) [] h0 h1 H → Went wants beginning scene [] h0 h1 H
+  round_wakes scene one h0 h1 H rests is went =
+      went-then wants beginning scene [] [] h0 h0 h1 (λ next text. (next ≡ woken scene one) × (text ≡ [])) H
+      (went-one wants beginning scene (woken scene one) wakes h0 h0 _ (one, rests, is, refl) (sym (append-nil h0)) (refl, refl))
+      (λ next text at. subst (λ (s : Scene). Went wants beginning s [] h0 h1 (λ t more. H t (text ++ more))) (sym at.0) (subst (λ (x : List ℕ). Went wants beginning (woken scene one) [] h0 h1 (λ t more. H t (x ++ more))) (sym at.1) went))
+
+  -- what is taken before a part that comes to somewhere
+  pub comes_behind : {P : Type 0} (stands : P → Request → List Given → Type 0) (Still : Scene → Type 0) (before middle after : Stage P) (one two three : Pieces) (result : Result (Unit {0}) Break) (scene : Scene) (text more : List ℕ) → Takes one two text → ComesTo wants stands beginning Still (record { before = middle; after = after; old = two; new = three }) result scene more → ComesTo wants stands beginning Still (record { before = before; after = after; old = one; new = three }) result scene (text ++ more)
+  comes_behind stands Still before middle after one two three (Ok u) scene text more takes comes = (comes.0, comes.1, Takes-then one two three text more takes comes.2)
+  comes_behind stands Still before middle after one two three (Err broken) scene text more takes comes = Breaks-behind wants beginning after.history one two three broken scene text more takes comes
+
+  -- the stage of a scene is that of another with the same rounds
+  pub stage_like : {P : Type 0} (stands : P → Request → List Given → Type 0) (stage : Stage P) (one two : Scene) → IsStage wants stands beginning stage one → two.moment ≡ one.moment → two.state ≡ one.state → two.waiting ≡ one.waiting → two.parked ≡ one.parked → IsStage wants stands beginning stage two
+  stage_like stands stage one two is m s w p =
+      record {
+        at = at_like beginning stage.history stage.moment one two is.at m s;
+        waiting_are = subst (λ (ws : List Waiting). AllAlike (IsPending wants stands) stage.waiting ws) (sym w) is.waiting_are;
+        parked_are = subst (λ (ps : List Parked). AllAlike (IsParked wants stands) stage.parked ps) (sym p) is.parked_are;
+      }
+
+  -- a call that was answered, and what the round then comes to
+  pub asked_and_led : {P : Type 0} (stands : P → Request → List Given → Type 0) (scene : Scene) (h0 h1 h2 : List Entry) (moment : ℕ) (policy : P) (client : ℕ) (want : Want) (waiting : List (Pending P)) (parked : List (Kept P)) (before after : Stage P) (one two : Pieces) (result : Result (Unit {0}) Break)
+      → AllAlike (IsPending wants stands) waiting scene.waiting → AllAlike (IsParked wants stands) parked scene.parked
+      → Went wants beginning scene [] h0 h1 (Meets wants stands beginning h1 moment policy client one one (Ok want) scene)
+      → ((s : Scene) → IsStage wants stands beginning (record { moment = moment; waiting = waiting; parked = parked; history = h1 }) s → HasTurn wants stands policy client want s → Went wants beginning s [] h1 h2 (ComesTo wants stands beginning NobodyRuns (record { before = record { moment = moment; waiting = waiting; parked = parked; history = h1 }; after = after; old = one; new = two }) result))
+      → Went wants beginning scene [] h0 h2 (ComesTo wants stands beginning NobodyRuns (record { before = before; after = after; old = one; new = two }) result)
+  asked_and_led stands scene h0 h1 h2 moment policy client want waiting parked before after one two result are too met led =
+      went-then wants beginning scene [] [] h0 h1 h2 (Meets wants stands beginning h1 moment policy client one one (Ok want) scene) _ met
+      (λ s text m. went-map wants beginning s [] h1 h2 _ _ (λ next more c. comes_behind stands NobodyRuns before (record { moment = moment; waiting = waiting; parked = parked; history = h1 }) after one one two result next text more m.1 c)
+      (led s (record {
+        at = m.0.at;
+        waiting_are = subst (λ (ws : List Waiting). AllAlike (IsPending wants stands) waiting ws) (sym m.0.keeps.waiting_same) are;
+        parked_are = subst (λ (ps : List Parked). AllAlike (IsParked wants stands) parked ps) (sym m.0.keeps.parked_same) too;
+      }) m.0.has_turn))
+
+  -- one part, and another behind it, from where nobody runs
+  pub comes_then : {P : Type 0} (stands : P → Request → List Given → Type 0) (Still : Scene → Type 0) (scene : Scene) (h0 h1 h2 : List Entry) (before middle after : Stage P) (one two three : Pieces) (result : Result (Unit {0}) Break)
+      → Went wants beginning scene [] h0 h1 (ComesTo wants stands beginning NobodyRuns (record { before = before; after = middle; old = one; new = two }) (Ok tt))
+      → ((s : Scene) → IsStage wants stands beginning middle s → NobodyRuns s → Went wants beginning s [] h1 h2 (ComesTo wants stands beginning Still (record { before = middle; after = after; old = two; new = three }) result))
+      → Went wants beginning scene [] h0 h2 (ComesTo wants stands beginning Still (record { before = before; after = after; old = one; new = three }) result)
+  comes_then stands Still scene h0 h1 h2 before middle after one two three result first then_ =
+      went-then wants beginning scene [] [] h0 h1 h2 (ComesTo wants stands beginning NobodyRuns (record { before = before; after = middle; old = one; new = two }) (Ok tt)) _ first
+      (λ s text f. went-map wants beginning s [] h1 h2 _ _ (λ next more c. comes_behind stands Still before middle after one two three result next text more f.2 c) (then_ s f.1 f.0))
+
+module _ {P : Type 0} (wants : Request → List Given → Want → Type 0) (stands : P → Request → List Given → Type 0) where
+  -- what a part comes to, from the beginning that the cache has
+  pub comes_at : (Still : Scene → Type 0) (one two : Beginning) (stage : Stage P) (change : Change P) (h0 h1 : List Entry) (result : Result (Unit {0}) Break) → two ≡ one
+      → ((scene : Scene) → IsStage wants stands two stage scene → NobodyRuns scene → Went wants two scene [] h0 h1 (ComesTo wants stands two Still change result))
+      → (scene : Scene) → IsStage wants stands one stage scene → NobodyRuns scene → Went wants one scene [] h0 h1 (ComesTo wants stands one Still change result)
+  comes_at Still one two stage change h0 h1 result same comes =
+      subst (λ (b : Beginning). (scene : Scene) → IsStage wants stands b stage scene → NobodyRuns scene → Went wants b scene [] h0 h1 (ComesTo wants stands b Still change result)) same comes
+
+  -- the same of a round that has its turn
+  pub led_at : (Still : Scene → Type 0) (one two : Beginning) (stage : Stage P) (change : Change P) (h0 h1 : List Entry) (policy : P) (client : ℕ) (want : Want) (result : Result (Unit {0}) Break) → two ≡ one
+      → ((scene : Scene) → IsStage wants stands two stage scene → HasTurn wants stands policy client want scene → Went wants two scene [] h0 h1 (ComesTo wants stands two Still change result))
+      → (scene : Scene) → IsStage wants stands one stage scene → HasTurn wants stands policy client want scene → Went wants one scene [] h0 h1 (ComesTo wants stands one Still change result)
+  led_at Still one two stage change h0 h1 policy client want result same led =
+      subst (λ (b : Beginning). (scene : Scene) → IsStage wants stands b stage scene → HasTurn wants stands policy client want scene → Went wants b scene [] h0 h1 (ComesTo wants stands b Still change result)) same led
+
+  -- a stage's scene in which nobody runs
+  pub set_still : (beginning : Beginning) (stage : Stage P) → IsSet wants stands beginning stage → (scene : Scene) × IsStage wants stands beginning stage scene × NobodyRuns scene
+  set_still beginning stage set = (record set.scene { running = None }, stage_like wants beginning stands stage set.scene (record set.scene { running = None }) set.is_stage refl refl refl refl, refl)
+
+  -- what a part came to is a stage again
+  pub set_on : (Still : Scene → Type 0) (one two : Beginning) (scene : Scene) (events_read : List Event) (change : Change P) (h0 h1 : List Entry) → two ≡ one → Went wants one scene events_read h0 h1 (ComesTo wants stands one Still change (Ok tt)) → IsSet wants stands two change.after
+  set_on Still one two scene events_read change h0 h1 same went =
+      record { scene = went.scene; is_stage = subst (λ (b : Beginning). IsStage wants stands b change.after went.scene) (sym same) went.fact.1 }
+
+  -- where nobody's token is closed, the schedule is at rest
+  pub rests_now : (beginning : Beginning) (stage : Stage P) (scene : Scene) → IsStage wants stands beginning stage scene → NobodyRuns scene → position (λ (k : Kept P). is_closed (reached beginning stage.history).fetches k.token) stage.parked ≡ None → AtRest scene
+  rests_now beginning stage scene is still none =
+      record { nobody_runs = still; nobody_is_free = nobody_free wants stands scene.state stage.parked scene.parked is.parked_are (subst (λ (s : State). position (λ (k : Kept P). is_closed s.fetches k.token) stage.parked ≡ None) (sym is.at.state_is) none) }
+
+  -- the round that wakes, by the cache's history
+  pub found_by_history : (beginning : Beginning) (stage : Stage P) (scene : Scene) (place : ℕ) (one : Kept P) → IsStage wants stands beginning stage scene → position (λ (k : Kept P). is_closed (reached beginning stage.history).fetches k.token) stage.parked ≡ Some place → one ≡ get_or stage.parked place one → FoundFree wants stands scene.state stage.parked scene.parked place one
+  found_by_history beginning stage scene place one is at one_is =
+      found_free wants stands scene.state stage.parked scene.parked place one is.parked_are (subst (λ (s : State). position (λ (k : Kept P). is_closed s.fetches k.token) stage.parked ≡ Some place) (sym is.at.state_is) at) one_is
+
+  -- the stage behind a reply that was heard
+  pub reply_stage : (beginning : Beginning) (stage : Stage P) (scene : Scene) (number : ℕ) (head : ResponseHead) (body : List ℕ) (place : ℕ) (kept : Pending P) (it : FoundWaiting wants stands stage.waiting scene.waiting number place kept) (others : List (Pending P)) → others ≡ remove stage.waiting place → IsStage wants stands beginning stage scene → IsStage wants stands beginning (record stage { waiting = others }) (replied scene number head body it.one)
+  reply_stage beginning stage scene number head body place kept it others is set =
+      record {
+        at = at_like beginning stage.history stage.moment scene (replied scene number head body it.one) set.at refl refl;
+        waiting_are = subst (λ (ps : List (Pending P)). AllAlike (IsPending wants stands) ps (without_first number scene.waiting)) (sym is) it.others;
+        parked_are = set.parked_are;
+      }
+
+  -- the round that has its reply
+  pub reply_turn : (scene : Scene) (number : ℕ) (head : ResponseHead) (body : List ℕ) (moment : ℕ) (pending : List (Pending P)) (place : ℕ) (kept : Pending P) (it : FoundWaiting wants stands pending scene.waiting number place kept) (after : P) (want : Want) → moment ≡ scene.moment
+      → ((request : Request) (givens : List Given) → stands kept.policy request givens → stands after request (Came (record { moment = moment; exchange = exchanges.Reply head body }) ∷ givens))
+      → ((request : Request) (givens : List Given) → stands kept.policy request givens → wants request (Came (record { moment = moment; exchange = exchanges.Reply head body }) ∷ givens) want)
+      → HasTurn wants stands after kept.client want (replied scene number head body it.one)
+  reply_turn scene number head body moment pending place kept it after want same stands_on wanted =
+      record {
+        round = gave it.one.round (Came (record { moment = scene.moment; exchange = exchanges.Reply head body }));
+        turn = refl;
+        leads = subst (λ (m : ℕ). Leads wants stands after kept.client want (gave it.one.round (Came (record { moment = m; exchange = exchanges.Reply head body })))) same
+            (leads_on wants stands kept.policy after kept.client _ want it.one.round (Came (record { moment = moment; exchange = exchanges.Reply head body })) it.is_same.leads stands_on wanted);
+      }
+
+  -- the stage behind a round that woke
+  pub woken_stage : (beginning : Beginning) (stage : Stage P) (scene : Scene) (place : ℕ) (one : Kept P) (it : FoundFree wants stands scene.state stage.parked scene.parked place one) (others : List (Kept P)) → others ≡ remove stage.parked place → IsStage wants stands beginning stage scene → IsStage wants stands beginning (record stage { parked = others }) (woken scene it.one)
+  woken_stage beginning stage scene place one it others is set =
+      record {
+        at = at_like beginning stage.history stage.moment scene (woken scene it.one) set.at refl refl;
+        waiting_are = set.waiting_are;
+        parked_are = subst (λ (ps : List (Kept P)). AllAlike (IsParked wants stands) ps (without_free scene.state scene.parked)) (sym is) it.others;
+      }
+
+  -- and the round
+  pub woken_turn : (scene : Scene) (pending : List (Kept P)) (place : ℕ) (kept : Kept P) (it : FoundFree wants stands scene.state pending scene.parked place kept) (after : P) (want : Want)
+      → ((request : Request) (givens : List Given) → stands kept.policy request givens → stands after request (Closed ∷ givens))
+      → ((request : Request) (givens : List Given) → stands kept.policy request givens → wants request (Closed ∷ givens) want)
+      → HasTurn wants stands after kept.client want (woken scene it.one)
+  woken_turn scene pending place kept it after want stands_on wanted =
+      record { round = gave it.one.round Closed; turn = refl; leads = leads_on wants stands kept.policy after kept.client _ want it.one.round Closed it.is_same.leads stands_on wanted }

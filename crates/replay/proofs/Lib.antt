@@ -1,11 +1,14 @@
 pub mod Runs
+pub mod Taking
+pub mod Replies
 pub mod Asking
 pub mod Sending
-pub mod Rounds
+pub mod Alike
+pub mod Turns
 pub mod Hearing
 pub mod Playing
 pub mod Ending
-pub mod Building
-pub mod Wholes
 pub mod Unique
 pub mod OneWay
+pub mod Building
+pub mod Wholes

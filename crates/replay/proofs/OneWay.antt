@@ -3,14 +3,14 @@ use Rattle.std.proofs.Common.{◌≡◌, ◌≢◌, ◌⊎◌, inl, inr, ℕ, Li
 use Rattle.std.proofs.lemmas.List.{append-nil, append_cancel_left, map-append}
 use Rattle.std.specs.List.{flat_map, AllByRecursion}
 use Rattle.std.specs.Io.KnownBytes.{Appends}
-use Rattle.cache_law.specs.declared.setting.Params.{Params}
-use Rattle.cache_law.specs.declared.setting.Boot.{Boot}
 use Rattle.cache_law.specs.declared.call.Call.{Call}
 use Rattle.cache_law.specs.declared.call.Entry.{Entry}
 use Rattle.cache_law.specs.declared.call.Reply.{Reply}
 use Rattle.cache_law.specs.declared.call.Reply.TheVariants.{Refused}
-use Rattle.cache_law.specs.State.{State}
-use Rattle.cache_law.specs.Law.{allowed, reply_to}
+use Rattle.cache_law.specs.State.{State, at_moment}
+use Rattle.cache_law.specs.declared.call.Call.TheVariants.{Begin, Lookup, Pick, Insert, End}
+use Rattle.cache_law.specs.Beginning.{Beginning}
+use Rattle.cache_law.specs.Law.{step_of, MayAnswer}
 use Rattle.cache_law.specs.Core.{FitsBehind}
 use Rattle.cache_law.specs.History.{Legal, LegalFrom, Fits, Follows, next_state, reached, bytes_of_all, bytes_of}
 use Rattle.cache_law.proofs.Histories.{reached-push, bytes_of_all-push}
@@ -25,12 +25,12 @@ use Rattle.replay.specs.declared.event.Script.{Script}
 use Rattle.replay.specs.declared.session.ReplayError.{ReplayError}
 use Rattle.replay.specs.declared.session.ReplayError.TheVariants.{NotBuilt, Idle, Unanswered, WriteFault, HistoryFull, NoMemory}
 use Rattle.replay.specs.Policy.{HasOneWant}
-use Rattle.replay.specs.Scene.{Scene, Move, hears, calls, fetches, sends, ends, events_of, entries_of, text_of, Hears, Next, Run, opening_scene}
+use Rattle.replay.specs.Scene.{Scene, Round, Move, hears, calls, fetches, sends, parks, wakes, ends, events_of, entries_of, text_of, AtRest, Hears, Next, Run, opening_scene}
 use Rattle.replay.specs.Endings.{IsIdle, WantsTooMuch}
 use Rattle.replay.specs.Went.{Went, events_in}
-use Rattle.replay.specs.Replayed.{EndsSo, CameTo}
+use Rattle.replay.specs.Replayed.{EndsSo, CameTo, NobodyWaits}
 use Rattle.replay.specs.Laws.{NoneRefused, OneText, OneHistory, OneEnding, IsOwnEnding}
-use Rattle.replay.proofs.Unique.{IsStuck, one_way, same_round, stuck_at_rest}
+use Rattle.replay.proofs.Unique.{IsStuck, one_way, same_round, stuck_at_rest, only_hears}
 
 -- these entries stand behind those before them in the whole list
 abbrev pub IsWithin : List Entry → List Entry → List Entry → Type 0
@@ -48,32 +48,35 @@ within_all : (all entries : List Entry) → entries ≡ all → IsWithin all [] 
 within_all all entries is = ([], sym is ∙ sym (append-nil entries))
 
 pub one_text : (wants : Request → List Given → Want → Type 0) → HasOneWant wants → OneText wants
-one_text wants one_want events entries scene other text said r q rests stops =
-    let sure = IsWithin entries in
+one_text wants one_want beginning events entries scene other text said r q rests stops =
     let all : flat_map events_of r.moves ++ [] ≡ flat_map events_of q.moves ++ [] = ap (λ (xs : List Event). xs ++ []) (r.reads ∙ sym q.reads) in
-    let way = one_way wants one_want (IsWithin entries) (within_on entries) (λ before e f more others s t who when what. within_one entries before e f more others s t)
-        opening_scene scene other r.moves q.moves [] [] r.path q.path all (within_all entries _ r.enters) (within_all entries _ q.enters)
-        (stuck_at_rest wants one_want (IsWithin entries) (within_on entries) (λ before e f more others s t who when what. within_one entries before e f more others s t) scene [] _ rests refl)
-        (stuck_at_rest wants one_want (IsWithin entries) (within_on entries) (λ before e f more others s t who when what. within_one entries before e f more others s t) other [] _ stops refl) in
+    let way = one_way wants one_want beginning (IsWithin entries) (within_on entries) (λ before e f more others s t who when what. within_one entries before e f more others s t)
+    (opening_scene beginning) scene other r.moves q.moves [] [] r.path q.path all (within_all entries _ r.enters) (within_all entries _ q.enters)
+    (stuck_at_rest wants one_want beginning (IsWithin entries) (within_on entries) (λ before e f more others s t who when what. within_one entries before e f more others s t) scene [] _ rests refl)
+    (stuck_at_rest wants one_want beginning (IsWithin entries) (within_on entries) (λ before e f more others s t who when what. within_one entries before e f more others s t) other [] _ stops refl) in
     (way.1, sym q.writes ∙ (ap (λ (ms : List Move). flat_map text_of ms) way.0 ∙ r.writes))
 
 -- these entries may follow those before them, and none is a refused insertion
-record IsLawful (params : Params) (boot : Boot) (before more : List Entry) : Type 0 where
-  legal : LegalFrom params boot (reached before) (bytes_of_all before) more
+record IsLawful (beginning : Beginning) (before more : List Entry) : Type 0 where
+  legal : LegalFrom beginning (reached beginning before) (bytes_of_all before) more
   kept : NoneRefused more
 
-legal_on : (params : Params) (boot : Boot) (before : List Entry) (entry : Entry) (more : List Entry) → LegalFrom params boot (reached before) (bytes_of_all before) (entry ∷ more) → LegalFrom params boot (reached (before ++ entry ∷ [])) (bytes_of_all (before ++ entry ∷ [])) more
-legal_on params boot before entry more legal =
-    subst (λ (state : State). LegalFrom params boot state (bytes_of_all (before ++ entry ∷ [])) more) (sym (reached-push before entry))
-    (subst (λ (used : ℕ). LegalFrom params boot (next_state (reached before) entry) used more) (sym (bytes_of_all-push before entry)) legal.2)
+legal_on : (beginning : Beginning) (before : List Entry) (entry : Entry) (more : List Entry) → LegalFrom beginning (reached beginning before) (bytes_of_all before) (entry ∷ more) → LegalFrom beginning (reached beginning (before ++ entry ∷ [])) (bytes_of_all (before ++ entry ∷ [])) more
+legal_on beginning before entry more legal =
+    subst (λ (state : State). LegalFrom beginning state (bytes_of_all (before ++ entry ∷ [])) more) (sym (reached-push beginning before entry))
+    (subst (λ (used : ℕ). LegalFrom beginning (next_state beginning (reached beginning before) entry) used more) (sym (bytes_of_all-push before entry)) legal.2)
 
-lawful_on : (params : Params) (boot : Boot) (before : List Entry) (entry : Entry) (more : List Entry) → IsLawful params boot before (entry ∷ more) → IsLawful params boot (before ++ entry ∷ []) more
-lawful_on params boot before entry more is = record { legal = legal_on params boot before entry more is.legal; kept = is.kept.1 }
+lawful_on : (beginning : Beginning) (before : List Entry) (entry : Entry) (more : List Entry) → IsLawful beginning before (entry ∷ more) → IsLawful beginning (before ++ entry ∷ []) more
+lawful_on beginning before entry more is = record { legal = legal_on beginning before entry more is.legal; kept = is.kept.1 }
 
 -- what may be answered, but for Refused, is the law's answer
-told : (answer reply : Reply) → answer ≢ Refused → allowed answer reply ≡ reply
-told Refused reply other = absurd (other refl)
-told answer reply other = refl
+told : (state : State) (call : Call) (law answer : Reply) → MayAnswer state call law answer → answer ≢ Refused → answer ≡ law
+told state Begin law answer may other = may
+told state (Lookup query) law answer may other = may
+told state (Pick vcl target word) law answer may other = may
+told state (Insert token object) law answer (inl same) other = same
+told state (Insert token object) law answer (inr refused) other = absurd (other refused.0)
+told state End law answer may other = may
 
 same_entry : (entry other : Entry) → other.caller ≡ entry.caller → other.moment ≡ entry.moment → other.call ≡ entry.call → other.reply ≡ entry.reply → other ≡ entry
 same_entry entry other who when what reply =
@@ -81,79 +84,83 @@ same_entry entry other who when what reply =
     ∙ (ap (λ (x : ℕ). record other { caller = entry.caller; moment = x }) when
     ∙ (ap (λ (x : Call). record other { caller = entry.caller; moment = entry.moment; call = x }) what ∙ ap (λ (x : Reply). record entry { reply = x }) reply))
 
-lawful_one : (params : Params) (boot : Boot) (before : List Entry) (entry other : Entry) (more others : List Entry) → IsLawful params boot before (entry ∷ more) → IsLawful params boot before (other ∷ others) → other.caller ≡ entry.caller → other.moment ≡ entry.moment → other.call ≡ entry.call → other ≡ entry
-lawful_one params boot before entry other more others p q who when what =
-    let mine : entry.reply ≡ reply_to params boot (reached before) entry.caller entry.moment entry.call = p.legal.0.answer ∙ told entry.reply _ p.kept.0 in
-    let its : other.reply ≡ reply_to params boot (reached before) other.caller other.moment other.call = q.legal.0.answer ∙ told other.reply _ q.kept.0 in
-    let same : reply_to params boot (reached before) other.caller other.moment other.call ≡ reply_to params boot (reached before) entry.caller entry.moment entry.call =
-    ap (λ (n : ℕ). reply_to params boot (reached before) n other.moment other.call) who
-    ∙ (ap (λ (n : ℕ). reply_to params boot (reached before) entry.caller n other.call) when ∙ ap (λ (c : Call). reply_to params boot (reached before) entry.caller entry.moment c) what) in
+law_of : Beginning → List Entry → ℕ → ℕ → Call → Reply
+law_of beginning before caller moment call = (step_of beginning (reached beginning before) caller moment call).reply
+
+lawful_one : (beginning : Beginning) (before : List Entry) (entry other : Entry) (more others : List Entry) → IsLawful beginning before (entry ∷ more) → IsLawful beginning before (other ∷ others) → other.caller ≡ entry.caller → other.moment ≡ entry.moment → other.call ≡ entry.call → other ≡ entry
+unfolding law_of
+lawful_one beginning before entry other more others p q who when what =
+    let mine : entry.reply ≡ law_of beginning before entry.caller entry.moment entry.call = told (at_moment entry.moment (reached beginning before)) entry.call _ entry.reply p.legal.0.answer p.kept.0 in
+    let its : other.reply ≡ law_of beginning before other.caller other.moment other.call = told (at_moment other.moment (reached beginning before)) other.call _ other.reply q.legal.0.answer q.kept.0 in
+    let same : law_of beginning before other.caller other.moment other.call ≡ law_of beginning before entry.caller entry.moment entry.call =
+    ap (λ (n : ℕ). law_of beginning before n other.moment other.call) who
+    ∙ (ap (λ (n : ℕ). law_of beginning before entry.caller n other.call) when ∙ ap (λ (c : Call). law_of beginning before entry.caller entry.moment c) what) in
     same_entry entry other who when what (its ∙ (same ∙ sym mine))
 
 pub one_history : (wants : Request → List Given → Want → Type 0) → HasOneWant wants → OneHistory wants
-one_history wants one_want params boot events entries others scene other text said r q rests stops legal lawful kept keeps =
+one_history wants one_want beginning events entries others scene other text said r q rests stops legal lawful kept keeps =
     let all : flat_map events_of r.moves ++ [] ≡ flat_map events_of q.moves ++ [] = ap (λ (xs : List Event). xs ++ []) (r.reads ∙ sym q.reads) in
-    let mine : IsLawful params boot [] entries = record { legal = legal; kept = kept } in
-    let its : IsLawful params boot [] others = record { legal = lawful; kept = keeps } in
-    let way = one_way wants one_want (IsLawful params boot) (lawful_on params boot) (lawful_one params boot)
-        opening_scene scene other r.moves q.moves [] [] r.path q.path all
-        (subst (λ (es : List Entry). IsLawful params boot [] es) (sym r.enters) mine) (subst (λ (es : List Entry). IsLawful params boot [] es) (sym q.enters) its)
-        (stuck_at_rest wants one_want (IsLawful params boot) (lawful_on params boot) (lawful_one params boot) scene [] _ rests refl)
-        (stuck_at_rest wants one_want (IsLawful params boot) (lawful_on params boot) (lawful_one params boot) other [] _ stops refl) in
+    let mine : IsLawful beginning [] entries = record { legal = legal.each; kept = kept } in
+    let its : IsLawful beginning [] others = record { legal = lawful.each; kept = keeps } in
+    let way = one_way wants one_want beginning (IsLawful beginning) (lawful_on beginning) (lawful_one beginning)
+    (opening_scene beginning) scene other r.moves q.moves [] [] r.path q.path all
+    (subst (λ (es : List Entry). IsLawful beginning [] es) (sym r.enters) mine) (subst (λ (es : List Entry). IsLawful beginning [] es) (sym q.enters) its)
+    (stuck_at_rest wants one_want beginning (IsLawful beginning) (lawful_on beginning) (lawful_one beginning) scene [] _ rests refl)
+    (stuck_at_rest wants one_want beginning (IsLawful beginning) (lawful_on beginning) (lawful_one beginning) other [] _ stops refl) in
     (sym q.enters ∙ (ap (λ (ms : List Move). flat_map entries_of ms) way.0 ∙ r.enters), way.1, sym q.writes ∙ (ap (λ (ms : List Move). flat_map text_of ms) way.0 ∙ r.writes))
 
 -- why the session ends in this scene, its events read but for those that are left
-IsWhy : (Request → List Given → Want → Type 0) → Params → Boot → Script → List Entry → Scene → List Event → List Event → Option ReplayError → Type 0
-IsWhy wants params boot script history scene heard left None = (scene.running ≡ None) × (left ≡ []) × (scene.waiting ≡ [])
-IsWhy wants params boot script history scene heard left (Some (Unanswered line)) = (scene.running ≡ None) × (left ≡ []) × (scene.waiting ≡ [] → ⊥) × (line ≡ script.end)
-IsWhy wants params boot script history scene heard left (Some (Idle line)) =
+IsWhy : (Request → List Given → Want → Type 0) → Beginning → Script → List Entry → Scene → List Event → List Event → Option ReplayError → Type 0
+IsWhy wants beginning script history scene heard left None = AtRest scene × (left ≡ []) × NobodyWaits scene
+IsWhy wants beginning script history scene heard left (Some (Unanswered line)) = AtRest scene × (left ≡ []) × (NobodyWaits scene → ⊥) × (line ≡ script.end)
+IsWhy wants beginning script history scene heard left (Some (Idle line)) =
     (played : List NumberedEvent) × (idle : NumberedEvent) × (rest : List NumberedEvent) × (script.events ≡ played ++ idle ∷ rest) × (idle.number ≡ line)
-    × (heard ≡ events_in played) × (left ≡ idle.event ∷ events_in rest) × (scene.running ≡ None) × IsIdle scene idle.event
-IsWhy wants params boot script history scene heard left (Some HistoryFull) = WantsTooMuch wants params boot history scene
-IsWhy wants params boot script history scene heard left (Some (NotBuilt line)) = ⊥
-IsWhy wants params boot script history scene heard left (Some WriteFault) = ⊥
-IsWhy wants params boot script history scene heard left (Some NoMemory) = ⊥
+    × (heard ≡ events_in played) × (left ≡ idle.event ∷ events_in rest) × AtRest scene × IsIdle scene idle.event
+IsWhy wants beginning script history scene heard left (Some HistoryFull) = WantsTooMuch wants beginning history scene
+IsWhy wants beginning script history scene heard left (Some (NotBuilt line)) = ⊥
+IsWhy wants beginning script history scene heard left (Some WriteFault) = ⊥
+IsWhy wants beginning script history scene heard left (Some NoMemory) = ⊥
 
 -- the way to an ending of the session's own
-record Ended (wants : Request → List Given → Want → Type 0) (params : Params) (boot : Boot) (script : Script) (history : List Entry) (before now : Option (List ℕ)) (ending : Option ReplayError) : Type 0 where
+record Ended (wants : Request → List Given → Want → Type 0) (beginning : Beginning) (script : Script) (history : List Entry) (before now : Option (List ℕ)) (ending : Option ReplayError) : Type 0 where
   scene : Scene
   heard : List Event
   left : List Event
   text : List ℕ
-  run : Run wants opening_scene scene heard history text
+  run : Run wants beginning (opening_scene beginning) scene heard history text
   split : events_in script.events ≡ heard ++ left
   holds : Appends before now text
-  why : IsWhy wants params boot script history scene heard left ending
+  why : IsWhy wants beginning script history scene heard left ending
 
-run_of : (wants : Request → List Given → Want → Type 0) (heard : List Event) (history : List Entry) (H : Scene → List ℕ → Type 0) (went : Went wants opening_scene heard [] history H) → Run wants opening_scene went.scene heard history went.text
-run_of wants heard history H went = subst (λ (es : List Entry). Run wants opening_scene went.scene heard es went.text) (sym went.history) went.run
+run_of : (wants : Request → List Given → Want → Type 0) (beginning : Beginning) (heard : List Event) (history : List Entry) (H : Scene → List ℕ → Type 0) (went : Went wants beginning (opening_scene beginning) heard [] history H) → Run wants beginning (opening_scene beginning) went.scene heard history went.text
+run_of wants beginning heard history H went = subst (λ (es : List Entry). Run wants beginning (opening_scene beginning) went.scene heard es went.text) (sym went.history) went.run
 
-ended : (wants : Request → List Given → Want → Type 0) (params : Params) (boot : Boot) (script : Script) (history : List Entry) (before now : Option (List ℕ)) (ending : Option ReplayError) → IsOwnEnding ending → EndsSo wants params boot script history before now ending → Ended wants params boot script history before now ending
+ended : (wants : Request → List Given → Want → Type 0) (beginning : Beginning) (script : Script) (history : List Entry) (before now : Option (List ℕ)) (ending : Option ReplayError) → IsOwnEnding ending → EndsSo wants beginning script history before now ending → Ended wants beginning script history before now ending
 unfolding IsWhy
-ended wants params boot script history before now None own e =
+ended wants beginning script history before now None own e =
     let w = e.went in
-    record { scene = w.scene; heard = events_in script.events; left = []; text = w.text; run = run_of wants _ history _ w; split = sym (append-nil (events_in script.events)); holds = w.fact.2; why = (w.fact.0, refl, w.fact.1) }
-ended wants params boot script history before now (Some (Unanswered line)) own e =
+    record { scene = w.scene; heard = events_in script.events; left = []; text = w.text; run = run_of wants beginning _ history _ w; split = sym (append-nil (events_in script.events)); holds = w.fact.2; why = (w.fact.0, refl, w.fact.1) }
+ended wants beginning script history before now (Some (Unanswered line)) own e =
     let w = e.1.went in
-    record { scene = w.scene; heard = events_in script.events; left = []; text = w.text; run = run_of wants _ history _ w; split = sym (append-nil (events_in script.events)); holds = w.fact.2; why = (w.fact.0, refl, w.fact.1, e.0) }
-ended wants params boot script history before now (Some (Idle line)) own e =
+    record { scene = w.scene; heard = events_in script.events; left = []; text = w.text; run = run_of wants beginning _ history _ w; split = sym (append-nil (events_in script.events)); holds = w.fact.2; why = (w.fact.0, refl, w.fact.1, e.0) }
+ended wants beginning script history before now (Some (Idle line)) own e =
     let w = e.5.went in
     record {
       scene = w.scene;
       heard = events_in e.0;
       left = e.1.event ∷ events_in e.2;
       text = w.text;
-      run = run_of wants _ history _ w;
+      run = run_of wants beginning _ history _ w;
       split = ap events_in e.3 ∙ map-append (λ (n : NumberedEvent). n.event) e.0 (e.1 ∷ e.2);
       holds = w.fact.2;
       why = (e.0, e.1, e.2, e.3, e.4, refl, refl, w.fact.0, w.fact.1);
     }
-ended wants params boot script history before now (Some HistoryFull) own e =
+ended wants beginning script history before now (Some HistoryFull) own e =
     let w = e.3.went in
-    record { scene = w.scene; heard = e.0; left = e.1; text = w.text; run = run_of wants _ history _ w; split = e.2; holds = w.fact.1; why = w.fact.0 }
-ended wants params boot script history before now (Some (NotBuilt line)) own e = absurd own
-ended wants params boot script history before now (Some WriteFault) own e = absurd own
-ended wants params boot script history before now (Some NoMemory) own e = absurd own
+    record { scene = w.scene; heard = e.0; left = e.1; text = w.text; run = run_of wants beginning _ history _ w; split = e.2; holds = w.fact.1; why = w.fact.0 }
+ended wants beginning script history before now (Some (NotBuilt line)) own e = absurd own
+ended wants beginning script history before now (Some WriteFault) own e = absurd own
+ended wants beginning script history before now (Some NoMemory) own e = absurd own
 
 -- an idle event isn't heard
 not_heard : (scene new : Scene) (event : Event) → IsIdle scene event → Hears scene event new → ⊥
@@ -167,88 +174,89 @@ same_idle [] (o ∷ os) idle other rest more split same = absurd (cc)
 same_idle (p ∷ ps) [] idle other rest more split same = absurd (cc)
 same_idle (p ∷ ps) (o ∷ os) idle other rest more split same = same_idle ps os idle other rest more (cc) (cc)
 
-module _ (wants : Request → List Given → Want → Type 0) (one_want : HasOneWant wants) (params : Params) (boot : Boot) (script : Script) where
+module _ (wants : Request → List Given → Want → Type 0) (one_want : HasOneWant wants) (beginning : Beginning) (script : Script) where
   module _ (Sure : List Entry → List Entry → Type 0)
       (on : (before : List Entry) (entry : Entry) (more : List Entry) → Sure before (entry ∷ more) → Sure (before ++ entry ∷ []) more)
       (one_entry : (before : List Entry) (entry other : Entry) (more others : List Entry) → Sure before (entry ∷ more) → Sure before (other ∷ others) → other.caller ≡ entry.caller → other.moment ≡ entry.moment → other.call ≡ entry.call → other ≡ entry)
-      (fits : (before : List Entry) (entry : Entry) (more : List Entry) → Sure before (entry ∷ more) → FitsBehind params boot before entry.caller entry.moment entry.call) where
+      (fits : (before : List Entry) (entry : Entry) (more : List Entry) → Sure before (entry ∷ more) → FitsBehind beginning before entry.caller entry.moment entry.call) where
     -- no call that doesn't fit is entered, and no other move made
-    stuck_full : (scene : Scene) (left : List Event) (history : List Entry) → WantsTooMuch wants params boot history scene → IsStuck wants one_want Sure on one_entry scene left history
-    stuck_full scene left history full (hears (events.Moment moment)) new others more next split sure = let turn = full.runs.turn in let none = next.0 in absurd (cc)
-    stuck_full scene left history full (hears (events.Request request)) new others more next split sure = let turn = full.runs.turn in let none = next.0 in absurd (cc)
-    stuck_full scene left history full (hears (events.Reply number head body)) new others more next split sure = let turn = full.runs.turn in let none = next.1 in absurd (cc)
+    stuck_full : (scene : Scene) (left : List Event) (history : List Entry) → WantsTooMuch wants beginning history scene → IsStuck wants one_want beginning Sure on one_entry scene left history
+    stuck_full scene left history full (hears (events.Moment moment)) new others more next split sure = let turn = full.runs.turn in let none = next.0.nobody_runs in absurd (cc)
+    stuck_full scene left history full (hears (events.Request request)) new others more next split sure = let turn = full.runs.turn in let none = next.0.nobody_runs in absurd (cc)
+    stuck_full scene left history full (hears (events.Reply number head body)) new others more next split sure = let turn = full.runs.turn in let none = next.1.nobody_runs in absurd (cc)
     stuck_full scene left history full (calls entry) new others more next split sure =
-        let same = same_round wants one_want scene full.round next.0 (Ask full.call) (Ask entry.call) full.runs next.1 in
+        let same = same_round wants one_want beginning scene full.round next.0 (Ask full.call) (Ask entry.call) full.runs next.1 in
         let call : entry.call ≡ full.call = cc in
-        let who : entry.caller ≡ full.round.request.client = next.2 ∙ ap (λ (r : _). r.request.client) same.0 in
-        full.full (subst (λ (x : _). FitsBehind params boot history full.round.request.client scene.moment x) call
-            (subst (λ (x : ℕ). FitsBehind params boot history full.round.request.client x entry.call) next.3
-            (subst (λ (x : ℕ). FitsBehind params boot history x entry.moment entry.call) who (fits history entry more sure))))
+        let who : entry.caller ≡ full.round.request.client = next.2 ∙ ap (λ (r : Round). r.request.client) same.0 in
+        full.full (subst (λ (x : Call). FitsBehind beginning history full.round.request.client scene.moment x) call
+        (subst (λ (x : ℕ). FitsBehind beginning history full.round.request.client x entry.call) next.3
+        (subst (λ (x : ℕ). FitsBehind beginning history x entry.moment entry.call) who (fits history entry more sure))))
     stuck_full scene left history full (fetches number backend request) new others more next split sure =
-        let same = same_round wants one_want scene full.round next.0 _ _ full.runs next.1 in absurd (cc)
+        let same = same_round wants one_want beginning scene full.round next.0 _ _ full.runs next.1 in absurd (cc)
     stuck_full scene left history full (sends client response) new others more next split sure =
-        let same = same_round wants one_want scene full.round next.0 _ _ full.runs next.1 in absurd (cc)
+        let same = same_round wants one_want beginning scene full.round next.0 _ _ full.runs next.1 in absurd (cc)
+    stuck_full scene left history full (parks token) new others more next split sure =
+        let same = same_round wants one_want beginning scene full.round next.0 _ _ full.runs next.1 in absurd (cc)
+    stuck_full scene left history full wakes new others more next split sure = let turn = full.runs.turn in let none = next.1 in absurd (cc)
     stuck_full scene left history full ends new others more next split sure =
-        let same = same_round wants one_want scene full.round next.0 _ _ full.runs next.1 in absurd (cc)
+        let same = same_round wants one_want beginning scene full.round next.0 _ _ full.runs next.1 in absurd (cc)
 
     -- no idle event is heard
-    stuck_idle : (scene : Scene) (event : Event) (left rest : List Event) (history : List Entry) → left ≡ event ∷ rest → scene.running ≡ None → IsIdle scene event → IsStuck wants one_want Sure on one_entry scene left history
-    stuck_idle scene event left rest history is rests idle (hears heard) new others more next split sure =
-        let same : heard ≡ event = cc in
-        not_heard scene new event idle (subst (λ (x : Event). Hears scene x new) same next)
-    stuck_idle scene event left rest history is rests idle (calls entry) new others more next split sure = let turn = next.1.turn in absurd (cc)
-    stuck_idle scene event left rest history is rests idle (fetches number backend request) new others more next split sure = let turn = next.1.turn in absurd (cc)
-    stuck_idle scene event left rest history is rests idle (sends client response) new others more next split sure = let turn = next.1.turn in absurd (cc)
-    stuck_idle scene event left rest history is rests idle ends new others more next split sure = let turn = next.1.turn in absurd (cc)
+    stuck_idle : (scene : Scene) (event : Event) (left rest : List Event) (history : List Entry) → left ≡ event ∷ rest → AtRest scene → IsIdle scene event → IsStuck wants one_want beginning Sure on one_entry scene left history
+    stuck_idle scene event left rest history is rests idle move new others more next split sure =
+        let only = only_hears wants one_want beginning Sure on one_entry scene new move rests next in
+        let heard : left ≡ only.0 ∷ others = split ∙ ap (λ (m : Move). events_of m ++ others) only.1 in
+        let same : only.0 ≡ event = cc in
+        not_heard scene new event idle (subst (λ (x : Event). Hears scene x new) same only.2)
 
-    stuck_why : (history : List Entry) (scene : Scene) (heard left : List Event) (ending : Option ReplayError) → IsWhy wants params boot script history scene heard left ending → IsStuck wants one_want Sure on one_entry scene left history
+    stuck_why : (history : List Entry) (scene : Scene) (heard left : List Event) (ending : Option ReplayError) → IsWhy wants beginning script history scene heard left ending → IsStuck wants one_want beginning Sure on one_entry scene left history
     unfolding IsWhy
-    stuck_why history scene heard left None why = stuck_at_rest wants one_want Sure on one_entry scene left history why.0 why.1
-    stuck_why history scene heard left (Some (Unanswered line)) why = stuck_at_rest wants one_want Sure on one_entry scene left history why.0 why.1
+    stuck_why history scene heard left None why = stuck_at_rest wants one_want beginning Sure on one_entry scene left history why.0 why.1
+    stuck_why history scene heard left (Some (Unanswered line)) why = stuck_at_rest wants one_want beginning Sure on one_entry scene left history why.0 why.1
     stuck_why history scene heard left (Some (Idle line)) why = stuck_idle scene why.1.event left (events_in why.2) history why.6 why.7 why.8
     stuck_why history scene heard left (Some HistoryFull) why = stuck_full scene left history why
     stuck_why history scene heard left (Some (NotBuilt line)) why = absurd why
     stuck_why history scene heard left (Some WriteFault) why = absurd why
     stuck_why history scene heard left (Some NoMemory) why = absurd why
 
-    one_end : (history other : List Entry) (before now before2 now2 : Option (List ℕ)) (ending ending2 : Option ReplayError) (e : Ended wants params boot script history before now ending) (f : Ended wants params boot script other before2 now2 ending2) → Sure [] history → Sure [] other → (f.run.moves ≡ e.run.moves) × (f.scene ≡ e.scene)
+    one_end : (history other : List Entry) (before now before2 now2 : Option (List ℕ)) (ending ending2 : Option ReplayError) (e : Ended wants beginning script history before now ending) (f : Ended wants beginning script other before2 now2 ending2) → Sure [] history → Sure [] other → (f.run.moves ≡ e.run.moves) × (f.scene ≡ e.scene)
     one_end history other before now before2 now2 ending ending2 e f sure sure2 =
         let all : flat_map events_of e.run.moves ++ e.left ≡ flat_map events_of f.run.moves ++ f.left =
         ap (λ (xs : List Event). xs ++ e.left) e.run.reads ∙ (sym e.split ∙ (f.split ∙ ap (λ (xs : List Event). xs ++ f.left) (sym f.run.reads))) in
-        one_way wants one_want Sure on one_entry opening_scene e.scene f.scene e.run.moves f.run.moves e.left f.left e.run.path f.run.path all
+        one_way wants one_want beginning Sure on one_entry (opening_scene beginning) e.scene f.scene e.run.moves f.run.moves e.left f.left e.run.path f.run.path all
         (subst (λ (es : List Entry). Sure [] es) (sym e.run.enters) sure) (subst (λ (es : List Entry). Sure [] es) (sym f.run.enters) sure2)
-        (subst (λ (h : List Entry). IsStuck wants one_want Sure on one_entry e.scene e.left h) (sym e.run.enters) (stuck_why history e.scene e.heard e.left ending e.why))
-        (subst (λ (h : List Entry). IsStuck wants one_want Sure on one_entry f.scene f.left h) (sym f.run.enters) (stuck_why other f.scene f.heard f.left ending2 f.why))
+        (subst (λ (h : List Entry). IsStuck wants one_want beginning Sure on one_entry e.scene e.left h) (sym e.run.enters) (stuck_why history e.scene e.heard e.left ending e.why))
+        (subst (λ (h : List Entry). IsStuck wants one_want beginning Sure on one_entry f.scene f.left h) (sym f.run.enters) (stuck_why other f.scene f.heard f.left ending2 f.why))
 
   -- one scene and what is left there tell the ending
-  same_ending : (history other : List Entry) (scene scene2 : Scene) (heard heard2 left left2 : List Event) (ending ending2 : Option ReplayError) → scene2 ≡ scene → heard2 ≡ heard → left2 ≡ left → IsWhy wants params boot script history scene heard left ending → IsWhy wants params boot script other scene2 heard2 left2 ending2 → ending2 ≡ ending
+  same_ending : (history other : List Entry) (scene scene2 : Scene) (heard heard2 left left2 : List Event) (ending ending2 : Option ReplayError) → scene2 ≡ scene → heard2 ≡ heard → left2 ≡ left → IsWhy wants beginning script history scene heard left ending → IsWhy wants beginning script other scene2 heard2 left2 ending2 → ending2 ≡ ending
   unfolding IsWhy
   same_ending history other scene scene2 heard heard2 left left2 None None s h l why too = refl
-  same_ending history other scene scene2 heard heard2 left left2 None (Some (Unanswered line)) s h l why too = absurd (too.2 (ap (λ (x : Scene). x.waiting) s ∙ why.2))
+  same_ending history other scene scene2 heard heard2 left left2 None (Some (Unanswered line)) s h l why too = absurd (too.2 (subst NobodyWaits (sym s) why.2))
   same_ending history other scene scene2 heard heard2 left left2 None (Some (Idle line)) s h l why too = let a = why.1 in let b = too.6 in absurd (cc)
-  same_ending history other scene scene2 heard heard2 left left2 None (Some HistoryFull) s h l why too = let a = why.0 in let b = too.runs.turn in absurd (cc)
+  same_ending history other scene scene2 heard heard2 left left2 None (Some HistoryFull) s h l why too = let a = why.0.nobody_runs in let b = too.runs.turn in absurd (cc)
   same_ending history other scene scene2 heard heard2 left left2 None _ s h l why too = absurd too
-  same_ending history other scene scene2 heard heard2 left left2 (Some (Unanswered line)) None s h l why too = absurd (why.2 (ap (λ (x : Scene). x.waiting) (sym s) ∙ too.2))
+  same_ending history other scene scene2 heard heard2 left left2 (Some (Unanswered line)) None s h l why too = absurd (why.2 (subst NobodyWaits s too.2))
   same_ending history other scene scene2 heard heard2 left left2 (Some (Unanswered line)) (Some (Unanswered line2)) s h l why too = ap (λ (n : ℕ). Some (Unanswered n)) (too.3 ∙ sym why.3)
   same_ending history other scene scene2 heard heard2 left left2 (Some (Unanswered line)) (Some (Idle line2)) s h l why too = let a = why.1 in let b = too.6 in absurd (cc)
-  same_ending history other scene scene2 heard heard2 left left2 (Some (Unanswered line)) (Some HistoryFull) s h l why too = let a = why.0 in let b = too.runs.turn in absurd (cc)
+  same_ending history other scene scene2 heard heard2 left left2 (Some (Unanswered line)) (Some HistoryFull) s h l why too = let a = why.0.nobody_runs in let b = too.runs.turn in absurd (cc)
   same_ending history other scene scene2 heard heard2 left left2 (Some (Unanswered line)) _ s h l why too = absurd too
   same_ending history other scene scene2 heard heard2 left left2 (Some (Idle line)) None s h l why too = let a = too.1 in let b = why.6 in absurd (cc)
   same_ending history other scene scene2 heard heard2 left left2 (Some (Idle line)) (Some (Unanswered line2)) s h l why too = let a = too.1 in let b = why.6 in absurd (cc)
   same_ending history other scene scene2 heard heard2 left left2 (Some (Idle line)) (Some (Idle line2)) s h l why too =
       let one = same_idle why.0 too.0 why.1 too.1 why.2 too.2 (sym too.3 ∙ why.3) (sym too.5 ∙ (h ∙ why.5)) in
       ap (λ (n : ℕ). Some (Idle n)) (sym too.4 ∙ (ap (λ (n : NumberedEvent). n.number) one ∙ why.4))
-  same_ending history other scene scene2 heard heard2 left left2 (Some (Idle line)) (Some HistoryFull) s h l why too = let a = why.7 in let b = too.runs.turn in absurd (cc)
+  same_ending history other scene scene2 heard heard2 left left2 (Some (Idle line)) (Some HistoryFull) s h l why too = let a = why.7.nobody_runs in let b = too.runs.turn in absurd (cc)
   same_ending history other scene scene2 heard heard2 left left2 (Some (Idle line)) _ s h l why too = absurd too
-  same_ending history other scene scene2 heard heard2 left left2 (Some HistoryFull) None s h l why too = let a = too.0 in let b = why.runs.turn in absurd (cc)
-  same_ending history other scene scene2 heard heard2 left left2 (Some HistoryFull) (Some (Unanswered line)) s h l why too = let a = too.0 in let b = why.runs.turn in absurd (cc)
-  same_ending history other scene scene2 heard heard2 left left2 (Some HistoryFull) (Some (Idle line)) s h l why too = let a = too.7 in let b = why.runs.turn in absurd (cc)
+  same_ending history other scene scene2 heard heard2 left left2 (Some HistoryFull) None s h l why too = let a = too.0.nobody_runs in let b = why.runs.turn in absurd (cc)
+  same_ending history other scene scene2 heard heard2 left left2 (Some HistoryFull) (Some (Unanswered line)) s h l why too = let a = too.0.nobody_runs in let b = why.runs.turn in absurd (cc)
+  same_ending history other scene scene2 heard heard2 left left2 (Some HistoryFull) (Some (Idle line)) s h l why too = let a = too.7.nobody_runs in let b = why.runs.turn in absurd (cc)
   same_ending history other scene scene2 heard heard2 left left2 (Some HistoryFull) (Some HistoryFull) s h l why too = refl
   same_ending history other scene scene2 heard heard2 left left2 (Some HistoryFull) _ s h l why too = absurd too
   same_ending history other scene scene2 heard heard2 left left2 _ ending2 s h l why too = absurd why
 
   -- the moves tell it all
-  one_told : (history other : List Entry) (before now before2 now2 : Option (List ℕ)) (ending ending2 : Option ReplayError) (e : Ended wants params boot script history before now ending) (f : Ended wants params boot script other before2 now2 ending2) → (f.run.moves ≡ e.run.moves) × (f.scene ≡ e.scene) → (ending2 ≡ ending) × (other ≡ history) × (text : List ℕ) × Appends before now text × Appends before2 now2 text
+  one_told : (history other : List Entry) (before now before2 now2 : Option (List ℕ)) (ending ending2 : Option ReplayError) (e : Ended wants beginning script history before now ending) (f : Ended wants beginning script other before2 now2 ending2) → (f.run.moves ≡ e.run.moves) × (f.scene ≡ e.scene) → (ending2 ≡ ending) × (other ≡ history) × (text : List ℕ) × Appends before now text × Appends before2 now2 text
   one_told history other before now before2 now2 ending ending2 e f same =
       let heard : f.heard ≡ e.heard = sym f.run.reads ∙ (ap (λ (ms : List Move). flat_map events_of ms) same.0 ∙ e.run.reads) in
       let left : f.left ≡ e.left = append_cancel_left e.heard f.left e.left (ap (λ (xs : List Event). xs ++ f.left) (sym heard) ∙ (sym f.split ∙ e.split)) in
@@ -261,37 +269,37 @@ module _ (wants : Request → List Given → Want → Type 0) (one_want : HasOne
       )
 
 -- these entries stand behind those before them in a legal history
-record IsLegalWithin (params : Params) (boot : Boot) (all before more : List Entry) : Type 0 where
-  legal : LegalFrom params boot (reached before) (bytes_of_all before) more
+record IsLegalWithin (beginning : Beginning) (all before more : List Entry) : Type 0 where
+  legal : LegalFrom beginning (reached beginning before) (bytes_of_all before) more
   within : IsWithin all before more
 
-legal_of : (wants : Request → List Given → Want → Type 0) (params : Params) (boot : Boot) (script : Script) (history : List Entry) (before now : Option (List ℕ)) (ending : Option ReplayError) → IsOwnEnding ending → EndsSo wants params boot script history before now ending → Legal params boot history
-legal_of wants params boot script history before now None own e = e.legal
-legal_of wants params boot script history before now (Some (Unanswered line)) own e = e.1.legal
-legal_of wants params boot script history before now (Some (Idle line)) own e = e.5.legal
-legal_of wants params boot script history before now (Some HistoryFull) own e = e.3.legal
-legal_of wants params boot script history before now (Some (NotBuilt line)) own e = absurd own
-legal_of wants params boot script history before now (Some WriteFault) own e = absurd own
-legal_of wants params boot script history before now (Some NoMemory) own e = absurd own
+legal_of : (wants : Request → List Given → Want → Type 0) (beginning : Beginning) (script : Script) (history : List Entry) (before now : Option (List ℕ)) (ending : Option ReplayError) → IsOwnEnding ending → EndsSo wants beginning script history before now ending → Legal beginning history
+legal_of wants beginning script history before now None own e = e.legal
+legal_of wants beginning script history before now (Some (Unanswered line)) own e = e.1.legal
+legal_of wants beginning script history before now (Some (Idle line)) own e = e.5.legal
+legal_of wants beginning script history before now (Some HistoryFull) own e = e.3.legal
+legal_of wants beginning script history before now (Some (NotBuilt line)) own e = absurd own
+legal_of wants beginning script history before now (Some WriteFault) own e = absurd own
+legal_of wants beginning script history before now (Some NoMemory) own e = absurd own
 
 pub one_ending : (wants : Request → List Given → Want → Type 0) → HasOneWant wants → OneEnding wants
-one_ending wants one_want params boot script history other before now before2 now2 ending ending2 so too own own2 (inl same) =
-    let e = ended wants params boot script history before now ending own so in
-    let f = ended wants params boot script other before2 now2 ending2 own2 too in
-    let legal = legal_of wants params boot script history before now ending own so in
-    let sure : IsLegalWithin params boot history [] history = record { legal = legal; within = within_all history history refl } in
-    one_told wants one_want params boot script history other before now before2 now2 ending ending2 e f
-    (one_end wants one_want params boot script (IsLegalWithin params boot history)
-        (λ before entry more is. record { legal = legal_on params boot before entry more is.legal; within = within_on history before entry more is.within })
-        (λ before entry other more others s t who when what. within_one history before entry other more others s.within t.within)
-        (λ before entry more is. is.legal.1)
-        history other before now before2 now2 ending ending2 e f sure (subst (λ (h : List Entry). IsLegalWithin params boot history [] h) (sym same) sure))
-one_ending wants one_want params boot script history other before now before2 now2 ending ending2 so too own own2 (inr kept) =
-    let e = ended wants params boot script history before now ending own so in
-    let f = ended wants params boot script other before2 now2 ending2 own2 too in
-    one_told wants one_want params boot script history other before now before2 now2 ending ending2 e f
-    (one_end wants one_want params boot script (IsLawful params boot) (lawful_on params boot) (lawful_one params boot)
-        (λ before entry more is. is.legal.1)
-        history other before now before2 now2 ending ending2 e f
-        (record { legal = legal_of wants params boot script history before now ending own so; kept = kept.0 })
-        (record { legal = legal_of wants params boot script other before2 now2 ending2 own2 too; kept = kept.1 }))
+one_ending wants one_want beginning script history other before now before2 now2 ending ending2 so too own own2 (inl same) =
+    let e = ended wants beginning script history before now ending own so in
+    let f = ended wants beginning script other before2 now2 ending2 own2 too in
+    let legal = legal_of wants beginning script history before now ending own so in
+    let sure : IsLegalWithin beginning history [] history = record { legal = legal.each; within = within_all history history refl } in
+    one_told wants one_want beginning script history other before now before2 now2 ending ending2 e f
+    (one_end wants one_want beginning script (IsLegalWithin beginning history)
+    (λ before entry more is. record { legal = legal_on beginning before entry more is.legal; within = within_on history before entry more is.within })
+    (λ before entry other more others s t who when what. within_one history before entry other more others s.within t.within)
+    (λ before entry more is. is.legal.1)
+    history other before now before2 now2 ending ending2 e f sure (subst (λ (h : List Entry). IsLegalWithin beginning history [] h) (sym same) sure))
+one_ending wants one_want beginning script history other before now before2 now2 ending ending2 so too own own2 (inr kept) =
+    let e = ended wants beginning script history before now ending own so in
+    let f = ended wants beginning script other before2 now2 ending2 own2 too in
+    one_told wants one_want beginning script history other before now before2 now2 ending ending2 e f
+    (one_end wants one_want beginning script (IsLawful beginning) (lawful_on beginning) (lawful_one beginning)
+    (λ before entry more is. is.legal.1)
+    history other before now before2 now2 ending ending2 e f
+    (record { legal = (legal_of wants beginning script history before now ending own so).each; kept = kept.0 })
+    (record { legal = (legal_of wants beginning script other before2 now2 ending2 own2 too).each; kept = kept.1 }))

@@ -3,6 +3,7 @@ use Rattle.std.proofs.Common.{◌≡◌, ℕ, List, [], ◌∷◌, ◌++◌, ref
 use Rattle.std.proofs.lemmas.List.{append-nil}
 use Rattle.std.specs.List.{flat_map}
 use Rattle.cache_law.specs.declared.call.Entry.{Entry}
+use Rattle.cache_law.specs.Beginning.{Beginning}
 use Rattle.replay.specs.declared.policy.Request.{Request}
 use Rattle.replay.specs.declared.policy.Given.{Given}
 use Rattle.replay.specs.declared.policy.Want.{Want}
@@ -14,15 +15,15 @@ pub flat_map-append : {X A : Type 0} (f : X → List A) (xs ys : List X) → fla
 flat_map-append f [] ys = refl
 flat_map-append f (x ∷ xs) ys = ap (λ zs. f x ++ zs) (flat_map-append f xs ys) ∙ sym (append_assoc (f x) (flat_map f xs) (flat_map f ys))
 
-path-append : (wants : Request → List Given → Want → Type 0) (one two three : Scene) (ms ns : List Move) → Path wants one ms two → Path wants two ns three → Path wants one (ms ++ ns) three
-path-append wants one two three [] ns p q = subst (λ (s : Scene). Path wants s ns three) (sym p) q
-path-append wants one two three (m ∷ ms) ns p q = (p.0, p.1, path-append wants p.0 two three ms ns p.2 q)
+module _ (wants : Request → List Given → Want → Type 0) (beginning : Beginning) where
+  path-append : (one two three : Scene) (ms ns : List Move) → Path wants beginning one ms two → Path wants beginning two ns three → Path wants beginning one (ms ++ ns) three
+  path-append one two three [] ns p q = subst (λ (s : Scene). Path wants beginning s ns three) (sym p) q
+  path-append one two three (m ∷ ms) ns p q = (p.0, p.1, path-append p.0 two three ms ns p.2 q)
 
-module _ (wants : Request → List Given → Want → Type 0) where
-  pub run-here : (scene : Scene) → Run wants scene scene [] [] []
+  pub run-here : (scene : Scene) → Run wants beginning scene scene [] [] []
   run-here scene = record { moves = []; path = refl; reads = refl; enters = refl; writes = refl }
 
-  pub run-one : (old new : Scene) (move : Move) → Next wants old move new → Run wants old new (events_of move) (entries_of move) (text_of move)
+  pub run-one : (old new : Scene) (move : Move) → Next wants beginning old move new → Run wants beginning old new (events_of move) (entries_of move) (text_of move)
   run-one old new move next =
       record {
         moves = move ∷ [];
@@ -32,31 +33,31 @@ module _ (wants : Request → List Given → Want → Type 0) where
         writes = append-nil (text_of move);
       }
 
-  pub run-then : (one two three : Scene) (e1 e2 : List Event) (n1 n2 : List Entry) (x1 x2 : List ℕ) → Run wants one two e1 n1 x1 → Run wants two three e2 n2 x2 → Run wants one three (e1 ++ e2) (n1 ++ n2) (x1 ++ x2)
+  pub run-then : (one two three : Scene) (e1 e2 : List Event) (n1 n2 : List Entry) (x1 x2 : List ℕ) → Run wants beginning one two e1 n1 x1 → Run wants beginning two three e2 n2 x2 → Run wants beginning one three (e1 ++ e2) (n1 ++ n2) (x1 ++ x2)
   run-then one two three e1 e2 n1 n2 x1 x2 r s =
       record {
         moves = r.moves ++ s.moves;
-        path = path-append wants one two three r.moves s.moves r.path s.path;
+        path = path-append one two three r.moves s.moves r.path s.path;
         reads = flat_map-append events_of r.moves s.moves ∙ (ap (λ (xs : List Event). xs ++ flat_map events_of s.moves) r.reads ∙ ap (λ (ys : List Event). e1 ++ ys) s.reads);
         enters = flat_map-append entries_of r.moves s.moves ∙ (ap (λ (xs : List Entry). xs ++ flat_map entries_of s.moves) r.enters ∙ ap (λ (ys : List Entry). n1 ++ ys) s.enters);
         writes = flat_map-append text_of r.moves s.moves ∙ (ap (λ (xs : List ℕ). xs ++ flat_map text_of s.moves) r.writes ∙ ap (λ (ys : List ℕ). x1 ++ ys) s.writes);
       }
 
   -- nothing has happened yet
-  pub went-here : (scene : Scene) (history : List Entry) (H : Scene → List ℕ → Type 0) → H scene [] → Went wants scene [] history history H
+  pub went-here : (scene : Scene) (history : List Entry) (H : Scene → List ℕ → Type 0) → H scene [] → Went wants beginning scene [] history history H
   went-here scene history H h = record { scene = scene; entries = []; text = []; run = run-here scene; history = sym (append-nil history); fact = h }
 
   -- nothing was entered
-  pub went-still : (scene : Scene) (before now : List Entry) (H : Scene → List ℕ → Type 0) → now ≡ before → H scene [] → Went wants scene [] before now H
+  pub went-still : (scene : Scene) (before now : List Entry) (H : Scene → List ℕ → Type 0) → now ≡ before → H scene [] → Went wants beginning scene [] before now H
   went-still scene before now H same h = record { scene = scene; entries = []; text = []; run = run-here scene; history = same ∙ sym (append-nil before); fact = h }
 
   -- one move
-  pub went-one : (old new : Scene) (move : Move) (before now : List Entry) (H : Scene → List ℕ → Type 0) → Next wants old move new → now ≡ before ++ entries_of move → H new (text_of move) → Went wants old (events_of move) before now H
+  pub went-one : (old new : Scene) (move : Move) (before now : List Entry) (H : Scene → List ℕ → Type 0) → Next wants beginning old move new → now ≡ before ++ entries_of move → H new (text_of move) → Went wants beginning old (events_of move) before now H
   went-one old new move before now H next joined h =
       record { scene = new; entries = entries_of move; text = text_of move; run = run-one old new move next; history = joined; fact = h }
 
   -- one part, and another from where it led
-  pub went-at : (old : Scene) (e1 e2 : List Event) (before mid now : List Entry) (H H' : Scene → List ℕ → Type 0) (w : Went wants old e1 before mid H) → Went wants w.scene e2 mid now (λ next more. H' next (w.text ++ more)) → Went wants old (e1 ++ e2) before now H'
+  pub went-at : (old : Scene) (e1 e2 : List Event) (before mid now : List Entry) (H H' : Scene → List ℕ → Type 0) (w : Went wants beginning old e1 before mid H) → Went wants beginning w.scene e2 mid now (λ next more. H' next (w.text ++ more)) → Went wants beginning old (e1 ++ e2) before now H'
   went-at old e1 e2 before mid now H H' w n =
       record {
         scene = n.scene;
@@ -67,9 +68,9 @@ module _ (wants : Request → List Given → Want → Type 0) where
         fact = n.fact;
       }
 
-  pub went-then : (old : Scene) (e1 e2 : List Event) (before mid now : List Entry) (H H' : Scene → List ℕ → Type 0) → Went wants old e1 before mid H → ((scene : Scene) (text : List ℕ) → H scene text → Went wants scene e2 mid now (λ next more. H' next (text ++ more))) → Went wants old (e1 ++ e2) before now H'
+  pub went-then : (old : Scene) (e1 e2 : List Event) (before mid now : List Entry) (H H' : Scene → List ℕ → Type 0) → Went wants beginning old e1 before mid H → ((scene : Scene) (text : List ℕ) → H scene text → Went wants beginning scene e2 mid now (λ next more. H' next (text ++ more))) → Went wants beginning old (e1 ++ e2) before now H'
   went-then old e1 e2 before mid now H H' w f = went-at old e1 e2 before mid now H H' w (f w.scene w.text w.fact)
 
   -- the same way, of which more is known
-  pub went-map : (old : Scene) (read : List Event) (before now : List Entry) (H H' : Scene → List ℕ → Type 0) → ((scene : Scene) (text : List ℕ) → H scene text → H' scene text) → Went wants old read before now H → Went wants old read before now H'
+  pub went-map : (old : Scene) (read : List Event) (before now : List Entry) (H H' : Scene → List ℕ → Type 0) → ((scene : Scene) (text : List ℕ) → H scene text → H' scene text) → Went wants beginning old read before now H → Went wants beginning old read before now H'
   went-map old read before now H H' f w = record { scene = w.scene; entries = w.entries; text = w.text; run = w.run; history = w.history; fact = f w.scene w.text w.fact }

@@ -46,24 +46,24 @@ no_response text error other gives = λ head count has. not_error (ResponseHead 
 
 -- without a head there is no message
 pub headless_request : (text : List ℕ) → LacksRequest text → LacksWholeRequest text
-headless_request text lacks head whole = lacks head whole.count whole.head_is
+headless_request text lacks head body whole = lacks head whole.count whole.head_is
 
 pub headless_reply : (text : List ℕ) → LacksResponse text → LacksWholeReply text
 headless_reply text lacks head body whole = lacks head whole.count whole.head_is
 
 -- a head with a body is the message, and without one there is none
-pub whole_request : (text rest body : List ℕ) (head : RequestHead) (count : ℕ) → IsTheRequest text head count → rest ≡ drop count text → HasFramedBody kinds.Request 1048576 head.fields rest body → IsTheWholeRequest text head
+pub whole_request : (text rest body : List ℕ) (head : RequestHead) (count : ℕ) → IsTheRequest text head count → rest ≡ drop count text → HasFramedBody kinds.Request 1048576 head.fields rest body → IsTheWholeRequest text head body
 whole_request text rest body head count the behind framed = (
-  record { count = count; body = body; head_is = the.0; body_is = subst (λ (t : List ℕ). HasFramedBody kinds.Request 1048576 head.fields t body) behind framed },
-  λ other whole. (the.1 other whole.count whole.head_is).0,
+  record { count = count; head_is = the.0; body_is = subst (λ (t : List ℕ). HasFramedBody kinds.Request 1048576 head.fields t body) behind framed },
+  λ other more whole. (the.1 other whole.count whole.head_is).0,
 )
 
 pub bodiless_request : (text rest : List ℕ) (head : RequestHead) (count : ℕ) → IsTheRequest text head count → rest ≡ drop count text → ((body : List ℕ) → HasFramedBody kinds.Request 1048576 head.fields rest body → ⊥) → LacksWholeRequest text
-bodiless_request text rest head count the behind none other whole =
+bodiless_request text rest head count the behind none other more whole =
     let same = the.1 other whole.count whole.head_is in
-    none whole.body
-    (subst (λ (t : List ℕ). HasFramedBody kinds.Request 1048576 head.fields t whole.body) (ap (λ (k : ℕ). drop k text) same.1 ∙ sym behind)
-    (subst (λ (h : RequestHead). HasFramedBody kinds.Request 1048576 h.fields (drop whole.count text) whole.body) same.0 whole.body_is))
+    none more
+    (subst (λ (t : List ℕ). HasFramedBody kinds.Request 1048576 head.fields t more) (ap (λ (k : ℕ). drop k text) same.1 ∙ sym behind)
+    (subst (λ (h : RequestHead). HasFramedBody kinds.Request 1048576 h.fields (drop whole.count text) more) same.0 whole.body_is))
 
 pub whole_reply : (text rest body : List ℕ) (head : ResponseHead) (count : ℕ) → IsTheResponse text head count → rest ≡ drop count text → HasFramedBody kinds.Reply 8388608 head.fields rest body → IsTheWholeReply text head body
 whole_reply text rest body head count the behind framed = (

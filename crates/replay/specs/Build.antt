@@ -16,10 +16,10 @@ use Rattle.replay.specs.declared.script.BuildError.TheVariants.{NotBuilt, NoMemo
 use Rattle.replay.specs.Whole.{HasWholeRequest, HasWholeReply}
 use Rattle.replay.specs.Forms.{IsPageRequest, IsPageReply}
 
--- the text's first message is a request for a page with this head; or no whole request stands at its front
+-- the text's first message is a request for a page with this head and body; or no whole request stands at its front
 abbrev pub IsMessage : List ℕ → Message → Type 0
-IsMessage text (Whole head) = HasWholeRequest text head × IsPageRequest head
-IsMessage text Unreadable = (head : RequestHead) → HasWholeRequest text head → ⊥
+IsMessage text (Whole head body) = HasWholeRequest text head body × IsPageRequest head
+IsMessage text Unreadable = (head : RequestHead) (body : List ℕ) → HasWholeRequest text head body → ⊥
 
 -- the line stands for the event: a moment; a request of client 1; or a whole reply with a page
 abbrev pub StandsFor : Line → Event → Type 0

@@ -1,43 +1,26 @@
 -- What ends a session before its last line.
-use Rattle.std.specs.Prelude.{◌≡◌, ℕ, true, None, List, [], ◌++◌, find}
-use Rattle.cache_law.specs.declared.setting.Params.{Params}
-use Rattle.cache_law.specs.declared.setting.Boot.{Boot}
+use Rattle.std.specs.Prelude.{◌≡◌, ℕ, true, None, List, find}
 use Rattle.cache_law.specs.declared.call.Call.{Call}
 use Rattle.cache_law.specs.declared.call.Entry.{Entry}
+use Rattle.cache_law.specs.Beginning.{Beginning}
 use Rattle.cache_law.specs.Core.{FitsBehind}
 use Rattle.replay.specs.declared.policy.Request.{Request}
 use Rattle.replay.specs.declared.policy.Given.{Given}
 use Rattle.replay.specs.declared.policy.Want.{Want}
-use Rattle.replay.specs.declared.policy.Want.TheVariants.{Ask, Exchange, Respond, Done}
+use Rattle.replay.specs.declared.policy.Want.TheVariants.{Ask}
 use Rattle.replay.specs.declared.event.Event.{Event}
 use Rattle.replay.specs.declared.event.Event.TheVariants as events
-use Rattle.replay.specs.Scene.{Round, Scene, Runs, is_under_way, waits_for, fetch_line, response_line}
+use Rattle.replay.specs.Scene.{Round, Scene, Runs, is_under_way, waits_for}
 
 -- the event can't be played here: a request of a client that is under way, or a reply that no round waits for
 abbrev pub IsIdle : Scene → Event → Type 0
 IsIdle scene (events.Moment moment) = ⊥
-IsIdle scene (events.Request request) = is_under_way request.client scene.waiting ≡ true
+IsIdle scene (events.Request request) = is_under_way request.client scene ≡ true
 IsIdle scene (events.Reply number head body) = find (waits_for number) scene.waiting ≡ None
 
 -- the round that runs wants a call that doesn't fit the history
-pub record WantsTooMuch (wants : Request → List Given → Want → Type 0) (params : Params) (boot : Boot) (entries : List Entry) (scene : Scene) : Type 0 where
+pub record WantsTooMuch (wants : Request → List Given → Want → Type 0) (beginning : Beginning) (entries : List Entry) (scene : Scene) : Type 0 where
   pub round : Round
   pub call : Call
   pub runs : Runs wants scene round (Ask call)
-  pub full : ¬ FitsBehind params boot entries round.request.client scene.moment call
-
--- the line that the round that runs wants written
-abbrev pub line_of : ℕ → Want → List ℕ
-line_of client (Exchange number backend request) = fetch_line number backend request
-line_of client (Respond response) = response_line client response
-line_of client (Ask call) = []
-line_of client Done = []
-
--- a front of that line, and not the whole
-pub record IsCutShort (wants : Request → List Given → Want → Type 0) (scene : Scene) (front : List ℕ) : Type 0 where
-  pub round : Round
-  pub want : Want
-  pub runs : Runs wants scene round want
-  pub rest : List ℕ
-  pub more : rest ≡ [] → ⊥
-  pub line : line_of round.request.client want ≡ front ++ rest
+  pub full : ¬ FitsBehind beginning entries round.request.client scene.moment call

@@ -4,6 +4,9 @@ use Rattle.std.proofs.Common.{sym, ◌∙◌}
 use Rattle.std.specs.Fmt.{decimal}
 use Rattle.http_heads.specs.declared.fields.Field.{Field}
 use Rattle.http_heads.specs.declared.message.RequestHead.{RequestHead}
+use Rattle.http_heads.specs.declared.message.ResponseHead.{ResponseHead}
+use Rattle.http_heads.specs.declared.exchange.Exchange.{Exchange as What}
+use Rattle.http_heads.specs.declared.exchange.Exchange.TheVariants as exchanges
 use Rattle.http_heads.specs.Fields.{without}
 use Rattle.http_bodies.specs.Framings.{length_name, coding_name}
 use Rattle.cache_law.specs.declared.object.Object.{Object}
@@ -13,9 +16,8 @@ use Rattle.cache_law.specs.declared.call.Reply.TheVariants.{Began, NoRound, Hit,
 use Rattle.replay.specs.declared.policy.Request.{Request}
 use Rattle.replay.specs.declared.policy.Message.{Message}
 use Rattle.replay.specs.declared.policy.Message.TheVariants.{Whole, Unreadable}
-use Rattle.replay.specs.declared.policy.Arrival.{Arrival}
 use Rattle.replay.specs.declared.policy.Given.{Given}
-use Rattle.replay.specs.declared.policy.Given.TheVariants.{Start, Told, Came, Sent}
+use Rattle.replay.specs.declared.policy.Given.TheVariants.{Start, Told, Came, Sent, Closed}
 use Rattle.replay.specs.declared.policy.Want.{Want}
 use Rattle.replay.specs.declared.policy.Want.TheVariants.{Ask, Exchange, Respond, Done}
 use Rattle.replay.specs.Policy.{HasOneWant}
@@ -45,19 +47,25 @@ last_moment = 253402300799999
 abbrev pub kept_fields : List Field → List Field
 kept_fields fields = without coding_name (without length_name fields)
 
--- what a reply to a request makes: fresh for 120 seconds, without grace
-abbrev pub fetched : RequestHead → Arrival → Object
-fetched head arrival =
+-- what a reply that came at a moment makes of a request: fresh for 120 seconds, without grace
+abbrev pub fetched : RequestHead → ℕ → ResponseHead → List ℕ → Object
+fetched head moment reply body =
     record {
       key = key_of head;
-      status = arrival.head.status;
-      reason = arrival.head.reason;
-      fields = kept_fields arrival.head.fields;
-      body = arrival.body;
-      timing = record { origin = pos (min arrival.moment last_moment); ttl = pos 120000; grace = pos 0; keep = pos 0 };
+      status = reply.status;
+      reason = reply.reason;
+      fields = kept_fields reply.fields;
+      body = body;
+      timing = record { origin = pos (min moment last_moment); ttl = pos 120000; grace = pos 0; keep = pos 0 };
     }
 
--- the number of the round, that of its VCL, that of its fetch, and the reply that came: from the newest such given
+-- what came of an exchange as an object: a reply alone makes one
+abbrev pub made_of : RequestHead → ℕ → What → Option Object
+made_of head moment (exchanges.Reply reply body) = Some (fetched head moment reply body)
+made_of head moment (exchanges.Fault number) = None
+made_of head moment exchanges.NoMemory = None
+
+-- the number of the round, that of its VCL, that of its fetch, and what came of it: from the newest such given
 abbrev pub number_in : List Given → ℕ
 number_in [] = 0
 number_in (Told moment (Began number vcl text) ∷ before) = number
@@ -73,34 +81,39 @@ token_in [] = 0
 token_in (Told moment (Miss token) ∷ before) = token
 token_in (given ∷ before) = token_in before
 
-abbrev pub arrival_in : List Given → Option Arrival
-arrival_in [] = None
-arrival_in (Came arrival ∷ before) = Some arrival
-arrival_in (given ∷ before) = arrival_in before
+abbrev pub object_in : RequestHead → List Given → Option Object
+object_in head [] = None
+object_in head (Came got ∷ before) = made_of head got.moment got.exchange
+object_in head (given ∷ before) = object_in head before
 
 -- the response with what was fetched, whether it was stored or not
-abbrev pub fetch_response : RequestHead → List Given → ℕ → Option Arrival → Want
-fetch_response head before moment None = Done
-fetch_response head before moment (Some arrival) =
-    Respond (delivered (fetched head arrival) (decimal (number_in before)) (age_of (fetched head arrival) moment))
+abbrev pub fetch_response : List Given → ℕ → Option Object → Want
+fetch_response before moment None = Done
+fetch_response before moment (Some object) = Respond (delivered object (decimal (number_in before)) (age_of object moment))
+
+-- what was fetched is handed over
+abbrev pub insertion : ℕ → Option Object → Want
+insertion token None = Done
+insertion token (Some object) = Ask (Insert token object)
 
 -- What a visit with this head wants after the newest given, `before` being the givens before it, newest first. What
 -- can't be answered to its calls ends it.
 abbrev pub page_want : ℕ → RequestHead → Given → List Given → Want
 page_want client head Start before = Ask Begin
-page_want client head (Told moment (Began number vcl text)) before = Ask (Lookup (key_of head) (view_of client head))
+page_want client head (Told moment (Began number vcl text)) before = Ask (Lookup (record { key = key_of head; request = view_of client head }))
 page_want client head (Told moment (Hit view)) before =
     Respond (delivered view.object (decimal (number_in before) ++ codes " " ++ decimal view.number) (age_of view.object moment))
 page_want client head (Told moment (Miss token)) before = Ask (Pick (vcl_in before) (codes "default") 0)
 page_want client head (Told moment (Picked (Some name))) before =
     Exchange (token_in before) name (backend_request head.url (request_fields client head) (token_in before))
-page_want client head (Came arrival) before = Ask (Insert (token_in before) (fetched head arrival))
-page_want client head (Told moment (Stored number)) before = fetch_response head before moment (arrival_in before)
-page_want client head (Told moment NotOpen) before = fetch_response head before moment (arrival_in before)
-page_want client head (Told moment NotInTime) before = fetch_response head before moment (arrival_in before)
-page_want client head (Told moment NoRoom) before = fetch_response head before moment (arrival_in before)
-page_want client head (Told moment Refused) before = fetch_response head before moment (arrival_in before)
+page_want client head (Came got) before = insertion (token_in before) (made_of head got.moment got.exchange)
+page_want client head (Told moment (Stored number)) before = fetch_response before moment (object_in head before)
+page_want client head (Told moment NotOpen) before = fetch_response before moment (object_in head before)
+page_want client head (Told moment NotInTime) before = fetch_response before moment (object_in head before)
+page_want client head (Told moment NoRoom) before = fetch_response before moment (object_in head before)
+page_want client head (Told moment Refused) before = fetch_response before moment (object_in head before)
 page_want client head Sent before = Ask End
+page_want client head Closed before = Ask End
 page_want client head (Told moment Ended) before = Done
 page_want client head (Told moment NoRound) before = Done
 page_want client head (Told moment (Picked None)) before = Done
@@ -109,11 +122,12 @@ page_want client head (Told moment (Picked None)) before = Done
 abbrev pub refusal_want : Given → Want
 refusal_want Start = Respond bad_request
 refusal_want (Told moment reply) = Done
-refusal_want (Came arrival) = Done
+refusal_want (Came got) = Done
 refusal_want Sent = Done
+refusal_want Closed = Ask End
 
 abbrev pub message_want : ℕ → Message → Given → List Given → Want
-message_want client (Whole head) given before = page_want client head given before
+message_want client (Whole head body) given before = page_want client head given before
 message_want client Unreadable given before = refusal_want given
 
 -- over all givens, newest first

@@ -3,8 +3,7 @@
 use Rattle.std.specs.Prelude.{◌≡◌, ◌≢◌, ◌⊎◌, ℕ, Option, Some, None, List}
 use Rattle.std.specs.List.{AllByRecursion}
 use Rattle.std.specs.Io.KnownBytes.{Appends}
-use Rattle.cache_law.specs.declared.setting.Params.{Params}
-use Rattle.cache_law.specs.declared.setting.Boot.{Boot}
+use Rattle.cache_law.specs.Beginning.{Beginning}
 use Rattle.cache_law.specs.declared.call.Entry.{Entry}
 use Rattle.cache_law.specs.declared.call.Reply.TheVariants.{Refused}
 use Rattle.cache_law.specs.History.{Legal}
@@ -15,8 +14,9 @@ use Rattle.replay.specs.declared.event.Event.{Event}
 use Rattle.replay.specs.declared.event.Script.{Script}
 use Rattle.replay.specs.declared.session.ReplayError.{ReplayError}
 use Rattle.replay.specs.declared.session.ReplayError.TheVariants.{NotBuilt, Idle, Unanswered, WriteFault, HistoryFull, NoMemory}
-use Rattle.replay.specs.Scene.{Scene, Run, opening_scene}
-use Rattle.replay.specs.Replayed.{EndsSo}
+use Rattle.replay.specs.Scene.{Scene, AtRest, Run, opening_scene}
+use Rattle.session_text.specs.declared.session.Session.{Session}
+use Rattle.replay.specs.Replayed.{EndsSo, PlayedTo}
 
 -- no insertion was refused for want of memory
 abbrev pub NoneRefused : List Entry → Type 0
@@ -26,17 +26,17 @@ NoneRefused entries = AllByRecursion (λ entry. entry.reply ≢ Refused) entries
 -- and come to rest are one.
 abbrev pub OneText : (Request → List Given → Want → Type 0) → Type 0
 OneText wants =
-    (events : List Event) (entries : List Entry) (scene other : Scene) (text said : List ℕ)
-    → Run wants opening_scene scene events entries text → Run wants opening_scene other events entries said
-    → scene.running ≡ None → other.running ≡ None → (other ≡ scene) × (said ≡ text)
+    (beginning : Beginning) (events : List Event) (entries : List Entry) (scene other : Scene) (text said : List ℕ)
+    → Run wants beginning (opening_scene beginning) scene events entries text → Run wants beginning (opening_scene beginning) other events entries said
+    → AtRest scene → AtRest other → (other ≡ scene) × (said ≡ text)
 
 -- A session has one history without a refused insertion, and so one scene and one text with it.
 abbrev pub OneHistory : (Request → List Given → Want → Type 0) → Type 0
 OneHistory wants =
-    (params : Params) (boot : Boot) (events : List Event) (entries others : List Entry) (scene other : Scene) (text said : List ℕ)
-    → Run wants opening_scene scene events entries text → Run wants opening_scene other events others said
-    → scene.running ≡ None → other.running ≡ None
-    → Legal params boot entries → Legal params boot others → NoneRefused entries → NoneRefused others
+    (beginning : Beginning) (events : List Event) (entries others : List Entry) (scene other : Scene) (text said : List ℕ)
+    → Run wants beginning (opening_scene beginning) scene events entries text → Run wants beginning (opening_scene beginning) other events others said
+    → AtRest scene → AtRest other
+    → Legal beginning entries → Legal beginning others → NoneRefused entries → NoneRefused others
     → (others ≡ entries) × (other ≡ scene) × (said ≡ text)
 
 -- an ending that the session itself has: neither the sink's fault nor want of memory
@@ -53,8 +53,14 @@ IsOwnEnding (Some NoMemory) = ⊥
 -- Unanswered, or a call that doesn't fit at one place. History and text are one with it.
 abbrev pub OneEnding : (Request → List Given → Want → Type 0) → Type 0
 OneEnding wants =
-    (params : Params) (boot : Boot) (script : Script) (history other : List Entry) (before now before2 now2 : Option (List ℕ)) (ending ending2 : Option ReplayError)
-    → EndsSo wants params boot script history before now ending → EndsSo wants params boot script other before2 now2 ending2
+    (beginning : Beginning) (script : Script) (history other : List Entry) (before now before2 now2 : Option (List ℕ)) (ending ending2 : Option ReplayError)
+    → EndsSo wants beginning script history before now ending → EndsSo wants beginning script other before2 now2 ending2
     → IsOwnEnding ending → IsOwnEnding ending2
     → (other ≡ history) ⊎ (NoneRefused history × NoneRefused other)
     → (ending2 ≡ ending) × (other ≡ history) × (text : List ℕ) × Appends before now text × Appends before2 now2 text
+
+-- Over this history nothing stops the session before its end: no line is idle, `end` isn't unanswered, and no call that is
+-- wanted lacks room.
+abbrev pub NothingStops : (Request → List Given → Want → Type 0) → Session → Beginning → List Entry → Type 0
+NothingStops wants session beginning history =
+    (before now : Option (List ℕ)) (ending : ReplayError) → IsOwnEnding (Some ending) → PlayedTo wants session beginning history before now (Some ending) → ⊥

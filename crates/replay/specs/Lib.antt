@@ -8,5 +8,6 @@ pub mod Whole
 pub mod Forms
 pub mod Build
 pub mod Laws
+pub mod Pieces
 pub mod Went
 pub mod Replayed

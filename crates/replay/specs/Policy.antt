@@ -1,16 +1,63 @@
--- Words on what a round wants.
-use Rattle.std.specs.Prelude.{◌≡◌, Bool, true, false, List}
+-- Words on what a round wants and is given.
+use Rattle.std.specs.Prelude.{◌≡◌, ◌⊎◌, Bool, true, false, Some, None, List, [], ◌∷◌}
+use Rattle.http_heads.specs.declared.exchange.Exchange.{Exchange as What}
+use Rattle.http_heads.specs.declared.exchange.Exchange.TheVariants as exchanges
+use Rattle.cache_law.specs.declared.call.Call.{Call}
+use Rattle.cache_law.specs.declared.call.Call.TheVariants.{Begin, Lookup, Pick, Insert, End}
+use Rattle.cache_law.specs.declared.call.Reply.{Reply}
+use Rattle.cache_law.specs.declared.call.Reply.TheVariants.{Began, NoRound, Hit, Miss, Picked, Stored, NotOpen, NotInTime, NoRoom, Refused, Ended}
 use Rattle.replay.specs.declared.policy.Request.{Request}
 use Rattle.replay.specs.declared.policy.Given.{Given}
+use Rattle.replay.specs.declared.policy.Given.TheVariants.{Start, Told, Came, Sent, Closed}
 use Rattle.replay.specs.declared.policy.Want.{Want}
-use Rattle.replay.specs.declared.policy.Want.TheVariants.{Ask, Exchange, Respond, Done}
+use Rattle.replay.specs.declared.policy.Want.TheVariants.{Ask, Exchange, Respond, Await, Done}
 
 abbrev pub is_response : Want → Bool
 is_response (Respond text) = true
-is_response (Ask call) = false
-is_response (Exchange number backend request) = false
-is_response Done = false
+is_response want = false
+
+abbrev pub is_call : Want → Bool
+is_call (Ask call) = true
+is_call want = false
 
 -- after the same givens a round wants the same
 abbrev pub HasOneWant : (Request → List Given → Want → Type 0) → Type 0
 HasOneWant wants = (request : Request) (givens : List Given) (one other : Want) → wants request givens one → wants request givens other → other ≡ one
+
+-- the replies to a call
+abbrev pub is_reply_to : Call → Reply → Bool
+is_reply_to Begin (Began number vcl text) = true
+is_reply_to Begin NoRound = true
+is_reply_to (Lookup query) (Hit view) = true
+is_reply_to (Lookup query) (Miss token) = true
+is_reply_to (Lookup query) NoRound = true
+is_reply_to (Pick vcl target word) (Picked name) = true
+is_reply_to (Insert token object) (Stored number) = true
+is_reply_to (Insert token object) NotOpen = true
+is_reply_to (Insert token object) NotInTime = true
+is_reply_to (Insert token object) NoRoom = true
+is_reply_to (Insert token object) Refused = true
+is_reply_to End Ended = true
+is_reply_to End NoRound = true
+is_reply_to call reply = false
+
+-- an exchange that is over has a reply or a fault
+abbrev pub is_over : What → Bool
+is_over (exchanges.Reply head body) = true
+is_over (exchanges.Fault number) = true
+is_over exchanges.NoMemory = false
+
+-- what is given answers what is wanted
+abbrev pub answers : Want → Given → Bool
+answers (Ask call) (Told moment reply) = is_reply_to call reply
+answers (Exchange number backend request) (Came got) = is_over got.exchange
+answers (Respond text) Sent = true
+answers (Await token) Closed = true
+answers want given = false
+
+-- A round that stands here may be given this: Start at first, and then what answers what it wants.
+pub record IsDue {P : Type 0} (wants : Request → List Given → Want → Type 0) (stands : P → Request → List Given → Type 0) (policy : P) (given : Given) : Type 0 where
+  pub request : Request
+  pub givens : List Given
+  pub stands_at : stands policy request givens
+  pub due : ((givens ≡ []) × (given ≡ Start)) ⊎ ((want : Want) × wants request givens want × (answers want given ≡ true))

@@ -1,14 +1,18 @@
 -- Where a session stands, and the moves that lead on from there.
-use Rattle.std.specs.Prelude.{◌≡◌, ℕ, Bool, false, Option, Some, None, List, [], ◌∷◌, ◌++◌, ◌==◌, max, find, codes, remove}
+use Rattle.std.specs.Prelude.{◌≡◌, ℕ, Bool, false, Option, Some, None, List, [], ◌∷◌, ◌++◌, ◌==◌, ◌||◌, max, find, codes, remove}
 use Rattle.std.specs.List.{list_any, position_or_len, flat_map}
 use Rattle.std.specs.Fmt.{decimal}
 use Rattle.units.specs.Quoted.{quote_of}
+use Rattle.http_heads.specs.declared.exchange.Exchange.TheVariants as exchanges
 use Rattle.cache_law.specs.declared.call.Entry.{Entry}
+use Rattle.cache_law.specs.State.{State, is_closed}
+use Rattle.cache_law.specs.Beginning.{Beginning}
+use Rattle.cache_law.specs.History.{next_state}
 use Rattle.replay.specs.declared.policy.Request.{Request}
 use Rattle.replay.specs.declared.policy.Given.{Given}
-use Rattle.replay.specs.declared.policy.Given.TheVariants.{Start, Told, Came, Sent}
+use Rattle.replay.specs.declared.policy.Given.TheVariants.{Start, Told, Came, Sent, Closed}
 use Rattle.replay.specs.declared.policy.Want.{Want}
-use Rattle.replay.specs.declared.policy.Want.TheVariants.{Ask, Exchange, Respond, Done}
+use Rattle.replay.specs.declared.policy.Want.TheVariants.{Ask, Exchange, Respond, Await, Done}
 use Rattle.replay.specs.declared.event.Event.{Event}
 use Rattle.replay.specs.declared.event.Event.TheVariants as events
 
@@ -22,16 +26,25 @@ pub record Waiting : Type 0 where
   pub number : ℕ
   pub round : Round
 
+-- a round that waits until the fetch of this number is closed
+pub record Parked : Type 0 where
+  pub token : ℕ
+  pub round : Round
+
 pub record Scene : Type 0 where
   pub moment : ℕ
+  -- the cache's state as the entries so far leave it
+  pub state : State
   -- the round whose turn it is
   pub running : Option Round
   -- the rounds that wait for a reply, in the order in which their exchanges began
   pub waiting : List Waiting
+  -- the rounds that wait for a token, in the order in which they were told to
+  pub parked : List Parked
 
 -- before the first line
-abbrev pub opening_scene : Scene
-opening_scene = record { moment = 0; running = None; waiting = [] }
+abbrev pub opening_scene : Beginning → Scene
+opening_scene beginning = record { moment = 0; state = beginning.base; running = None; waiting = []; parked = [] }
 
 abbrev pub begun : Request → Round
 begun request = record { request = request; givens = Start ∷ [] }
@@ -41,8 +54,10 @@ abbrev pub gave : Round → Given → Round
 gave round given = record { request = round.request; givens = given ∷ round.givens }
 
 -- the client has a round under way
-abbrev pub is_under_way : ℕ → List Waiting → Bool
-is_under_way client waiting = list_any (λ (one : Waiting). one.round.request.client == client) waiting
+abbrev pub is_under_way : ℕ → Scene → Bool
+is_under_way client scene =
+    list_any (λ (one : Waiting). one.round.request.client == client) scene.waiting
+    || list_any (λ (one : Parked). one.round.request.client == client) scene.parked
 
 abbrev pub waits_for : ℕ → Waiting → Bool
 waits_for number one = one.number == number
@@ -51,13 +66,28 @@ waits_for number one = one.number == number
 abbrev pub without_first : ℕ → List Waiting → List Waiting
 without_first number waiting = remove waiting (position_or_len (waits_for number) waiting)
 
--- One move of the schedule: a line is heard, the round whose turn it is makes a call, begins an exchange,
--- sends its response, or ends.
+-- its token is closed
+abbrev pub is_free : State → Parked → Bool
+is_free state one = is_closed state.fetches one.token
+
+-- the rounds without the first whose token is closed
+abbrev pub without_free : State → List Parked → List Parked
+without_free state parked = remove parked (position_or_len (is_free state) parked)
+
+-- nobody runs, and nobody waits for a token that is closed
+pub record AtRest (scene : Scene) : Type 0 where
+  pub nobody_runs : scene.running ≡ None
+  pub nobody_is_free : find (is_free scene.state) scene.parked ≡ None
+
+-- One move of the schedule: a line is heard; the round whose turn it is makes a call, begins an exchange, sends its
+-- response, is parked until a fetch is closed, or ends; or a parked round wakes.
 pub data Move : Type 0 where
   hears : Event → Move
   calls : Entry → Move
   fetches : ℕ → List ℕ → List ℕ → Move
   sends : ℕ → List ℕ → Move
+  parks : ℕ → Move
+  wakes : Move
   ends : Move
 
 -- what is read, entered and written by a move
@@ -66,6 +96,8 @@ events_of (hears event) = event ∷ []
 events_of (calls entry) = []
 events_of (fetches number backend request) = []
 events_of (sends client response) = []
+events_of (parks token) = []
+events_of wakes = []
 events_of ends = []
 
 abbrev pub entries_of : Move → List Entry
@@ -73,6 +105,8 @@ entries_of (hears event) = []
 entries_of (calls entry) = entry ∷ []
 entries_of (fetches number backend request) = []
 entries_of (sends client response) = []
+entries_of (parks token) = []
+entries_of wakes = []
 entries_of ends = []
 
 -- `fetch`, the number, the backend's name and the request quoted
@@ -88,6 +122,8 @@ text_of (hears event) = []
 text_of (calls entry) = []
 text_of (fetches number backend request) = fetch_line number backend request
 text_of (sends client response) = response_line client response
+text_of (parks token) = []
+text_of wakes = []
 text_of ends = []
 
 -- Whoever runs wants this: `wants` says what a round wants after its givens, newest first.
@@ -97,51 +133,54 @@ pub record Runs (wants : Request → List Given → Want → Type 0) (scene : Sc
 
 -- the scene with this round's turn
 abbrev pub with_running : Scene → Round → Scene
-with_running scene round = record { moment = scene.moment; running = Some round; waiting = scene.waiting }
+with_running scene round = record scene { running = Some round }
 
--- the scene with nobody's turn
-abbrev pub at_rest : Scene → List Waiting → Scene
-at_rest scene waiting = record { moment = scene.moment; running = None; waiting = waiting }
-
--- A line is heard when it is nobody's turn. A moment never goes back. A request begins a round of a client
--- that has none under way; a reply goes to the first round that waits for it.
+-- A line is heard when the schedule is at rest. A moment never goes back. A request begins a round of a client that has
+-- none under way; a reply goes to the first round that waits for it.
 abbrev pub Hears : Scene → Event → Scene → Type 0
 Hears old (events.Moment moment) new =
-    (old.running ≡ None) × (new ≡ record { moment = max old.moment moment; running = None; waiting = old.waiting })
+    AtRest old × (new ≡ record old { moment = max old.moment moment })
 Hears old (events.Request request) new =
-    (old.running ≡ None) × (is_under_way request.client old.waiting ≡ false) × (new ≡ with_running old (begun request))
+    AtRest old × (is_under_way request.client old ≡ false) × (new ≡ with_running old (begun request))
 Hears old (events.Reply number head body) new =
-    (one : Waiting) × (old.running ≡ None) × (find (waits_for number) old.waiting ≡ Some one)
-    × (new ≡ record {
-      moment = old.moment;
-      running = Some (gave one.round (Came (record { moment = old.moment; head = head; body = body })));
+    (one : Waiting) × AtRest old × (find (waits_for number) old.waiting ≡ Some one)
+    × (new ≡ record old {
+      running = Some (gave one.round (Came (record { moment = old.moment; exchange = exchanges.Reply head body })));
       waiting = without_first number old.waiting;
     })
 
-abbrev pub Next : (Request → List Given → Want → Type 0) → Scene → Move → Scene → Type 0
-Next wants old (hears event) new = Hears old event new
-Next wants old (calls entry) new =
+-- Over a beginning each entry leads to the cache's next state. A round is parked behind those that are parked already,
+-- and the first whose token is closed wakes when nobody runs.
+abbrev pub Next : (Request → List Given → Want → Type 0) → Beginning → Scene → Move → Scene → Type 0
+Next wants beginning old (hears event) new = Hears old event new
+Next wants beginning old (calls entry) new =
     (round : Round) × Runs wants old round (Ask entry.call)
     × (entry.caller ≡ round.request.client) × (entry.moment ≡ old.moment)
-    × (new ≡ with_running old (gave round (Told entry.moment entry.reply)))
-Next wants old (fetches number backend request) new =
+    × (new ≡ record old { state = next_state beginning old.state entry; running = Some (gave round (Told entry.moment entry.reply)) })
+Next wants beginning old (fetches number backend request) new =
     (round : Round) × Runs wants old round (Exchange number backend request)
-    × (new ≡ at_rest old (old.waiting ++ record { number = number; round = round } ∷ []))
-Next wants old (sends client response) new =
+    × (new ≡ record old { running = None; waiting = old.waiting ++ record { number = number; round = round } ∷ [] })
+Next wants beginning old (sends client response) new =
     (round : Round) × Runs wants old round (Respond response) × (client ≡ round.request.client)
     × (new ≡ with_running old (gave round Sent))
-Next wants old ends new =
-    (round : Round) × Runs wants old round Done × (new ≡ at_rest old old.waiting)
+Next wants beginning old (parks token) new =
+    (round : Round) × Runs wants old round (Await token)
+    × (new ≡ record old { running = None; parked = old.parked ++ record { token = token; round = round } ∷ [] })
+Next wants beginning old wakes new =
+    (one : Parked) × (old.running ≡ None) × (find (is_free old.state) old.parked ≡ Some one)
+    × (new ≡ record old { running = Some (gave one.round Closed); parked = without_free old.state old.parked })
+Next wants beginning old ends new =
+    (round : Round) × Runs wants old round Done × (new ≡ record old { running = None })
 
 -- moves, one after another
-abbrev pub Path : (Request → List Given → Want → Type 0) → Scene → List Move → Scene → Type 0
-Path wants old [] new = old ≡ new
-Path wants old (move ∷ moves) new = (between : Scene) × Next wants old move between × Path wants between moves new
+abbrev pub Path : (Request → List Given → Want → Type 0) → Beginning → Scene → List Move → Scene → Type 0
+Path wants beginning old [] new = old ≡ new
+Path wants beginning old (move ∷ moves) new = (between : Scene) × Next wants beginning old move between × Path wants beginning between moves new
 
 -- Moves lead from one scene to another; together they read these events, enter these entries and write this text.
-pub record Run (wants : Request → List Given → Want → Type 0) (old new : Scene) (events_read : List Event) (entries : List Entry) (text : List ℕ) : Type 0 where
+pub record Run (wants : Request → List Given → Want → Type 0) (beginning : Beginning) (old new : Scene) (events_read : List Event) (entries : List Entry) (text : List ℕ) : Type 0 where
   pub moves : List Move
-  pub path : Path wants old moves new
+  pub path : Path wants beginning old moves new
   pub reads : flat_map events_of moves ≡ events_read
   pub enters : flat_map entries_of moves ≡ entries
   pub writes : flat_map text_of moves ≡ text

@@ -1,24 +1,25 @@
 -- What a turn of the fixed policy remembers of what it was given.
-use Rattle.std.specs.Prelude.{◌≡◌, List}
+use Rattle.std.specs.Prelude.{◌≡◌, ℕ, List}
 use Rattle.replay.specs.declared.policy.Request.{Request}
 use Rattle.replay.specs.declared.policy.Message.TheVariants.{Whole, Unreadable}
 use Rattle.replay.specs.declared.policy.Given.{Given}
 use Rattle.replay.specs.declared.visit.Visit.{Visit}
 use Rattle.replay.specs.declared.fixed.Turn.{Turn}
 use Rattle.replay.specs.declared.fixed.Turn.TheVariants as turns
-use Rattle.replay.specs.FixedPolicy.{number_in, vcl_in, token_in, arrival_in}
+use Rattle.replay.specs.FixedPolicy.{number_in, vcl_in, token_in, object_in}
 
--- the visit has kept the numbers and the reply
+-- the visit has kept the numbers and what was fetched
 pub record Keeps (visit : Visit) (givens : List Given) : Type 0 where
   pub number_is : visit.number ≡ number_in givens
   pub vcl_is : visit.vcl ≡ vcl_in givens
   pub token_is : visit.token ≡ token_in givens
-  pub arrival_is : visit.arrival ≡ arrival_in givens
+  pub object_is : visit.object ≡ object_in visit.head givens
 
--- it is the visit of this client with this head
+-- it is the visit of this client with this head; a page is asked for whatever the body
 pub record IsVisitOf (visit : Visit) (request : Request) : Type 0 where
   pub client_is : visit.client ≡ request.client
-  pub message_is : request.message ≡ Whole visit.head
+  pub body : List ℕ
+  pub message_is : request.message ≡ Whole visit.head body
 
 abbrev pub StandsAt : Turn → Request → List Given → Type 0
 StandsAt turns.Refusal request givens = request.message ≡ Unreadable

@@ -1,90 +1,179 @@
 -- How far a part of a session has come, as the functions that play it tell.
-use Rattle.std.specs.Prelude.{◌≡◌, ℕ, Option, None, List, [], ◌∷◌, ◌++◌, ◌≤◌, ◌-◌, map, Result, Ok, Err}
-use Rattle.std.specs.Io.KnownBytes.{Appends}
-use Rattle.cache_law.specs.declared.setting.Params.{Params}
-use Rattle.cache_law.specs.declared.setting.Boot.{Boot}
+use Rattle.std.specs.Prelude.{◌≡◌, ◌⊎◌, ℕ, Option, None, Some, List, [], ◌∷◌, ◌++◌, ◌≤◌, ◌-◌, map, Result, Ok, Err}
 use Rattle.cache_law.specs.declared.call.Entry.{Entry}
+use Rattle.cache_law.specs.Beginning.{Beginning}
 use Rattle.cache_law.specs.History.{Legal, reached, bytes_of_all}
 use Rattle.replay.specs.declared.policy.Request.{Request}
 use Rattle.replay.specs.declared.policy.Given.{Given}
 use Rattle.replay.specs.declared.policy.Want.{Want}
+use Rattle.replay.specs.declared.policy.Want.TheVariants.{Exchange, Await}
 use Rattle.replay.specs.declared.event.Event.{Event}
-use Rattle.replay.specs.declared.schedule.Pending.{Pending}
-use Rattle.replay.specs.declared.schedule.Break.{Break}
-use Rattle.replay.specs.declared.schedule.Break.TheVariants.{WriteFault, HistoryFull, NoMemory}
+use Rattle.replay.specs.declared.event.NumberedEvent.{NumberedEvent}
+use Rattle.replay.specs.declared.rounds.Pending.{Pending}
+use Rattle.replay.specs.declared.rounds.Kept.{Kept}
+use Rattle.replay.specs.declared.rounds.Break.{Break}
+use Rattle.replay.specs.declared.rounds.Break.TheVariants.{WriteFault, HistoryFull, NoMemory}
+use Rattle.replay.specs.declared.rounds.Play.{Play}
 use Rattle.replay.specs.declared.schedule.Stop.{Stop}
 use Rattle.replay.specs.declared.schedule.Stop.TheVariants.{Idle, Broken}
 use Rattle.replay.specs.declared.schedule.Halt.{Halt}
 use Rattle.replay.specs.declared.schedule.Halt.TheVariants as halts
-use Rattle.replay.specs.declared.event.NumberedEvent.{NumberedEvent}
-use Rattle.replay.specs.Scene.{Round, Waiting, Scene, Runs, Run, opening_scene}
-use Rattle.replay.specs.Endings.{WantsTooMuch, IsCutShort, IsIdle}
+use Rattle.replay.specs.Scene.{Round, Waiting, Parked, Scene, AtRest, Runs, Run, opening_scene}
+use Rattle.replay.specs.Pieces.{Pieces, pieces, Takes, LosesEnd, UsesSink}
+use Rattle.replay.specs.Endings.{WantsTooMuch, IsIdle}
 
 -- From a scene on, some moves read these events, led from one history to another and to a scene and a text of
 -- which this holds.
-pub record Went (wants : Request → List Given → Want → Type 0) (old : Scene) (events_read : List Event) (before now : List Entry) (holds : Scene → List ℕ → Type 0) : Type 0 where
+pub record Went (wants : Request → List Given → Want → Type 0) (beginning : Beginning) (old : Scene) (events_read : List Event) (before now : List Entry) (holds : Scene → List ℕ → Type 0) : Type 0 where
   pub scene : Scene
   pub entries : List Entry
   pub text : List ℕ
-  pub run : Run wants old scene events_read entries text
+  pub run : Run wants beginning old scene events_read entries text
   pub history : now ≡ before ++ entries
   pub fact : holds scene text
 
--- the policy leads the client's round, which has the turn and wants this
-pub record Leads {P : Type 0} (wants : Request → List Given → Want → Type 0) (stands : P → Request → List Given → Type 0) (policy : P) (client : ℕ) (want : Want) (scene : Scene) : Type 0 where
-  pub round : Round
-  pub runs : Runs wants scene round want
+-- the policy leads a round of the client, which wants this
+pub record Leads {P : Type 0} (wants : Request → List Given → Want → Type 0) (stands : P → Request → List Given → Type 0) (policy : P) (client : ℕ) (want : Want) (round : Round) : Type 0 where
   pub client_is : round.request.client ≡ client
   pub stands_at : stands policy round.request round.givens
+  pub wanted : wants round.request round.givens want
 
--- a kept round is one that waits
-pub record IsPending {P : Type 0} (stands : P → Request → List Given → Type 0) (kept : Pending P) (one : Waiting) : Type 0 where
+-- the same, of some round
+pub record CanLead {P : Type 0} (wants : Request → List Given → Want → Type 0) (stands : P → Request → List Given → Type 0) (policy : P) (client : ℕ) (want : Want) : Type 0 where
+  pub round : Round
+  pub leads : Leads wants stands policy client want round
+
+-- and it is the round's turn
+pub record HasTurn {P : Type 0} (wants : Request → List Given → Want → Type 0) (stands : P → Request → List Given → Type 0) (policy : P) (client : ℕ) (want : Want) (scene : Scene) : Type 0 where
+  pub round : Round
+  pub turn : scene.running ≡ Some round
+  pub leads : Leads wants stands policy client want round
+
+-- a kept round is one that waits for a reply
+pub record IsPending {P : Type 0} (wants : Request → List Given → Want → Type 0) (stands : P → Request → List Given → Type 0) (kept : Pending P) (one : Waiting) : Type 0 where
   pub number_is : kept.number ≡ one.number
-  pub client_is : kept.client ≡ one.round.request.client
-  pub stands_at : stands kept.policy one.round.request one.round.givens
+  pub backend : List ℕ
+  pub request : List ℕ
+  pub leads : Leads wants stands kept.policy kept.client (Exchange kept.number backend request) one.round
 
-abbrev pub ArePending : {P : Type 0} → (P → Request → List Given → Type 0) → List (Pending P) → List Waiting → Type 0
-ArePending stands [] [] = Unit {0}
-ArePending stands [] (one ∷ waiting) = ⊥
-ArePending stands (kept ∷ pending) [] = ⊥
-ArePending stands (kept ∷ pending) (one ∷ waiting) = IsPending stands kept one × ArePending stands pending waiting
+-- a kept round is one that is parked
+pub record IsParked {P : Type 0} (wants : Request → List Given → Want → Type 0) (stands : P → Request → List Given → Type 0) (kept : Kept P) (one : Parked) : Type 0 where
+  pub token_is : kept.token ≡ one.token
+  pub leads : Leads wants stands kept.policy kept.client (Await kept.token) one.round
 
--- this moment and these kept rounds are the scene's
-pub record IsStage {P : Type 0} (stands : P → Request → List Given → Type 0) (moment : ℕ) (pending : List (Pending P)) (scene : Scene) : Type 0 where
+-- one list stands for another, item by item
+abbrev pub AllAlike : {X Y : Type 0} → (X → Y → Type 0) → List X → List Y → Type 0
+AllAlike same [] [] = Unit {0}
+AllAlike same [] (y ∷ ys) = ⊥
+AllAlike same (x ∷ xs) [] = ⊥
+AllAlike same (x ∷ xs) (y ∷ ys) = same x y × AllAlike same xs ys
+
+-- what is kept of a scene: its moment, its rounds, and the history of its cache
+pub record Stage (P : Type 0) : Type 0 where
+  pub moment : ℕ
+  pub waiting : List (Pending P)
+  pub parked : List (Kept P)
+  pub history : List Entry
+
+-- what a part of a session changes: its stage, and what was taken of its text
+pub record Change (P : Type 0) : Type 0 where
+  pub before : Stage P
+  pub after : Stage P
+  pub old : Pieces
+  pub new : Pieces
+
+abbrev pub stage_of : {C P : Type 0} → (C → List Entry) → Play C P → Stage P
+stage_of history play = record { moment = play.moment; waiting = play.waiting.items; parked = play.parked.items; history = history play.core }
+
+abbrev pub change_of : {C P K : Type 0} → (C → List Entry) → (K → Option (List ℕ)) → Play C P → Play C P → K → K → Change P
+change_of history held old new sink sink_after =
+    record {
+      before = stage_of history old;
+      after = stage_of history new;
+      old = pieces (held sink) old.unwritten.items;
+      new = pieces (held sink_after) new.unwritten.items;
+    }
+
+-- the moment and the cache's history are the scene's
+pub record IsAt (beginning : Beginning) (history : List Entry) (moment : ℕ) (scene : Scene) : Type 0 where
   pub moment_is : moment ≡ scene.moment
-  pub pending_are : ArePending stands pending scene.waiting
+  pub state_is : scene.state ≡ reached beginning history
 
--- what a part of a session leaves of its cache as it was, and keeps of it
-pub record KeepsCore {C : Type 0} (limits : C → Params) (opened : C → Boot) (history : C → List Entry) (old new : C) : Type 0 where
-  pub limits_same : limits new ≡ limits old
-  pub opened_same : opened new ≡ opened old
-  pub legal : Legal (limits old) (opened old) (history old) → Legal (limits new) (opened new) (history new)
+-- the stage is the scene's
+pub record IsStage {P : Type 0} (wants : Request → List Given → Want → Type 0) (stands : P → Request → List Given → Type 0) (beginning : Beginning) (stage : Stage P) (scene : Scene) : Type 0 where
+  pub at : IsAt beginning stage.history stage.moment scene
+  pub waiting_are : AllAlike (IsPending wants stands) stage.waiting scene.waiting
+  pub parked_are : AllAlike (IsParked wants stands) stage.parked scene.parked
 
--- what a history has left of its limit
-abbrev pub spare : Params → List Entry → ℕ
-spare params entries = params.history - bytes_of_all entries
+-- the stage is that of some scene
+pub record IsSet {P : Type 0} (wants : Request → List Given → Want → Type 0) (stands : P → Request → List Given → Type 0) (beginning : Beginning) (stage : Stage P) : Type 0 where
+  pub scene : Scene
+  pub is_stage : IsStage wants stands beginning stage scene
 
 -- no entry is later than this moment
-pub record IsInStep (moment : ℕ) (entries : List Entry) : Type 0 where
-  pub no_later : (reached entries).moment ≤ moment
+pub record IsInStep (beginning : Beginning) (history : List Entry) (moment : ℕ) : Type 0 where
+  pub no_later : (reached beginning history).moment ≤ moment
 
--- What a break leaves: the sink took the text before it; a full history has no room for the call that is
--- wanted, and a write fault cut the line short that is wanted.
-abbrev pub Breaks : (Request → List Given → Want → Type 0) → Params → Boot → List Entry → Option (List ℕ) → Option (List ℕ) → Break → Scene → List ℕ → Type 0
-Breaks wants params boot entries before now HistoryFull scene text = WantsTooMuch wants params boot entries scene × Appends before now text
-Breaks wants params boot entries before now WriteFault scene text = (front : List ℕ) × IsCutShort wants scene front × Appends before now (text ++ front)
-Breaks wants params boot entries before now NoMemory scene text = Appends before now text
+-- what a part of a session leaves of its cache as it was, and keeps of it
+pub record KeepsCore {C : Type 0} (beginning : C → Beginning) (history : C → List Entry) (old new : C) : Type 0 where
+  pub same : beginning new ≡ beginning old
+  pub legal : Legal (beginning old) (history old) → Legal (beginning new) (history new)
+  pub grows : bytes_of_all (history old) ≤ bytes_of_all (history new)
+
+-- What a part of a session keeps, be it played to its end or not; `failed` says that the sink broke it off.
+pub record Keeps {C P K : Type 0} (beginning : C → Beginning) (history : C → List Entry) (faults : K → ℕ) (old new : Play C P) (sink sink_after : K) (failed : Type 0) : Type 0 where
+  pub core : KeepsCore beginning history old.core new.core
+  pub in_step : IsInStep (beginning new.core) (history new.core) new.moment
+  pub sink_used : UsesSink faults sink sink_after failed
+
+-- what a history has left of its limit
+abbrev pub spare : Beginning → List Entry → ℕ
+spare beginning entries = beginning.params.history - bytes_of_all entries
+
+-- What a break leaves: the text before it was taken. A full history has no room for the call that is wanted, and a
+-- write fault loses some of the end of the text.
+abbrev pub Breaks : (Request → List Given → Want → Type 0) → Beginning → List Entry → Pieces → Pieces → Break → Scene → List ℕ → Type 0
+Breaks wants beginning history old new HistoryFull scene text = WantsTooMuch wants beginning history scene × Takes old new text
+Breaks wants beginning history old new WriteFault scene text = LosesEnd old new.held text
+Breaks wants beginning history old new NoMemory scene text = Takes old new text
+
+-- nothing but the turn and the cache changed
+pub record KeepsRounds (old new : Scene) : Type 0 where
+  pub waiting_same : new.waiting ≡ old.waiting
+  pub parked_same : new.parked ≡ old.parked
+
+-- what the round wanted was met, and it wants this next
+pub record Met {P : Type 0} (wants : Request → List Given → Want → Type 0) (stands : P → Request → List Given → Type 0) (beginning : Beginning) (history : List Entry) (moment : ℕ) (policy : P) (client : ℕ) (want : Want) (old new : Scene) : Type 0 where
+  pub has_turn : HasTurn wants stands policy client want new
+  pub at : IsAt beginning history moment new
+  pub keeps : KeepsRounds old new
+
+-- from a scene in which the round has its turn and wants this, it was met, or the session broke off
+abbrev pub Meets : {P : Type 0} → (Request → List Given → Want → Type 0) → (P → Request → List Given → Type 0) → Beginning → List Entry → ℕ → P → ℕ → Pieces → Pieces → Result Want Break → Scene → Scene → List ℕ → Type 0
+Meets wants stands beginning history moment policy client old new (Ok want) scene next text =
+    Met wants stands beginning history moment policy client want scene next × Takes old new text
+Meets wants stands beginning history moment policy client old new (Err broken) scene next text = Breaks wants beginning history old new broken next text
+
+abbrev pub NobodyRuns : Scene → Type 0
+NobodyRuns scene = scene.running ≡ None
+
+-- A round was led on to a scene that is still so, or the session broke off.
+abbrev pub ComesTo : {P : Type 0} → (Request → List Given → Want → Type 0) → (P → Request → List Given → Type 0) → Beginning → (Scene → Type 0) → Change P → Result (Unit {0}) Break → Scene → List ℕ → Type 0
+ComesTo wants stands beginning Still change (Ok u) scene text =
+    Still scene × IsStage wants stands beginning change.after scene × Takes change.old change.new text
+ComesTo wants stands beginning Still change (Err broken) scene text =
+    Breaks wants beginning change.after.history change.old change.new broken scene text
 
 -- What playing one event leads to, or why it isn't played: it can't be here, or it is broken off, before the
 -- line is heard or after it.
-abbrev pub Plays : {P : Type 0} → (Request → List Given → Want → Type 0) → (P → Request → List Given → Type 0) → Params → Boot → List Entry → List Entry → Option (List ℕ) → Option (List ℕ) → ℕ → List (Pending P) → Scene → Event → Result (Unit {0}) Stop → Type 0
-Plays wants stands params boot h0 h1 before now moment pending scene event (Ok u) =
-    Went wants scene (event ∷ []) h0 h1 (λ next text. (next.running ≡ None) × IsStage stands moment pending next × Appends before now text)
-Plays wants stands params boot h0 h1 before now moment pending scene event (Err Idle) =
-    IsIdle scene event × (h1 ≡ h0) × (now ≡ before)
-Plays wants stands params boot h0 h1 before now moment pending scene event (Err (Broken broken)) =
+abbrev pub Plays : {P : Type 0} → (Request → List Given → Want → Type 0) → (P → Request → List Given → Type 0) → Beginning → Change P → Scene → Event → Result (Unit {0}) Stop → Type 0
+Plays wants stands beginning change scene event (Ok u) =
+    Went wants beginning scene (event ∷ []) change.before.history change.after.history (ComesTo wants stands beginning AtRest change (Ok u))
+Plays wants stands beginning change scene event (Err Idle) =
+    IsIdle scene event × (change.after.history ≡ change.before.history) × Takes change.old change.new []
+Plays wants stands beginning change scene event (Err (Broken broken)) =
     (heard : List Event) × (rest : List Event) × (event ∷ [] ≡ heard ++ rest)
-    × Went wants scene heard h0 h1 (λ next text. Breaks wants params boot h1 before now broken next text)
+    × Went wants beginning scene heard change.before.history change.after.history (ComesTo wants stands beginning AtRest change (Err broken))
 
 -- the events without their lines' numbers
 abbrev pub events_in : List NumberedEvent → List Event
@@ -92,12 +181,12 @@ events_in numbered = map (λ (one : NumberedEvent). one.event) numbered
 
 -- What playing events from the opening scene on leads to, or where it halts: at an idle event, behind those
 -- before it, or broken off, with some of the events heard.
-abbrev pub PlaysAll : {P : Type 0} → (Request → List Given → Want → Type 0) → (P → Request → List Given → Type 0) → Params → Boot → List Entry → List Entry → Option (List ℕ) → Option (List ℕ) → ℕ → List (Pending P) → List NumberedEvent → Result (Unit {0}) Halt → Type 0
-PlaysAll wants stands params boot h0 h1 before now moment pending events (Ok u) =
-    Went wants opening_scene (events_in events) h0 h1 (λ next text. (next.running ≡ None) × IsStage stands moment pending next × Appends before now text)
-PlaysAll wants stands params boot h0 h1 before now moment pending events (Err (halts.Idle line)) =
+abbrev pub PlaysAll : {P : Type 0} → (Request → List Given → Want → Type 0) → (P → Request → List Given → Type 0) → Beginning → Change P → List NumberedEvent → Result (Unit {0}) Halt → Type 0
+PlaysAll wants stands beginning change events (Ok u) =
+    Went wants beginning (opening_scene beginning) (events_in events) change.before.history change.after.history (ComesTo wants stands beginning AtRest change (Ok u))
+PlaysAll wants stands beginning change events (Err (halts.Idle line)) =
     (played : List NumberedEvent) × (idle : NumberedEvent) × (rest : List NumberedEvent) × (events ≡ played ++ idle ∷ rest) × (idle.number ≡ line)
-    × Went wants opening_scene (events_in played) h0 h1 (λ next text. (next.running ≡ None) × IsIdle next idle.event × Appends before now text)
-PlaysAll wants stands params boot h0 h1 before now moment pending events (Err (halts.Broken broken)) =
+    × Went wants beginning (opening_scene beginning) (events_in played) change.before.history change.after.history (λ next text. AtRest next × IsIdle next idle.event × Takes change.old change.new text)
+PlaysAll wants stands beginning change events (Err (halts.Broken broken)) =
     (heard : List Event) × (rest : List Event) × (events_in events ≡ heard ++ rest)
-    × Went wants opening_scene heard h0 h1 (λ next text. Breaks wants params boot h1 before now broken next text)
+    × Went wants beginning (opening_scene beginning) heard change.before.history change.after.history (ComesTo wants stands beginning AtRest change (Err broken))

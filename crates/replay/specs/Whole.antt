@@ -18,10 +18,9 @@ pub record HasFramedBody (kind : Kind) (limit : ℕ) (fields : List Field) (text
   pub reads : BeginsWith framing text body rest
   pub short : length body ≤ limit
 
--- the text begins with a whole request with this head, its body of at most 1,048,576 bytes
-pub record HasWholeRequest (text : List ℕ) (head : RequestHead) : Type 0 where
+-- the text begins with a whole request with this head and body, of at most 1,048,576 bytes
+pub record HasWholeRequest (text : List ℕ) (head : RequestHead) (body : List ℕ) : Type 0 where
   pub count : ℕ
-  pub body : List ℕ
   pub head_is : HasRequest text head count
   pub body_is : HasFramedBody kinds.Request 1048576 head.fields (drop count text) body
 
@@ -33,7 +32,7 @@ pub record HasWholeReply (text : List ℕ) (head : ResponseHead) (body : List �
 
 -- no whole message stands there
 abbrev pub LacksWholeRequest : List ℕ → Type 0
-LacksWholeRequest text = (head : RequestHead) → ¬ (HasWholeRequest text head)
+LacksWholeRequest text = (head : RequestHead) (body : List ℕ) → ¬ (HasWholeRequest text head body)
 
 abbrev pub LacksWholeReply : List ℕ → Type 0
 LacksWholeReply text = (head : ResponseHead) (body : List ℕ) → ¬ (HasWholeReply text head body)
@@ -41,15 +40,16 @@ LacksWholeReply text = (head : ResponseHead) (body : List ℕ) → ¬ (HasWholeR
 -- this head stands there, and no other
 abbrev pub IsTheRequest : List ℕ → RequestHead → ℕ → Type 0
 IsTheRequest text head count =
-    HasRequest text head count × ((other : RequestHead) (length_ : ℕ) → HasRequest text other length_ → (other ≡ head) × (length_ ≡ count))
+    HasRequest text head count × ((other : RequestHead) (taken : ℕ) → HasRequest text other taken → (other ≡ head) × (taken ≡ count))
 
 abbrev pub IsTheResponse : List ℕ → ResponseHead → ℕ → Type 0
 IsTheResponse text head count =
-    HasResponse text head count × ((other : ResponseHead) (length_ : ℕ) → HasResponse text other length_ → (other ≡ head) × (length_ ≡ count))
+    HasResponse text head count × ((other : ResponseHead) (taken : ℕ) → HasResponse text other taken → (other ≡ head) × (taken ≡ count))
 
 -- this whole message stands there, and none with another head
-abbrev pub IsTheWholeRequest : List ℕ → RequestHead → Type 0
-IsTheWholeRequest text head = HasWholeRequest text head × ((other : RequestHead) → HasWholeRequest text other → other ≡ head)
+abbrev pub IsTheWholeRequest : List ℕ → RequestHead → List ℕ → Type 0
+IsTheWholeRequest text head body =
+    HasWholeRequest text head body × ((other : RequestHead) (more : List ℕ) → HasWholeRequest text other more → other ≡ head)
 
 abbrev pub IsTheWholeReply : List ℕ → ResponseHead → List ℕ → Type 0
 IsTheWholeReply text head body =

@@ -5,6 +5,7 @@ ghost use Rattle.replay.specs.FixedPolicy.{refusal_want};
 use crate::messages::write_bad_request;
 use crate::visit::Visit;
 use crate::{Given, Message, Policy, Request, Want};
+use cache_law::Call;
 use std::alloc::{AllocError, Global};
 
 /// A client's turn, from what it sent on.
@@ -23,12 +24,15 @@ fn refuse(alloc: Global, given: Given) -> Result<Want, AllocError>
     match given {
         Given::Start => Ok(Want::Respond(write_bad_request(alloc)?)),
         Given::Told { .. } | Given::Came(_) | Given::Sent => Ok(Want::Done),
+        Given::Closed => Ok(Want::Ask(Call::End)),
     }
 }
 
 impl Policy for Turn {
     ghost use Rattle.replay.specs.FixedPolicy.{Wants, wants-one};
     ghost use Rattle.replay.specs.Visit.{StandsAt};
+
+    type Context = ();
 
     ghost wants = { Wants };
 
@@ -39,12 +43,17 @@ impl Policy for Turn {
     fn start(alloc: Global, request: Request) -> Result<Self, AllocError> {
         let Request { client, message } = request;
         match message {
-            Message::Whole(head) => Ok(Turn::Visit(Visit::new(client, head))),
+            Message::Whole { head, .. } => Ok(Turn::Visit(Visit::new(client, head))),
             Message::Unreadable => Ok(Turn::Refusal),
         }
     }
 
-    fn resume(&mut self, alloc: Global, given: Given) -> Result<Want, AllocError> {
+    fn resume(
+        &mut self,
+        alloc: Global,
+        context: &mut (),
+        given: Given,
+    ) -> Result<Want, AllocError> {
         match self {
             Turn::Visit(visit) => Ok(visit.resume(alloc, given)?),
             Turn::Refusal => Ok(refuse(alloc, given)?),

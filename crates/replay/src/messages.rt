@@ -118,5 +118,5 @@ pub(crate) fn deliver(
     let mut out = Vec::new(alloc);
     out.extend_from_slice(printed.bytes())?;
     out.extend_from_slice(object.body.bytes())?;
-    Text::of(alloc, out.as_slice())
+    Text::from_vec(out)
 }

@@ -1,20 +1,20 @@
 // What a round wants next, after what it was given.
-ghost use Rattle.std.specs.Prelude.{◌≡◌, List, [], ◌∷◌, IfOk, OnOk, false};
+ghost use Rattle.std.specs.Prelude.{◌≡◌, List, [], ◌∷◌, IfOk, OnOk, false, true};
 ghost use Rattle.replay.specs.declared.policy.Request.{Request as Asked};
 ghost use Rattle.replay.specs.declared.policy.Given.{Given as Gift};
 ghost use Rattle.replay.specs.declared.policy.Want.{Want as Wish};
-ghost use Rattle.replay.specs.Policy.{HasOneWant, is_response};
+ghost use Rattle.replay.specs.Policy.{HasOneWant, IsDue, is_call, is_response};
 
 use cache_law::{Call, Reply};
-use http_heads::{RequestHead, ResponseHead};
+use http_heads::{Got, RequestHead};
 use std::alloc::{AllocError, Global};
 use units::{Copied, Text};
 
 /// What a client sent.
 #[derive(Drop)]
 pub enum Message {
-    /// A whole request with this head.
-    Whole(RequestHead),
+    /// A whole request with this head and body.
+    Whole { head: RequestHead, body: Text },
     /// Bytes that begin with no whole request.
     Unreadable,
 }
@@ -29,7 +29,10 @@ pub struct Request {
 impl Copied for Message {
     fn copied(&self, alloc: Global) -> Result<Self, AllocError> {
         match self {
-            Message::Whole(head) => Ok(Message::Whole(head.copied(alloc)?)),
+            Message::Whole { head, body } => Ok(Message::Whole {
+                head: head.copied(alloc)?,
+                body: body.copy()?,
+            }),
             Message::Unreadable => Ok(Message::Unreadable),
         }
     }
@@ -44,14 +47,6 @@ impl Copied for Request {
     }
 }
 
-/// A backend's reply, and when it came.
-#[derive(Drop)]
-pub struct Arrival {
-    pub moment: u64,
-    pub head: ResponseHead,
-    pub body: Text,
-}
-
 /// What a round is given.
 #[derive(Drop)]
 pub enum Given {
@@ -60,9 +55,11 @@ pub enum Given {
     /// Its call was entered at this moment, with this reply.
     Told { moment: u64, reply: Reply },
     /// Its exchange is over.
-    Came(Arrival),
+    Came(Got),
     /// Its response was sent.
     Sent,
+    /// The fetch that it waited for is closed.
+    Closed,
 }
 
 /// What a round wants.
@@ -78,12 +75,17 @@ pub enum Want {
     },
     /// That the client gets these bytes.
     Respond(Text),
+    /// That the fetch of this number is closed.
+    Await(u64),
     /// Nothing more.
     Done,
 }
 
 /// How a round is led, from the request on, one want after another.
 pub trait Policy: Drop {
+    /// What all rounds share, as the programs that lead them.
+    type Context;
+
     /// After these givens, newest first, a round of this request wants this.
     ghost wants: { Asked → List Gift → Wish → Type 0 };
 
@@ -93,11 +95,19 @@ pub trait Policy: Drop {
     fn start(alloc: Global, request: Request) -> Result<Self, AllocError>
         ensures { IfOk result (λ round. stands round request []) };
 
-    /// The next want. A response is never followed by another at once.
-    fn resume(&mut self, alloc: Global, given: Given) -> Result<Want, AllocError>
+    /// The next want, where what is given answers the last one. A response is never followed by another at once, and
+    /// a wait is always followed by a call.
+    fn resume(
+        &mut self,
+        alloc: Global,
+        context: &mut Self::Context,
+        given: Given,
+    ) -> Result<Want, AllocError>
+        requires { IsDue wants stands self.old given }
         ensures stands { OnOk result ((request : Asked) (givens : List Gift) → stands self.old request givens → stands self.new request (given ∷ givens)) }
         ensures wanted { IfOk result (λ want. (request : Asked) (givens : List Gift) → stands self.old request givens → wants request (given ∷ givens) want) }
-        ensures calm { given ≡ Given.Sent → IfOk result (λ want. is_response want ≡ false) };
+        ensures calm { given ≡ Given.Sent → IfOk result (λ want. is_response want ≡ false) }
+        ensures calls { given ≡ Given.Closed → IfOk result (λ want. is_call want ≡ true) };
 
     /// After the same givens a round wants the same.
     ghost one_want: { HasOneWant wants };

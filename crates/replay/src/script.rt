@@ -24,9 +24,9 @@ fn build_message(alloc: Global, text: &[u8]) -> Result<Option<Message>, AllocErr
     ensures { IfOk result (λ built. MatchOption built ((message : Sent) → IsMessage text.now message → ⊥) (λ message. IsMessage text.now message)) }
 {
     match read_whole_request(alloc, text)? {
-        Some(head) => {
+        Some((head, body)) => {
             if is_page_request(&head) {
-                Ok(Some(Message::Whole(head)))
+                Ok(Some(Message::Whole { head, body }))
             } else {
                 Ok(None)
             }

@@ -1,11 +1,15 @@
 // A whole session.
-ghost use Rattle.std.specs.Prelude.{◌≡◌, ◌≤◌, Some};
+ghost use Rattle.std.specs.Prelude.{◌≡◌, ◌≤◌, ◌==◌, ◌&&◌, length, Some, false};
 ghost use Rattle.wire.specs.Causes.{Rose};
 ghost use Rattle.replay.specs.FixedPolicy.{Wants};
-ghost use Rattle.replay.specs.Replayed.{IsReplayed, SessionEnds, error_for, refusal_of};
+ghost use Rattle.cache_law.specs.Beginning.{beginning_of};
+ghost use Rattle.replay.specs.Pieces.{UsesSink, pieces};
+ghost use Rattle.replay.specs.Replayed.{IsReplayed, IsWritten, SessionEnds, error_for, is_write_fault, refusal_of};
 
 use crate::event::Script;
-use crate::schedule::{Break, Halt, Play, play_events};
+use crate::pieces::flush;
+use crate::rounds::{Break, Play};
+use crate::schedule::{Halt, play_events};
 use crate::script::{BuildError, build};
 use crate::{Policy, Turn};
 use cache_law::{Boot, CacheCore, Entry, Params};
@@ -66,15 +70,47 @@ fn refusal(played: Result<(), Halt>, nobody_waits: bool, end: u32) -> Option<Rep
     }
 }
 
+/// Whether no client is under way.
+fn has_nobody<C, P>(play: &Play<C, P>) -> bool
+    ensures { result ≡ (length play.now.waiting.items == 0 && length play.now.parked.items == 0) }
+{
+    play.waiting.as_slice().is_empty() && play.parked.as_slice().is_empty()
+}
+
+fn is_fault(ending: Option<ReplayError>) -> bool
+    ensures { result ≡ is_write_fault ending }
+{
+    matches!(ending, Some(ReplayError::WriteFault))
+}
+
+// The ending of a session once all that was kept is written.
+fn written<K: Sink>(
+    unwritten: &mut Vec<u8>,
+    sink: &mut K,
+    ending: Option<ReplayError>,
+) -> Option<ReplayError>
+    ensures written { IsWritten (pieces (K.held sink.old) unwritten.old.items) (K.held sink.new) ending result }
+    ensures sink { UsesSink K.faults sink.old sink.new ((is_write_fault ending ≡ false) × (result ≡ Some ReplayError.WriteFault)) }
+{
+    if is_fault(ending) {
+        return ending;
+    }
+    match flush(unwritten, sink) {
+        Ok(()) => ending,
+        Err(_) => Some(ReplayError::WriteFault),
+    }
+}
+
 /// Plays a session over a cache of this kind, its rounds led by this policy, and writes its transcript.
 pub fn play_session<C: CacheCore + Drop, P: Policy, K: Sink>(
     alloc: Global,
     script: &Script,
     params: &Params,
     boot: Boot,
+    context: &mut P::Context,
     sink: &mut K,
 ) -> Replayed
-    ensures replayed { IsReplayed P.wants script.now params.now boot (K.held sink.old) (K.held sink.new) result }
+    ensures replayed { IsReplayed P.wants script.now (beginning_of params.now boot) (K.held sink.old) (K.held sink.new) result }
     ensures later { K.faults sink.old ≤ K.faults sink.new }
     ensures cause { result.refusal ≡ Some ReplayError.WriteFault → Rose (K.faults sink.old) (K.faults sink.new) }
 {
@@ -91,14 +127,14 @@ pub fn play_session<C: CacheCore + Drop, P: Policy, K: Sink>(
         core,
         moment: 0,
         waiting: Vec::new(alloc),
+        parked: Vec::new(alloc),
+        unwritten: Vec::new(alloc),
     };
-    let played = play_events(alloc, &mut play, sink, script.events.as_slice());
-    let refusal = refusal(played, play.waiting.as_slice().is_empty(), script.end);
-    let Play {
-        core,
-        moment: _,
-        waiting: _,
-    } = play;
+    let played = play_events(alloc, &mut play, context, sink, script.events.as_slice());
+    let nobody_waits = has_nobody(&play);
+    let ending = refusal(played, nobody_waits, script.end);
+    let refusal = written(&mut play.unwritten, sink, ending);
+    let Play { core, .. } = play;
     Replayed {
         history: core.into_history(),
         refusal,
@@ -114,13 +150,13 @@ pub fn run_session<K: Sink>(
     boot: Boot,
     sink: &mut K,
 ) -> Replayed
-    ensures replayed { SessionEnds Wants session.now params.now boot result.history (K.held sink.old) (K.held sink.new) result.refusal }
+    ensures replayed { SessionEnds Wants session.now (beginning_of params.now boot) result.history (K.held sink.old) (K.held sink.new) result.refusal }
     ensures later { K.faults sink.old ≤ K.faults sink.new }
     ensures cause { result.refusal ≡ Some ReplayError.WriteFault → Rose (K.faults sink.old) (K.faults sink.new) }
 {
     let refusal = match build(alloc, session) {
         Ok(script) => {
-            return play_session::<FlatCore, Turn, K>(alloc, &script, params, boot, sink);
+            return play_session::<FlatCore, Turn, K>(alloc, &script, params, boot, &mut (), sink);
         }
         Err(BuildError::NotBuilt(line)) => ReplayError::NotBuilt(line),
         Err(BuildError::NoMemory) => ReplayError::NoMemory,

@@ -1,16 +1,16 @@
 // A visit of a page: look it up, else fetch it, store it and deliver it.
-ghost use Rattle.std.specs.Prelude.{◌≡◌, ◌++◌, ◌∷◌, [], ℕ, List, Some, IfOk, OnOk, codes, pos, min, false};
+ghost use Rattle.std.specs.Prelude.{◌≡◌, ◌++◌, ◌∷◌, [], ℕ, List, Some, IfOk, OnOk, codes, pos, min, true, false};
 ghost use Rattle.std.specs.Fmt.{decimal};
 ghost use Rattle.replay.specs.Messages.{backend_request, delivered, age_of};
-ghost use Rattle.replay.specs.FixedPolicy.{address_of, fetched, key_of, last_moment, kept_fields, page_want, request_fields, view_of};
+ghost use Rattle.replay.specs.FixedPolicy.{address_of, fetched, insertion, key_of, last_moment, kept_fields, made_of, page_want, request_fields, view_of};
 ghost use Rattle.replay.specs.Visit.{Keeps};
 ghost use Rattle.replay.specs.declared.policy.Given.{Given as Gift};
 
 use crate::forms::host;
 use crate::messages::{add_field, age_at, deliver, write_backend_request};
-use crate::{Arrival, Given, Want};
-use cache_law::{Call, Object, ObjectView, Reply, RequestView, Timing};
-use http_heads::{Fields, RequestHead};
+use crate::{Given, Want};
+use cache_law::{Call, Object, ObjectView, Query, Reply, RequestView, Shared, Timing};
+use http_heads::{Exchange, Fields, Got, RequestHead, ResponseHead};
 use std::alloc::{AllocError, Global};
 use units::{Copied, Sequence, Text, push_number, write_number};
 
@@ -26,7 +26,8 @@ pub struct Visit {
     pub(crate) number: u64,
     pub(crate) vcl: u32,
     pub(crate) token: u64,
-    pub(crate) arrival: Option<Arrival>,
+    /// What was fetched.
+    pub(crate) object: Option<Shared<Object>>,
 }
 
 // The address of a client.
@@ -36,7 +37,7 @@ fn write_address(alloc: Global, client: u32) -> Result<Text, AllocError>
     let mut out = Vec::new(alloc);
     out.extend_from_slice(b"10.0.0.")?;
     push_number(&mut out, alloc, u64::from(client))?;
-    Text::of(alloc, out.as_slice())
+    Text::from_vec(out)
 }
 
 fn make_fields(alloc: Global, client: u32, head: &RequestHead) -> Result<Fields, AllocError>
@@ -86,17 +87,39 @@ fn keep_fields(alloc: Global, fields: &Fields) -> Result<Fields, AllocError>
     Ok(kept)
 }
 
-fn make_object(alloc: Global, head: &RequestHead, arrival: &Arrival) -> Result<Object, AllocError>
-    ensures { IfOk result (λ object. object ≡ fetched head.now arrival.now) }
+fn make_object(
+    alloc: Global,
+    head: &RequestHead,
+    moment: u64,
+    reply: &ResponseHead,
+    body: Text,
+) -> Result<Shared<Object>, AllocError>
+    ensures { IfOk result (λ object. object ≡ fetched head.now moment reply.now body) }
 {
-    Ok(Object {
+    let object = Object {
         key: make_key(alloc, head)?,
-        status: arrival.head.status,
-        reason: arrival.head.reason.copy()?,
-        fields: keep_fields(alloc, &arrival.head.fields)?,
-        body: arrival.body.copy()?,
-        timing: make_timing(arrival.moment),
-    })
+        status: reply.status,
+        reason: reply.reason.copy()?,
+        fields: keep_fields(alloc, &reply.fields)?,
+        body,
+        timing: make_timing(moment),
+    };
+    Shared::new(alloc, object)
+}
+
+// What came of an exchange as an object.
+fn make_fetched(
+    alloc: Global,
+    head: &RequestHead,
+    got: Got,
+) -> Result<Option<Shared<Object>>, AllocError>
+    ensures { IfOk result (λ made. made ≡ made_of head.now got.moment got.exchange) }
+{
+    let Got { moment, exchange } = got;
+    match exchange {
+        Exchange::Reply(reply, body) => Ok(Some(make_object(alloc, head, moment, &reply, body)?)),
+        Exchange::Fault(_) | Exchange::NoMemory => Ok(None),
+    }
 }
 
 // The number of a round, and behind it that of the object.
@@ -107,7 +130,7 @@ fn write_numbers(alloc: Global, round: u64, object: u64) -> Result<Text, AllocEr
     push_number(&mut out, alloc, round)?;
     out.extend_from_slice(b" ")?;
     push_number(&mut out, alloc, object)?;
-    Text::of(alloc, out.as_slice())
+    Text::from_vec(out)
 }
 
 fn deliver_hit(
@@ -125,21 +148,19 @@ fn deliver_hit(
 
 fn deliver_fetched(
     alloc: Global,
-    head: &RequestHead,
     number: u64,
-    arrival: &Arrival,
+    object: &Object,
     moment: u64,
 ) -> Result<Want, AllocError>
-    ensures { IfOk result (λ want. want ≡ Want.Respond (delivered (fetched head.now arrival.now) (decimal number) (age_of (fetched head.now arrival.now) moment))) }
+    ensures { IfOk result (λ want. want ≡ Want.Respond (delivered object.now (decimal number) (age_of object.now moment))) }
 {
-    let object = make_object(alloc, head, arrival)?;
     let number = write_number(alloc, number)?;
-    let age = age_at(&object, moment);
-    Ok(Want::Respond(deliver(alloc, &object, number.bytes(), age)?))
+    let age = age_at(object, moment);
+    Ok(Want::Respond(deliver(alloc, object, number.bytes(), age)?))
 }
 
 impl Visit {
-    ghost use Rattle.replay.specs.Policy.{is_response};
+    ghost use Rattle.replay.specs.Policy.{is_call, is_response};
 
     /// A visit that was given nothing yet.
     pub(crate) fn new(client: u32, head: RequestHead) -> Visit
@@ -153,7 +174,7 @@ impl Visit {
             number: 0,
             vcl: 0,
             token: 0,
-            arrival: None,
+            object: None,
         }
     }
 
@@ -180,10 +201,11 @@ impl Visit {
             Reply::Began { number, vcl, .. } => {
                 self.number = number;
                 self.vcl = vcl;
-                Ok(Want::Ask(Call::Lookup {
+                let query = Query {
                     key: make_key(alloc, &self.head)?,
                     request: make_view(alloc, self.client, &self.head)?,
-                }))
+                };
+                Ok(Want::Ask(Call::Lookup(Shared::new(alloc, query)?)))
             }
             Reply::Hit(view) => deliver_hit(alloc, self.number, &view, moment),
             Reply::Miss { token } => {
@@ -197,10 +219,8 @@ impl Visit {
             Reply::Picked(Some(name)) => self.ask_backend(alloc, name),
             Reply::Stored(_) | Reply::NotOpen | Reply::NotInTime | Reply::NoRoom | Reply::Refused =>
                 {
-                    match &self.arrival {
-                        Some(arrival) => {
-                            deliver_fetched(alloc, &self.head, self.number, arrival, moment)
-                        }
+                    match &self.object {
+                        Some(object) => deliver_fetched(alloc, self.number, object, moment),
                         None => Ok(Want::Done),
                     }
                 }
@@ -208,19 +228,21 @@ impl Visit {
         }
     }
 
-    // What the backend's reply leads to.
-    fn store(&mut self, alloc: Global, arrival: Arrival) -> Result<Want, AllocError>
+    // What the end of the exchange leads to.
+    fn store(&mut self, alloc: Global, got: Got) -> Result<Want, AllocError>
         ensures client { self.new.client ≡ self.old.client }
         ensures head { self.new.head ≡ self.old.head }
-        ensures keeps { OnOk result ((givens : List Gift) → Keeps self.old givens → Keeps self.new (Given.Came arrival ∷ givens)) }
-        ensures wanted { IfOk result (λ want. (givens : List Gift) → Keeps self.old givens → want ≡ page_want self.old.client self.old.head (Given.Came arrival) givens) }
+        ensures keeps { OnOk result ((givens : List Gift) → Keeps self.old givens → Keeps self.new (Given.Came got ∷ givens)) }
+        ensures wanted { IfOk result (λ want. (givens : List Gift) → Keeps self.old givens → want ≡ page_want self.old.client self.old.head (Given.Came got) givens) }
     {
-        let object = make_object(alloc, &self.head, &arrival)?;
-        self.arrival = Some(arrival);
-        Ok(Want::Ask(Call::Insert {
-            token: self.token,
-            object,
-        }))
+        self.object = make_fetched(alloc, &self.head, got)?;
+        match &self.object {
+            Some(object) => Ok(Want::Ask(Call::Insert {
+                token: self.token,
+                object: object.copy()?,
+            })),
+            None => Ok(Want::Done),
+        }
     }
 
     /// What the visit wants next.
@@ -230,12 +252,13 @@ impl Visit {
         ensures keeps { OnOk result ((givens : List Gift) → Keeps self.old givens → Keeps self.new (given ∷ givens)) }
         ensures wanted { IfOk result (λ want. (givens : List Gift) → Keeps self.old givens → want ≡ page_want self.old.client self.old.head given givens) }
         ensures calm { given ≡ Given.Sent → IfOk result (λ want. is_response want ≡ false) }
+        ensures calls { given ≡ Given.Closed → IfOk result (λ want. is_call want ≡ true) }
     {
         match given {
             Given::Start => Ok(Want::Ask(Call::Begin)),
             Given::Told { moment, reply } => Ok(self.answer(alloc, moment, reply)?),
-            Given::Came(arrival) => Ok(self.store(alloc, arrival)?),
-            Given::Sent => Ok(Want::Ask(Call::End)),
+            Given::Came(got) => Ok(self.store(alloc, got)?),
+            Given::Sent | Given::Closed => Ok(Want::Ask(Call::End)),
         }
     }
 }

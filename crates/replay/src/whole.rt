@@ -91,13 +91,13 @@ fn read_response_head(
     }
 }
 
-/// The head of the whole request at the front of the text; None where none stands there, be it that its head,
-/// its framing or its body is refused, or that the text ends in it.
+/// The head and the body of the whole request at the front of the text; None where none stands there, be it that its
+/// head, its framing or its body is refused, or that the text ends in it.
 pub(crate) fn read_whole_request(
     alloc: Global,
     text: &[u8],
-) -> Result<Option<RequestHead>, AllocError>
-    ensures { IfOk result (λ found. MatchOption found (LacksWholeRequest text.now) (λ head. IsTheWholeRequest text.now head)) }
+) -> Result<Option<(RequestHead, Text)>, AllocError>
+    ensures { IfOk result (λ found. MatchOption found (LacksWholeRequest text.now) (λ found. IsTheWholeRequest text.now found.0 found.1)) }
 {
     let (head, count) = match read_request_head(alloc, text)? {
         Some(found) => found,
@@ -110,7 +110,7 @@ pub(crate) fn read_whole_request(
         &head.fields,
         &text[count..],
     )? {
-        Some(_) => Ok(Some(head)),
+        Some(body) => Ok(Some((head, body))),
         None => Ok(None),
     }
 }

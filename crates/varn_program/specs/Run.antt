@@ -1,5 +1,5 @@
 -- What a run leaves, for each way in which it may end.
-use Rattle.std.specs.Prelude.{◌≡◌, ◌⊎◌, ℕ, Option, Some, None, List, [], ◌∷◌, codes}
+use Rattle.std.specs.Prelude.{◌≡◌, ◌⊎◌, ◌≤◌, ℕ, Option, Some, None, List, [], ◌∷◌, codes, length}
 use Rattle.wire.specs.Content.{ReadsUpTo}
 use Rattle.session_text.specs.declared.session.Session.{Session as TheSession}
 use Rattle.session_text.specs.declared.session.FaultKind.{FaultKind}
@@ -8,10 +8,15 @@ use Rattle.session_text.specs.Sessions.{IsSession, IsFault}
 use Rattle.cache_law.specs.declared.setting.Params.{Params}
 use Rattle.cache_law.specs.declared.setting.Boot.{Boot}
 use Rattle.cache_law.specs.declared.call.Entry.{Entry}
+use Rattle.cache_law.specs.Beginning.{beginning_of}
+use Rattle.wire.specs.Causes.{Rose}
+use Rattle.replay.specs.declared.event.Script.{Script}
+use Rattle.replay.specs.Build.{IsBuilt}
+use Rattle.replay.specs.Laws.{NothingStops}
 use Rattle.replay.specs.declared.session.ReplayError.{ReplayError}
 use Rattle.replay.specs.declared.session.ReplayError.TheVariants as refusals
 use Rattle.replay.specs.FixedPolicy.{Wants}
-use Rattle.replay.specs.Replayed.{SessionEnds}
+use Rattle.replay.specs.Replayed.{SessionEnds, PlayedTo as SessionPlayedTo}
 use Rattle.varn_program.specs.declared.outcome.Status.{Status}
 use Rattle.varn_program.specs.declared.outcome.Status.TheVariants.{Done, Words, Session, ReadFault, WriteFault, NoMemory, HistoryFull}
 use Rattle.varn_program.specs.declared.outcome.Note.{Note}
@@ -48,7 +53,7 @@ pub record Nothing (held0 held1 : Option (List ℕ)) (history : List Entry) : Ty
 abbrev pub PlayedTo : Params → Option (List ℕ) → Option (List ℕ) → Option (List ℕ) → Option (List ℕ) → List Entry → Option ReplayError → Type 0
 PlayedTo params left0 left1 held0 held1 history refusal =
     (text : List ℕ) × (session : TheSession) × IsText left0 left1 text × IsSession text session
-    × SessionEnds Wants session params opening_boot history held0 held1 refusal
+    × SessionEnds Wants session (beginning_of params opening_boot) history held0 held1 refusal
 
 -- the source's text is no session
 abbrev pub IsRefused : Option (List ℕ) → Option (List ℕ) → Option Note → Type 0
@@ -78,6 +83,22 @@ EndsAs params left0 left1 held0 held1 history told NoMemory =
 
 abbrev pub EndsReplay : Params → Option (List ℕ) → Option (List ℕ) → Option (List ℕ) → Option (List ℕ) → Outcome → Type 0
 EndsReplay params left0 left1 held0 held1 outcome = EndsAs params left0 left1 held0 held1 outcome.history outcome.note outcome.status
+
+-- The source has the bytes of this session left, and each of its lines is built.
+pub record HasSession (left : Option (List ℕ)) (session : TheSession) : Type 0 where
+  pub bytes : List ℕ
+  pub left_is : left ≡ Some bytes
+  pub short : length bytes ≤ 67108864
+  pub reads : IsSession bytes session
+  pub script : Script
+  pub built : IsBuilt session script
+
+-- Where the source has a session, nothing stops it over the history that is handed out, and no call of the outside failed,
+-- the run is whole: its status is Done, and the sink holds the transcript behind what it held. Or memory was wanting.
+abbrev pub IsComplete : Params → Option (List ℕ) → Option (List ℕ) → Option (List ℕ) → Type 0 → Outcome → Type 0
+IsComplete params left held0 held1 failed outcome =
+    (session : TheSession) → HasSession left session → NothingStops Wants session (beginning_of params opening_boot) outcome.history → (failed → ⊥)
+    → ((outcome.status ≡ Done) × SessionPlayedTo Wants session (beginning_of params opening_boot) outcome.history held0 held1 None) ⊎ (outcome.status ≡ NoMemory)
 
 -- How a run ends: status Words exactly for other words than `replay`, with nothing read or written; else as a replay.
 abbrev pub Ends : List (List ℕ) → Option (List ℕ) → Option (List ℕ) → Option (List ℕ) → Option (List ℕ) → Outcome → Type 0

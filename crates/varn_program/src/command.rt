@@ -1,6 +1,6 @@
 // The top call.
-ghost use Rattle.std.specs.Prelude.{◌≡◌, ◌≤◌, ◌∷◌, [], codes, IsTrue, ◌↔◌, IfOk, Some, None};
-ghost use Rattle.varn_program.specs.Run.{IsReplay, Ends, EndsReplay, opening_boot, outcome_of};
+ghost use Rattle.std.specs.Prelude.{◌≡◌, ◌≤◌, ◌∷◌, ◌⊎◌, [], codes, IsTrue, ◌↔◌, IfOk, Some, None};
+ghost use Rattle.varn_program.specs.Run.{IsReplay, Ends, EndsReplay, IsComplete, opening_boot, outcome_of, usual_limits};
 ghost use Rattle.wire.specs.Causes.{Rose};
 
 use crate::outcome::{Note, Outcome, Status};
@@ -75,6 +75,7 @@ pub fn replay<S: Source, K: Sink>(
     sink: &mut K,
 ) -> Outcome
     ensures ends { EndsReplay params.now (S.left source.old) (S.left source.new) (K.held sink.old) (K.held sink.new) result }
+    ensures complete { IsComplete params.now (S.left source.old) (K.held sink.old) (K.held sink.new) (Rose (S.faults source.old) (S.faults source.new) ⊎ Rose (K.faults sink.old) (K.faults sink.new)) result }
     ensures read_fault { result.status ≡ Status.ReadFault → Rose (S.faults source.old) (S.faults source.new) }
     ensures write_fault { result.status ≡ Status.WriteFault → Rose (K.faults sink.old) (K.faults sink.new) }
 {
@@ -106,6 +107,7 @@ pub fn run<S: Source, K: Sink>(
     sink: &mut K,
 ) -> Outcome
     ensures ends { Ends words.now (S.left source.old) (S.left source.new) (K.held sink.old) (K.held sink.new) result }
+    ensures complete { IsReplay words.now → IsComplete usual_limits (S.left source.old) (K.held sink.old) (K.held sink.new) (Rose (S.faults source.old) (S.faults source.new) ⊎ Rose (K.faults sink.old) (K.faults sink.new)) result }
     ensures read_fault { result.status ≡ Status.ReadFault → Rose (S.faults source.old) (S.faults source.new) }
     ensures write_fault { result.status ≡ Status.WriteFault → Rose (K.faults sink.old) (K.faults sink.new) }
 {

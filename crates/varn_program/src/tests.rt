@@ -1,8 +1,8 @@
 // Whole runs of the program over a source and a sink in memory.
 mod messages;
 
-use crate::outcome::{Note, Outcome, Status};
 use crate::command::{replay, run};
+use crate::outcome::{Note, Outcome, Status};
 use cache_law::{Call, Params, Reply};
 use messages::MESSAGES;
 use std::alloc::{AllocError, Global};
@@ -430,6 +430,37 @@ fn opening(rt: HostRuntime) -> Result<(), Fail> {
     Ok(())
 }
 
+// A transcript is written in pieces of 32,768 bytes or more, and what is left of it at the end.
+#[test]
+fn pieces(rt: HostRuntime) -> Result<(), Fail> {
+    let alloc = rt.alloc();
+    // The write that fails, the ending, the entries that were made, and the lines that were written.
+    let cases: [(u64, Status, usize, usize); 4] = [
+        (0, Status::WriteFault, 4, 0),
+        (1, Status::WriteFault, 7, 2),
+        (2, Status::WriteFault, 8, 3),
+        (3, Status::Done, 8, 4),
+    ];
+    for (failing, status, entries, lines) in cases {
+        let mut session = session_with_bodies(alloc, 0, 40_000)?;
+        session.truncate(session.len() - 4);
+        session.extend_from_slice(br#"req 1 "GET /a HTTP/1.1\r\nHost: h\r\n\r\n""#)?;
+        session.extend_from_slice(b"\nreq 1 \"a\"\nend\n")?;
+        let mut source = FailingSource::new(session, Vec::new(alloc));
+        let mut sink = FailingSink::new(alloc, [failing].to_vec(alloc)?, 1_000_000);
+        let outcome = replay(alloc, &USUAL, &mut source, &mut sink);
+        assert_eq!(rt; outcome.status, status, "write {failing}");
+        assert_eq!(rt;
+            outcome.history.as_slice().len(),
+            entries,
+            "write {failing}"
+        );
+        let ends = sink.bytes().iter().filter(|byte| **byte == b'\n').count();
+        assert_eq!(rt; ends, lines, "write {failing}");
+    }
+    Ok(())
+}
+
 // Limits of the history around each call of the session, the entries that fit, and the lines that are
 // written until then. The last is whole.
 const LIMITS: [(u64, usize, usize); 24] = [
@@ -496,18 +527,18 @@ fn faults_of_the_outside(rt: HostRuntime) -> Result<(), Fail> {
     }
     let mut whole = empty_sink(alloc);
     let _ = play(alloc, &USUAL, ONE_PAGE, &[], &mut whole)?;
-    // The write that fails, how many bytes the sink takes at a time, and the entries that were made.
-    let writes: [(u64, usize, usize, usize); 8] = [
-        (0, 1_000_000, 3, 0),
-        (1, 1_000_000, 4, 1),
-        (2, 1_000_000, 7, 2),
-        (3, 1_000_000, 11, 3),
-        (4, 1_000_000, 12, 4),
-        (0, 1, 3, 0),
-        (7, 1, 3, 0),
-        (99, 0, 3, 0),
+    // The write that fails, how many bytes the sink takes at a time, and the lines that it then holds whole. So short a
+    // transcript is written at the end.
+    let writes: [(u64, usize, usize); 7] = [
+        (0, 1_000_000, 0),
+        (0, 1, 0),
+        (7, 1, 0),
+        (97, 1, 0),
+        (98, 1, 1),
+        (300, 1, 2),
+        (99, 0, 0),
     ];
-    for (failing, most, entries, lines) in writes {
+    for (failing, most, lines) in writes {
         let mut sink = FailingSink::new(alloc, [failing].to_vec(alloc)?, most);
         let outcome = play(alloc, &USUAL, ONE_PAGE, &[], &mut sink)?;
         assert_eq!(rt;
@@ -517,7 +548,7 @@ fn faults_of_the_outside(rt: HostRuntime) -> Result<(), Fail> {
         );
         assert_eq!(rt;
             outcome.history.as_slice().len(),
-            entries,
+            13,
             "write {failing} of {most}"
         );
         let ends = sink.bytes().iter().filter(|byte| **byte == b'\n').count();

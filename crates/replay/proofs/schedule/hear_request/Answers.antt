@@ -1,37 +1,53 @@
-use Rattle.std.proofs.Common.{◌≡◌, [], ◌∷◌, true, false, refl}
+use Rattle.std.proofs.Common.{◌≡◌, [], ◌∷◌, true, false, refl, sym, ◌∙◌}
 use Rattle.replay.specs.declared.event.Event.TheVariants as events
 use Rattle.replay.specs.Scene.{begun, is_under_way, with_running}
-use Rattle.replay.proofs.Hearing.{under_way, request_heard}
+use Rattle.replay.specs.Went.{stage_of}
+use Rattle.replay.proofs.Hearing.{under_way, request_heard, stage_like}
 use Rattle.replay.proofs.Runs.{went-here}
-use Rattle.replay.proofs.Sending.{Appends-nil}
+use Rattle.replay.proofs.Taking.{Takes-nil}
 use Rattle.replay.proofs.schedule.hear_request.Goals as goal
 
-pub returns-then-is_under_way-clause-plays : goal.returns-then-is_under_way-clause-plays
-returns-then-is_under_way-clause-plays g c = λ scene stage rests.
-    let same = under_way g.P.Policy.stands _ scene.waiting c.args.request.client stage.pending_are in
-    let here : is_under_way c.args.request.client scene.waiting ≡ true = cc in
-    (here, refl, refl)
+pub returns-then-is_busy-clause-plays : goal.returns-then-is_busy-clause-plays
+returns-then-is_busy-clause-plays g c = λ scene stage rests.
+    let same = under_way g.P.Policy.wants g.P.Policy.stands c.args.play.now.waiting.items c.args.play.now.parked.items scene c.args.request.client stage.waiting_are stage.parked_are in
+    let here : is_under_way c.args.request.client scene ≡ true = cc in
+    (here, refl, Takes-nil _)
 
 pub returns-in-Err-clause-plays : goal.returns-in-Err-clause-plays
 returns-in-Err-clause-plays g c = λ scene stage rests.
-    ([], events.Request c.args.request ∷ [], refl, went-here _ scene _ _ (Appends-nil _))
+    ([], events.Request c.args.request ∷ [], refl, went-here g.P.Policy.wants _ scene _ _ (Takes-nil _))
 
-pub returns-in-Ok-run_round-clause-plays : goal.returns-in-Ok-run_round-clause-plays
-returns-in-Ok-run_round-clause-plays g c = λ scene stage rests.
-    let same = under_way g.P.Policy.stands _ scene.waiting c.args.request.client stage.pending_are in
-    let free : is_under_way c.args.request.client scene.waiting ≡ false = cc in
-    request_heard _ scene c.args.request _ _ _ rests free
-    (c.in-Ok-run_round.ensures.went (with_running scene (begun c.args.request)) (record { moment_is = stage.moment_is; pending_are = stage.pending_are })
-    (record { round = begun c.args.request; runs = record { turn = refl; wanted = c.in-Ok.ensures.1 }; client_is = refl; stands_at = c.in-Ok.ensures.0 }))
+pub lead-requires : goal.lead-requires
+lead-requires g c =
+    let set = c.requires.set in
+    let scene = with_running set.scene (begun c.args.request) in
+    record {
+      in_step = c.requires.in_step;
+      turn = (
+        scene,
+        stage_like g.P.Policy.wants _ g.P.Policy.stands (stage_of g.C.CacheCore.history c.args.play.now) set.scene scene set.is_stage refl refl refl refl,
+        record { round = begun c.args.request; turn = refl; leads = record { client_is = refl; stands_at = c.in-Ok.ensures.0; wanted = c.in-Ok.ensures.1 } },
+      );
+    }
 
-pub returns-in-Err-run_round-clause-plays : goal.returns-in-Err-run_round-clause-plays
-returns-in-Err-run_round-clause-plays g c = λ scene stage rests.
-    let same = under_way g.P.Policy.stands _ scene.waiting c.args.request.client stage.pending_are in
-    let free : is_under_way c.args.request.client scene.waiting ≡ false = cc in (
+pub returns-in-Ok-lead-clause-plays : goal.returns-in-Ok-lead-clause-plays
+returns-in-Ok-lead-clause-plays g c = λ scene stage rests.
+    let same = under_way g.P.Policy.wants g.P.Policy.stands c.args.play.now.waiting.items c.args.play.now.parked.items scene c.args.request.client stage.waiting_are stage.parked_are in
+    let free : is_under_way c.args.request.client scene ≡ false = cc in
+    let next = with_running scene (begun c.args.request) in
+    request_heard g.P.Policy.wants _ scene c.args.request _ _ _ rests free
+    (c.in-Ok-lead.ensures.went next (stage_like g.P.Policy.wants _ g.P.Policy.stands (stage_of g.C.CacheCore.history c.args.play.now) scene next stage refl refl refl refl)
+    (record { round = begun c.args.request; turn = refl; leads = record { client_is = refl; stands_at = c.in-Ok.ensures.0; wanted = c.in-Ok.ensures.1 } }))
+
+pub returns-in-Err-lead-clause-plays : goal.returns-in-Err-lead-clause-plays
+returns-in-Err-lead-clause-plays g c = λ scene stage rests.
+    let same = under_way g.P.Policy.wants g.P.Policy.stands c.args.play.now.waiting.items c.args.play.now.parked.items scene c.args.request.client stage.waiting_are stage.parked_are in
+    let free : is_under_way c.args.request.client scene ≡ false = cc in
+    let next = with_running scene (begun c.args.request) in (
       events.Request c.args.request ∷ [],
       [],
       refl,
-      request_heard _ scene c.args.request _ _ _ rests free
-          (c.in-Err-run_round.ensures.went (with_running scene (begun c.args.request)) (record { moment_is = stage.moment_is; pending_are = stage.pending_are })
-          (record { round = begun c.args.request; runs = record { turn = refl; wanted = c.in-Ok.ensures.1 }; client_is = refl; stands_at = c.in-Ok.ensures.0 })),
+      request_heard g.P.Policy.wants _ scene c.args.request _ _ _ rests free
+          (c.in-Err-lead.ensures.went next (stage_like g.P.Policy.wants _ g.P.Policy.stands (stage_of g.C.CacheCore.history c.args.play.now) scene next stage refl refl refl refl)
+          (record { round = begun c.args.request; turn = refl; leads = record { client_is = refl; stands_at = c.in-Ok.ensures.0; wanted = c.in-Ok.ensures.1 } })),
     )

@@ -6,8 +6,8 @@ returns-in-None c = headless_request c.args.text.now (rw c.in-None.is at c.in_ok
 
 pub returns-in-Some-2 : goal.returns-in-Some-2
 returns-in-Some-2 c =
-    whole_request c.args.text.now _ c.in-Some-2.field-0 c.in-Some.found.0 c.in-Some.found.1 (rw c.in-Some.is at c.in_ok-found.ensures) (rest_behind c.args.text.now c.in-Some.found.1) (rw c.in-Some-2.is at c.in_ok-read_framed_body.ensures)
+    whole_request c.args.text.now _ c.in-Some-2.body c.in-Some.found.0 c.in-Some.found.1 (rw c.in-Some.is at c.in_ok-found.ensures) (rest_behind c.args.text.now c.in-Some.found.1) (rw c.in-Some-2.is at c.in_ok-body.ensures)
 
 pub returns-in-None-2 : goal.returns-in-None-2
 returns-in-None-2 c =
-    bodiless_request c.args.text.now _ c.in-Some.found.0 c.in-Some.found.1 (rw c.in-Some.is at c.in_ok-found.ensures) (rest_behind c.args.text.now c.in-Some.found.1) (rw c.in-None-2.is at c.in_ok-read_framed_body.ensures)
+    bodiless_request c.args.text.now _ c.in-Some.found.0 c.in-Some.found.1 (rw c.in-Some.is at c.in_ok-found.ensures) (rest_behind c.args.text.now c.in-Some.found.1) (rw c.in-None-2.is at c.in_ok-body.ensures)
