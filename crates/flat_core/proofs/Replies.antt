@@ -103,35 +103,62 @@ closes old now token object law reply objects fetches answer is_ lawful same clo
     (ap (λ (f : List OpenFetch). record old { moment = now; objects = those_in_time now objects; fetches = f }) closed
     ∙ ap (λ (o : List Held). record old { moment = now; objects = o; fetches = without_fetch token old.fetches }) (same ∙ sym (once now old.objects))) told kept
 
--- those in time of what was thinned out are those in time of all
-thinned : (now : ℕ) (views kept : List ObjectView) → kept ≡ filter (λ (view : ObjectView). in_time now view.object) views → those_in_time now (held_all kept) ≡ those_in_time now (held_all views)
-thinned now views kept e = ap (λ (v : List ObjectView). those_in_time now (held_all v)) e ∙ ap (those_in_time now) (held_all-filter now views) ∙ once now (held_all views)
+-- An insertion of an open fetch: what was kept before it, the objects in memory, and those left of them once what isn't
+-- in time is gone; the fetch is closed.
+pub record Insertion : Type 0 where
+  pub room : ℕ
+  pub old : State
+  pub views : List ObjectView
+  pub left : List ObjectView
+  pub now : ℕ
+  pub caller : ℕ
+  pub token : ℕ
+  pub object : Object
+  pub fetches : List OpenFetch
+  pub kept : old.objects ≡ held_all views
+  pub opened : has_fetch old.fetches caller token ≡ true
+  pub thinned : left ≡ filter (λ (view : ObjectView). in_time now view.object) views
+  pub closed : fetches ≡ without_fetch token old.fetches
 
-sizes_left : (old : State) (views left : List ObjectView) (now : ℕ) → old.objects ≡ held_all views → left ≡ filter (λ (view : ObjectView). in_time now view.object) views → sizes_of (held_all left) ≡ sizes_of (those_in_time now old.objects)
-sizes_left old views left now kept_ thinned_ = ap sizes_of (ap held_all thinned_ ∙ held_all-filter now views ∙ ap (those_in_time now) (sym kept_))
+abbrev pub law_of : Insertion → Step
+law_of i = inserted i.room (at_moment i.now i.old) i.caller i.token i.object
+
+-- what is kept with these objects
+abbrev pub keeping : Insertion → List ObjectView → State
+keeping i views = record i.old { moment = i.now; objects = held_all views; fetches = i.fetches }
+
+-- the answer, with what is kept behind it
+abbrev pub Gives : Insertion → List ObjectView → Answer → Type 0
+Gives i views answer = Answers i.old (keeping i views) i.now (Insert i.token i.object) (law_of i) answer
+
+-- what is left are those in time
+left_in_time : (i : Insertion) → held_all i.left ≡ those_in_time i.now i.old.objects
+left_in_time i = ap held_all i.thinned ∙ held_all-filter i.now i.views ∙ ap (those_in_time i.now) (sym i.kept)
+
+sizes_left : (i : Insertion) → sizes_of (held_all i.left) ≡ sizes_of (those_in_time i.now i.old.objects)
+sizes_left i = ap sizes_of (left_in_time i)
+
+same_left : (i : Insertion) → those_in_time i.now (held_all i.left) ≡ those_in_time i.now i.old.objects
+same_left i = ap (those_in_time i.now) (left_in_time i) ∙ once i.now i.old.objects
 
 pub too_late : (room : ℕ) (old : State) (now caller token : ℕ) (object : Object) (fetches : List OpenFetch) (answer : Answer) → has_fetch old.fetches caller token ≡ true → in_time now object ≡ false → fetches ≡ without_fetch token old.fetches → answer.told ≡ NotInTime → answer.kept ≡ NotInTime → Answers old (record old { moment = now; fetches = fetches }) now (Insert token object) (inserted room (at_moment now old) caller token object) answer
 too_late room old now caller token object fetches answer opened late closed told kept =
     closes old now token object _ NotInTime old.objects fetches answer (by_fetch room old now caller token object _ opened (cond-false _ _ _ late)) refl refl closed told kept
 
-pub no_room : (room : ℕ) (old : State) (views left : List ObjectView) (now caller token : ℕ) (object : Object) (fetches : List OpenFetch) (answer : Answer) → old.objects ≡ held_all views → has_fetch old.fetches caller token ≡ true → in_time now object ≡ true → left ≡ filter (λ (view : ObjectView). in_time now view.object) views → room < sizes_of (held_all left) + size_of object → fetches ≡ without_fetch token old.fetches → answer.told ≡ NoRoom → answer.kept ≡ NoRoom → Answers old (record old { moment = now; objects = held_all left; fetches = fetches }) now (Insert token object) (inserted room (at_moment now old) caller token object) answer
-no_room room old views left now caller token object fetches answer kept_ opened lives thinned_ full closed told kept =
-    let sizes = sizes_left old views left now kept_ thinned_ in
-    let full_ : nat_lt room (sizes_of (those_in_time now old.objects) + size_of object) ≡ true = lt-ltb _ _ (omega (arith, full, sizes)) in
-    closes old now token object _ NoRoom (held_all left) fetches answer
-    (by_fetch room old now caller token object _ opened (cond-true _ _ _ lives ∙ cond-true _ _ _ full_)) refl
-    (thinned now views left thinned_ ∙ ap (those_in_time now) (sym kept_)) closed told kept
+pub no_room : (i : Insertion) (answer : Answer) → in_time i.now i.object ≡ true → i.room < sizes_of (held_all i.left) + size_of i.object → answer.told ≡ NoRoom → answer.kept ≡ NoRoom → Gives i i.left answer
+no_room i answer lives full told kept =
+    let full_ : nat_lt i.room (sizes_of (those_in_time i.now i.old.objects) + size_of i.object) ≡ true = lt-ltb _ _ (omega (arith, full, sizes_left i)) in
+    closes i.old i.now i.token i.object _ NoRoom (held_all i.left) i.fetches answer
+    (by_fetch i.room i.old i.now i.caller i.token i.object _ i.opened (cond-true _ _ _ lives ∙ cond-true _ _ _ full_)) refl (same_left i) i.closed told kept
 
-pub stores : (room : ℕ) (old : State) (views left later : List ObjectView) (now caller token : ℕ) (object : Object) (fetches : List OpenFetch) (answer : Answer) → old.objects ≡ held_all views → has_fetch old.fetches caller token ≡ true → in_time now object ≡ true → left ≡ filter (λ (view : ObjectView). in_time now view.object) views → sizes_of (held_all left) + size_of object ≤ room → later ≡ record { number = token; hits = 0; object = object } ∷ left → fetches ≡ without_fetch token old.fetches → answer.told ≡ Stored token → answer.kept ≡ Stored token → Answers old (record old { moment = now; objects = held_all later; fetches = fetches }) now (Insert token object) (inserted room (at_moment now old) caller token object) answer
-stores room old views left later now caller token object fetches answer kept_ opened lives thinned_ fits first closed told kept =
-    let sizes = sizes_left old views left now kept_ thinned_ in
-    let fits_ : nat_lt room (sizes_of (those_in_time now old.objects) + size_of object) ≡ false = le-ltb _ _ (omega (arith, fits, sizes)) in
-    let left_ : held_all left ≡ those_in_time now old.objects = ap held_all thinned_ ∙ held_all-filter now views ∙ ap (those_in_time now) (sym kept_) in
-    by_law old _ now (Insert token object) _ (Stored token) _ answer
-    (by_fetch room old now caller token object _ opened (cond-true _ _ _ lives ∙ cond-false _ _ _ fits_)) refl refl
-    (ap (λ (v : List ObjectView). record old { moment = now; objects = those_in_time now (held_all v); fetches = fetches }) first
-    ∙ ap (λ (o : List Held). record old { moment = now; objects = those_in_time now (stored_over token object o); fetches = fetches }) left_
-    ∙ ap (λ (f : List OpenFetch). record old { moment = now; objects = those_in_time now (stored_over token object (those_in_time now old.objects)); fetches = f }) closed) told kept
+pub stores : (i : Insertion) (later : List ObjectView) (answer : Answer) → in_time i.now i.object ≡ true → sizes_of (held_all i.left) + size_of i.object ≤ i.room → later ≡ record { number = i.token; hits = 0; object = i.object } ∷ i.left → answer.told ≡ Stored i.token → answer.kept ≡ Stored i.token → Gives i later answer
+stores i later answer lives fits first told kept =
+    let fits_ : nat_lt i.room (sizes_of (those_in_time i.now i.old.objects) + size_of i.object) ≡ false = le-ltb _ _ (omega (arith, fits, sizes_left i)) in
+    by_law i.old (keeping i later) i.now (Insert i.token i.object) (law_of i) (Stored i.token) _ answer
+    (by_fetch i.room i.old i.now i.caller i.token i.object _ i.opened (cond-true _ _ _ lives ∙ cond-false _ _ _ fits_)) refl refl
+    (ap (λ (v : List ObjectView). record i.old { moment = i.now; objects = those_in_time i.now (held_all v); fetches = i.fetches }) first
+    ∙ ap (λ (o : List Held). record i.old { moment = i.now; objects = those_in_time i.now (stored_over i.token i.object o); fetches = i.fetches }) (left_in_time i)
+    ∙ ap (λ (f : List OpenFetch). record i.old { moment = i.now; objects = those_in_time i.now (stored_over i.token i.object (those_in_time i.now i.old.objects)); fetches = f }) i.closed) told kept
 
 -- an insertion of an open fetch isn't answered that it isn't open
 placed_reply : (state : State) (token : ℕ) (object : Object) (lives full : Bool) → (cond lives (cond full (closing token state NoRoom) (stored state token object)) (closing token state NotInTime)).reply ≢ NotOpen
@@ -140,15 +167,15 @@ placed_reply state token object true false = λ e. cc
 placed_reply state token object true true = λ e. cc
 
 -- memory was wanting: the fetch is closed and nothing is stored
-pub refuses : (room : ℕ) (old : State) (views left : List ObjectView) (now caller token : ℕ) (object : Object) (fetches : List OpenFetch) (answer : Answer) → old.objects ≡ held_all views → has_fetch old.fetches caller token ≡ true → left ≡ filter (λ (view : ObjectView). in_time now view.object) views → fetches ≡ without_fetch token old.fetches → answer.told ≡ Refused → answer.kept ≡ Refused → Answers old (record old { moment = now; objects = held_all left; fetches = fetches }) now (Insert token object) (inserted room (at_moment now old) caller token object) answer
-refuses room old views left now caller token object fetches answer kept_ opened thinned_ closed told kept =
+pub refuses : (i : Insertion) (answer : Answer) → answer.told ≡ Refused → answer.kept ≡ Refused → Gives i i.left answer
+refuses i answer told kept =
     record {
       twice = kept ∙ sym told;
-      allows = inr (told, subst (λ (s : Step). s.reply ≢ NotOpen) (sym (cond-true _ _ _ opened)) (placed_reply (at_moment now old) token object (in_time now object) (nat_lt room (sizes_of (those_in_time now old.objects) + size_of object))));
+      allows = inr (told, subst (λ (s : Step). s.reply ≢ NotOpen) (sym (cond-true _ _ _ i.opened)) (placed_reply (at_moment i.now i.old) i.token i.object (in_time i.now i.object) (nat_lt i.room (sizes_of (those_in_time i.now i.old.objects) + size_of i.object))));
       moment = refl;
-      leaves = ap (λ (o : List Held). record old { moment = now; objects = o; fetches = fetches }) (thinned now views left thinned_ ∙ ap (those_in_time now) (sym kept_) ∙ sym (once now old.objects))
-          ∙ ap (λ (f : List OpenFetch). record old { moment = now; objects = those_in_time now (those_in_time now old.objects); fetches = f }) closed
-          ∙ ap (λ (r : Reply). at_moment now (behind r (refused (at_moment now old) (Insert token object)) (inserted room (at_moment now old) caller token object).state)) (sym told);
+      leaves = ap (λ (o : List Held). record i.old { moment = i.now; objects = o; fetches = i.fetches }) (same_left i ∙ sym (once i.now i.old.objects))
+          ∙ ap (λ (f : List OpenFetch). record i.old { moment = i.now; objects = those_in_time i.now (those_in_time i.now i.old.objects); fetches = f }) i.closed
+          ∙ ap (λ (r : Reply). at_moment i.now (behind r (refused (at_moment i.now i.old) (Insert i.token i.object)) (law_of i).state)) (sym told);
     }
 
 -- the round and its fetches are closed

@@ -1,8 +1,23 @@
 // The answer to a call, once for the caller and once for the history.
+ghost use Rattle.std.specs.Prelude.{◌≡◌, IfOk};
+
 use cache_law::Reply;
+use std::alloc::{AllocError, Global};
+use units::Copied;
 
 #[derive(Drop)]
 pub(crate) struct Answer {
     pub told: Reply,
     pub kept: Reply,
+}
+
+impl Answer {
+    /// The reply, and its copy for the history.
+    pub fn twice(alloc: Global, told: Reply) -> Result<Answer, AllocError>
+        ensures told { IfOk result (λ answer. answer.told ≡ told) }
+        ensures kept { IfOk result (λ answer. answer.kept ≡ told) }
+    {
+        let kept = told.copied(alloc)?;
+        Ok(Answer { told, kept })
+    }
 }

@@ -180,15 +180,15 @@ impl Store {
         ensures kept { is_kept self.old caller call.now ≡ true → IsOk result }
     {
         match call {
-            Call::Begin => self.begin(caller, moment),
+            Call::Begin => self.begin(alloc, caller, moment),
             Call::Lookup(query) => self.lookup(alloc, caller, moment, query, place),
-            Call::Pick { target, .. } => self.pick(moment, target),
+            Call::Pick { target, .. } => self.pick(alloc, moment, target),
             Call::Insert { token, object } => Ok(self.insert(room, caller, moment, *token, object)),
             Call::End => Ok(self.end(caller, moment)),
         }
     }
 
-    fn begin(&mut self, caller: u32, moment: u64) -> Result<Answer, AllocError>
+    fn begin(&mut self, alloc: Global, caller: u32, moment: u64) -> Result<Answer, AllocError>
         requires { self.old.next + 1 < 2 ^ 64 }
         ensures ok { IfOk result (Answers self.old self.new moment BeginCall (begun (at_moment moment self.old) caller)) }
         ensures err { OnErr result (self.new ≡ self.old) }
@@ -200,8 +200,7 @@ impl Store {
                 kept: Reply::NoRound,
             });
         }
-        let told = began(self.next, &self.active)?;
-        let kept = began(self.next, &self.active)?;
+        let answer = Answer::twice(alloc, began(self.next, &self.active)?)?;
         let round = OpenRound {
             caller,
             vcl: self.active.number,
@@ -209,7 +208,7 @@ impl Store {
         self.rounds.push_front(round)?;
         self.next += 1;
         self.moment = moment;
-        Ok(Answer { told, kept })
+        Ok(answer)
     }
 
     fn lookup(
@@ -234,7 +233,7 @@ impl Store {
         }
         match place {
             Some(place) => {
-                let answer = hit_at(&mut self.objects, place)?;
+                let answer = hit_at(alloc, &mut self.objects, place)?;
                 self.moment = moment;
                 Ok(answer)
             }
@@ -253,17 +252,13 @@ impl Store {
     }
 
     /// So far a target is the name of one backend.
-    fn pick(&mut self, moment: u64, target: &Text) -> Result<Answer, AllocError>
+    fn pick(&mut self, alloc: Global, moment: u64, target: &Text) -> Result<Answer, AllocError>
         ensures ok { (vcl word : ℕ) → IfOk result (Answers self.old self.new moment (PickCall vcl target.now word) (leaving (at_moment moment self.old) (Picked (Some target.now)))) }
         ensures err { OnErr result (self.new ≡ self.old) }
     {
-        let told = target.copy()?;
-        let kept = target.copy()?;
+        let answer = Answer::twice(alloc, Reply::Picked(Some(target.copy()?)))?;
         self.moment = moment;
-        Ok(Answer {
-            told: Reply::Picked(Some(told)),
-            kept: Reply::Picked(Some(kept)),
-        })
+        Ok(answer)
     }
 
     /// Where memory is wanting, the insertion is refused.
@@ -340,21 +335,21 @@ fn began(number: u64, vcl: &Vcl) -> Result<Reply, AllocError>
 }
 
 /// Counts a hit of the object at this place, and answers with it.
-fn hit_at(objects: &mut VecDeque<ObjectView>, place: usize) -> Result<Answer, AllocError>
+fn hit_at(
+    alloc: Global,
+    objects: &mut VecDeque<ObjectView>,
+    place: usize,
+) -> Result<Answer, AllocError>
     requires { place < length objects.old.items }
     ensures told { IfOk result (λ answer. (d : Stood) → answer.told ≡ Hit (raised (slice_index_or objects.old.items place d))) }
     ensures twice { IfOk result (λ answer. answer.kept ≡ answer.told) }
     ensures counted { OnOk result ((d : Stood) → objects.new.items ≡ slice_set objects.old.items place (raised (slice_index_or objects.old.items place d))) }
     ensures err { OnErr result (objects.new.items ≡ objects.old.items) }
 {
-    let told = raised(&objects[place])?;
-    let kept = raised(&objects[place])?;
+    let answer = Answer::twice(alloc, Reply::Hit(raised(&objects[place])?))?;
     let view = &mut objects[place];
     view.hits = view.hits.saturating_add(1);
-    Ok(Answer {
-        told: Reply::Hit(told),
-        kept: Reply::Hit(kept),
-    })
+    Ok(answer)
 }
 
 /// The view with one more hit, of the same object.

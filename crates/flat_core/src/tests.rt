@@ -1,10 +1,11 @@
 use super::*;
 use cache_law::{
-    Boot, CacheCore, Call, Object, Params, Query, Reply, RequestView, Shared, StepError, Timing,
-    Told,
+    Boot, CacheCore, Call, Entry, Object, Params, Query, Reply, RequestView, Shared, StepError,
+    Timing, Told,
 };
 use http_heads::Fields;
 use std::alloc::{AllocError, Global};
+use std::mem::size_of;
 use std::test::Fail;
 use units::{Sequence, Text};
 
@@ -251,5 +252,12 @@ fn limits(rt: HostRuntime) -> Result<(), Fail> {
         let answer = core.step(alloc, 7, reading, call_of(alloc, last)?);
         assert_eq!(rt; outcome(&answer), wanted, "{room} {history} {reading}");
     }
+    Ok(())
+}
+
+// A reply and a call stand in 32 and 24 bytes, with the rest behind pointers.
+#[test]
+fn entries(rt: HostRuntime) -> Result<(), Fail> {
+    assert_eq!(rt; size_of::<Entry>(), 72);
     Ok(())
 }

@@ -1,6 +1,7 @@
 use Rattle.std.proofs.Common.{rules, refl, arith, ◌≡◌, ◌^◌, ◌-◌, min}
 use Rattle.cache_law.specs.Object.{size_of}
-use Rattle.flat_core.proofs.Replies.{inserts_not, too_late, no_room, refuses, stores}
+use Rattle.flat_core.specs.contracts.store.Store.{the_view}
+use Rattle.flat_core.proofs.Replies.{Insertion, inserts_not, too_late, no_room, refuses, stores}
 use Rattle.flat_core.proofs.store.Store.insert.Goals as goal
 
 pub returns-then-not-has_fetch : goal.returns-then-not-has_fetch
@@ -12,14 +13,60 @@ returns-then-not-is_in_time c =
 
 pub returns-then-saturating_add-from : goal.returns-then-saturating_add-from
 returns-then-saturating_add-from c =
+    let made : Insertion = record {
+      room = c.args.room;
+      old = the_view c.self.inside;
+      views = c.self.inside.objects.items;
+      left = c.keep_in_time.new.objects.items;
+      now = c.args.moment;
+      caller = c.args.caller;
+      token = c.args.token;
+      object = c.args.object.now;
+      fetches = c.close_fetch.new.fetches.items;
+      kept = refl;
+      opened = search rules;
+      thinned = search rules;
+      closed = search rules;
+    } in
     let size : c.object_size.result ≡ min (size_of c.args.object.now) (2 ^ 128 - 1) = rw c.deref-2.ensures at c.object_size.ensures in
-    rw (← c.self.view_is) (no_room _ _ c.self.inside.objects.items _ _ _ _ _ _ _ refl (search rules) (search rules) (search rules) (omega (arith, size, c.sizes_of.ensures)) (search rules) refl refl)
+    rw (← c.self.view_is) (no_room made _ (search rules) (omega (arith, size, c.sizes_of.ensures)) refl refl)
 
 pub returns-then-is_err : goal.returns-then-is_err
 returns-then-is_err c =
-    rw (← c.self.view_is) (refuses _ _ c.self.inside.objects.items _ _ _ _ _ _ _ refl (search rules) (search rules) (search rules) refl refl)
+    let made : Insertion = record {
+      room = c.args.room;
+      old = the_view c.self.inside;
+      views = c.self.inside.objects.items;
+      left = c.keep_in_time.new.objects.items;
+      now = c.args.moment;
+      caller = c.args.caller;
+      token = c.args.token;
+      object = c.args.object.now;
+      fetches = c.close_fetch.new.fetches.items;
+      kept = refl;
+      opened = search rules;
+      thinned = search rules;
+      closed = search rules;
+    } in
+    let same : c.put_first.new.objects.items ≡ c.keep_in_time.new.objects.items = search rules in
+    rw (← c.self.view_is, same) (refuses made _ refl refl)
 
 pub returns : goal.returns
 returns c =
+    let made : Insertion = record {
+      room = c.args.room;
+      old = the_view c.self.inside;
+      views = c.self.inside.objects.items;
+      left = c.keep_in_time.new.objects.items;
+      now = c.args.moment;
+      caller = c.args.caller;
+      token = c.args.token;
+      object = c.args.object.now;
+      fetches = c.close_fetch.new.fetches.items;
+      kept = refl;
+      opened = search rules;
+      thinned = search rules;
+      closed = search rules;
+    } in
     let size : c.object_size.result ≡ min (size_of c.args.object.now) (2 ^ 128 - 1) = rw c.deref-2.ensures at c.object_size.ensures in
-    rw (← c.self.view_is) (stores _ _ c.self.inside.objects.items c.keep_in_time.new.objects.items _ _ _ _ _ _ _ refl (search rules) (search rules) (search rules) (omega (arith, size, c.sizes_of.ensures)) (search rules) (search rules) refl refl)
+    rw (← c.self.view_is) (stores made c.put_first.new.objects.items _ (search rules) (omega (arith, size, c.sizes_of.ensures)) (search rules) refl refl)
