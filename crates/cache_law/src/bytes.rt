@@ -1,7 +1,7 @@
 // What an object takes of the room, and an entry of the history.
-ghost use Rattle.std.specs.Prelude.{◌≡◌, ◌+◌, ◌-◌, ◌^◌, min, sum_by, length};
+ghost use Rattle.std.specs.Prelude.{◌≡◌, ◌+◌, ◌-◌, ◌^◌, min};
 ghost use Rattle.cache_law.specs.Object.{size_of, texts_len, fields_len};
-ghost use Rattle.cache_law.specs.History.{bytes_of, call_len};
+ghost use Rattle.cache_law.specs.History.{bytes_of};
 
 use crate::{Call, Object};
 use http_heads::Field;

@@ -1,5 +1,5 @@
 // What the plain cache holds, and how each call changes it.
-ghost use Rattle.std.specs.Prelude.{◌≡◌, ℕ, ◌+◌, ◌*◌, ◌<◌, ◌^◌, true, length, if◌then◌else◌, Some, IfOk, OnOk, OnErr, IsOk, IsTrue, ◌≤◌, ◌↔◌, slice_index_or, slice_set};
+ghost use Rattle.std.specs.Prelude.{◌≡◌, ℕ, ◌+◌, ◌*◌, ◌<◌, ◌^◌, true, length, if◌then◌else◌, Some, IfOk, OnOk, OnErr, IsOk, ◌≤◌, slice_index_or, slice_set};
 ghost use Rattle.cache_law.specs.declared.object.ObjectView.{ObjectView as Stood};
 ghost use Rattle.cache_law.specs.declared.call.Call.TheVariants.{Begin as BeginCall, Lookup as LookupCall, Pick as PickCall, Insert as InsertCall, End as EndCall};
 ghost use Rattle.cache_law.specs.declared.call.Reply.TheVariants.{Began, Hit, Picked};
