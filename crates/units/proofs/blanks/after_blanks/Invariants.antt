@@ -7,7 +7,7 @@ use Rattle.units.proofs.blanks.after_blanks.Given as goal
 abbrev pub invariant-loop-start : goal.invariant-loop-start
 invariant-loop-start l = record {
   within : l.start ≤ length l.text;
-  blanks : l.start + prefix_len is_blank (drop l.start l.text) ≡ prefix_len is_blank l.text
+  blanks : l.start + prefix_len is_blank (drop l.start l.text) ≡ prefix_len is_blank l.text;
 }
 
 abbrev pub decreases-loop-start : goal.decreases-loop-start
