@@ -1,0 +1,32 @@
+#!/usr/bin/env bash
+# Turns of one lock per second by 1, 2, 4, 8 and 16 threads, the best of five runs each, as a ratio to one thread: bare
+# turns, in which a number is written down and nothing more, and turns with some microseconds of work in each. The time
+# that a run of no turns takes is taken off. Run it at the top of the repository. The program is built and proved first
+# where it isn't there yet.
+. "$(dirname "$0")/prepare.sh"
+prepare turns
+python3 - "$program" <<'PY'
+import os, subprocess, sys, time
+program = sys.argv[1]
+THREADS = (1, 2, 4, 8, 16)
+
+def best(threads, turns, work):
+    """The shortest time in which so many threads took so many turns in all."""
+    least = None
+    for _ in range(5):
+        began = time.perf_counter()
+        done = subprocess.run([program, str(threads), str(turns // threads), str(work)], stdout=subprocess.PIPE, check=True)
+        passed = time.perf_counter() - began
+        assert done.stdout == b'%d\n' % (turns // threads * threads), done.stdout
+        least = passed if least is None else min(least, passed)
+    return least
+
+print('%d processors' % os.cpu_count())
+for work, turns in ((0, 1 << 20), (100, 1 << 16)):
+    alone = None
+    for threads in THREADS:
+        rate = turns / (best(threads, turns, work) - best(threads, 0, work))
+        alone = rate if alone is None else alone
+        kind = 'bare turns' if work == 0 else 'turns with work (%d)' % work
+        print('%-22s %2d threads   %10.0f turns/s   %5.2f times one thread' % (kind, threads, rate, rate / alone))
+PY
