@@ -22,7 +22,7 @@ pub use folding::fold_eq;
 pub use numbers::{one_number, push_number, read_number, value_of_digits, write_number};
 pub use quotes::{end_of_quoted, one_quoted, quote, quote_reads_back, quoted, read_escape};
 pub use sequence::Sequence;
-pub use text::{Text, same_text};
+pub use text::Text;
 
 #[cfg(test)]
 mod tests;

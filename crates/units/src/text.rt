@@ -1,8 +1,7 @@
 // Bytes that don't change once they are made.
-ghost use Rattle.std.specs.Prelude.{◌≡◌, ◌↔◌, nat_eq, refl, IsTrue, IfOk, Some};
+ghost use Rattle.std.specs.Prelude.{◌≡◌, nat_eq, refl, IfOk, Some};
 ghost use Rattle.std.specs.Ordering.{nat_cmp};
 ghost use Rattle.std.specs.Hash as fed;
-ghost use Rattle.std.specs.Str.{bytes_eq};
 ghost use Rattle.std.specs.Cmp.Lexicographic.{pointwise, slice_cmp, nat_list_eq_equiv, nat_list_cmp_total, texts_ties, texts_po};
 ghost use Rattle.std.specs.Cmp.{partial_equiv_from_equiv};
 ghost use Rattle.std.specs.Cmp.Rules.{hashing};
@@ -132,12 +131,4 @@ fn write_byte<W: fmt::Write>(byte: u8, f: &mut fmt::Formatter<W>) -> fmt::Result
         0x20..=0x7e => write!(f, "{}", byte as char),
         _ => write!(f, "\\x{:02x}", byte),
     }
-}
-
-/// Whether two texts have the same bytes.
-pub fn same_text(a: &Text, b: &Text) -> bool
-    ensures same { IsTrue result ↔ (a.now ≡ b.now) }
-    ensures value { result ≡ bytes_eq a.now b.now }
-{
-    a == b
 }
