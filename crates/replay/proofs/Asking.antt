@@ -1,11 +1,11 @@
 -- What the answer to a call does to a scene.
-use Rattle.std.proofs.Common.{◌≡◌, ◌⊎◌, inr, ℕ, true, List, [], ◌∷◌, ◌++◌, ◌+◌, ◌≤◌, Some, refl, sym, ◌∙◌, ap, subst, arith}
+use Rattle.std.proofs.Common.{◌≡◌, inr, ℕ, true, List, [], ◌∷◌, ◌+◌, ◌≤◌, Some, refl, sym, ◌∙◌, ap, subst, arith}
 use Rattle.cache_law.specs.declared.call.Call.{Call}
 use Rattle.cache_law.specs.declared.call.Entry.{Entry}
 use Rattle.cache_law.specs.declared.cache.Told.{Told as Answer}
 use Rattle.cache_law.specs.Beginning.{Beginning}
 use Rattle.cache_law.specs.Core.{Entered, FitsBehind, entry_of, moment_of}
-use Rattle.cache_law.specs.History.{Legal, reached, next_state, bytes_of, bytes_of_all}
+use Rattle.cache_law.specs.History.{reached, next_state, bytes_of, bytes_of_all}
 use Rattle.cache_law.specs.State.{State, at_moment}
 use Rattle.cache_law.proofs.Histories.{reached-push, bytes_of_all-push}
 use Rattle.replay.specs.declared.policy.Request.{Request}
@@ -16,7 +16,7 @@ use Rattle.replay.specs.declared.policy.Want.TheVariants.{Ask}
 use Rattle.replay.specs.Policy.{IsDue, answers}
 use Rattle.replay.specs.Scene.{Scene, Round, calls, gave}
 use Rattle.replay.specs.Endings.{WantsTooMuch}
-use Rattle.replay.specs.Went.{Went, Leads, CanLead, HasTurn, IsAt, IsInStep, KeepsCore, KeepsRounds, Met, spare}
+use Rattle.replay.specs.Went.{Went, Leads, CanLead, HasTurn, IsAt, IsInStep, Met, spare}
 use Rattle.replay.proofs.Replies.{lawful_reply, entered_moment}
 use Rattle.replay.proofs.Runs.{went-one}
 

@@ -1,6 +1,6 @@
 -- How a session ends.
 use Rattle.std.proofs.Common.{◌≡◌, ℕ, Bool, true, false, ◌==◌, ◌&&◌, ◌⊎◌, inl, inr, List, [], ◌∷◌, ◌++◌, Option, Some, None, Result, Ok, Err, length, refl, sym, ◌∙◌, ap, subst}
-use Rattle.std.proofs.lemmas.Bool.{eqb-true, eqb-false}
+use Rattle.std.proofs.lemmas.Bool.{eqb-true}
 use Rattle.std.proofs.lemmas.List.{append-nil, nil_from_length, map-append}
 use Rattle.std.specs.Io.KnownBytes.{Appends}
 use Rattle.cache_law.specs.declared.call.Entry.{Entry}
@@ -22,8 +22,8 @@ use Rattle.replay.specs.declared.session.ReplayError.{ReplayError}
 use Rattle.replay.specs.declared.session.ReplayError.TheVariants.{NotBuilt, Idle, Unanswered, WriteFault, HistoryFull, NoMemory}
 use Rattle.replay.specs.Scene.{Scene, opening_scene}
 use Rattle.replay.specs.Pieces.{Pieces, pieces, Takes, LosesEnd}
-use Rattle.replay.specs.Went.{Went, Stage, Change, IsStage, IsPending, IsParked, ComesTo, PlaysAll, events_in}
-use Rattle.replay.specs.Replayed.{EndsSo, IsWritten, refusal_of, CameTo, CutOff, NobodyWaits}
+use Rattle.replay.specs.Went.{Went, Stage, IsStage, IsPending, IsParked, PlaysAll, events_in}
+use Rattle.replay.specs.Replayed.{EndsSo, IsWritten, refusal_of, CameTo, NobodyWaits}
 use Rattle.replay.proofs.Alike.{alike-nil, alike-some}
 use Rattle.replay.proofs.Playing.{changed}
 use Rattle.replay.proofs.Runs.{went-map, went-here}

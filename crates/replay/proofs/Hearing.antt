@@ -1,5 +1,5 @@
 -- What an event that is heard, and a round that wakes, do to a scene.
-use Rattle.std.proofs.Common.{◌≡◌, ℕ, Bool, true, false, List, [], ◌∷◌, ◌++◌, ◌||◌, ◌==◌, Some, None, Ok, Err, Result, refl, sym, ◌∙◌, ap, subst}
+use Rattle.std.proofs.Common.{◌≡◌, ℕ, Bool, false, List, [], ◌∷◌, ◌++◌, ◌||◌, ◌==◌, Some, None, Ok, Err, Result, refl, sym, ◌∙◌, ap, subst}
 use Rattle.std.proofs.lemmas.List.{append-nil}
 use Rattle.std.specs.Prelude.{find, position, remove, get_or}
 use Rattle.std.specs.List.{list_any}
@@ -11,9 +11,8 @@ use Rattle.cache_law.specs.History.{reached}
 use Rattle.cache_law.specs.State.{State, is_closed}
 use Rattle.replay.specs.declared.policy.Request.{Request}
 use Rattle.replay.specs.declared.policy.Given.{Given}
-use Rattle.replay.specs.declared.policy.Given.TheVariants.{Start, Came, Closed}
+use Rattle.replay.specs.declared.policy.Given.TheVariants.{Came, Closed}
 use Rattle.replay.specs.declared.policy.Want.{Want}
-use Rattle.replay.specs.declared.policy.Want.TheVariants.{Ask}
 use Rattle.replay.specs.declared.event.Event.{Event}
 use Rattle.replay.specs.declared.event.Event.TheVariants as events
 use Rattle.replay.specs.declared.rounds.Pending.{Pending}
@@ -21,7 +20,7 @@ use Rattle.replay.specs.declared.rounds.Kept.{Kept}
 use Rattle.replay.specs.declared.rounds.Break.{Break}
 use Rattle.replay.specs.Scene.{Scene, Waiting, Parked, AtRest, hears, wakes, begun, gave, with_running, is_under_way, waits_for, without_first, is_free, without_free}
 use Rattle.replay.specs.Pieces.{Pieces, Takes}
-use Rattle.replay.specs.Went.{Went, Leads, HasTurn, IsPending, IsParked, AllAlike, Stage, Change, IsAt, IsStage, IsSet, Met, Meets, NobodyRuns, ComesTo}
+use Rattle.replay.specs.Went.{Went, Leads, HasTurn, IsPending, IsParked, AllAlike, Stage, Change, IsStage, IsSet, Meets, NobodyRuns, ComesTo}
 use Rattle.replay.proofs.Alike.{alike-any, Found, found, not_found}
 use Rattle.replay.proofs.Asking.{leads_on}
 use Rattle.replay.proofs.Runs.{went-then, went-one, went-map}

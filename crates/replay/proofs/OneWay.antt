@@ -1,7 +1,7 @@
 -- A session has one text, one scene, one history and one ending.
-use Rattle.std.proofs.Common.{◌≡◌, ◌≢◌, ◌⊎◌, inl, inr, ℕ, List, [], ◌∷◌, ◌++◌, Option, Some, None, refl, sym, ◌∙◌, ap, subst, append_assoc}
+use Rattle.std.proofs.Common.{◌≡◌, ◌≢◌, inl, inr, ℕ, List, [], ◌∷◌, ◌++◌, Option, Some, None, refl, sym, ◌∙◌, ap, subst, append_assoc}
 use Rattle.std.proofs.lemmas.List.{append-nil, append_cancel_left, map-append}
-use Rattle.std.specs.List.{flat_map, AllByRecursion}
+use Rattle.std.specs.List.{flat_map}
 use Rattle.std.specs.Io.KnownBytes.{Appends}
 use Rattle.cache_law.specs.declared.call.Call.{Call}
 use Rattle.cache_law.specs.declared.call.Entry.{Entry}
@@ -12,7 +12,7 @@ use Rattle.cache_law.specs.declared.call.Call.TheVariants.{Begin, Lookup, Pick, 
 use Rattle.cache_law.specs.Beginning.{Beginning}
 use Rattle.cache_law.specs.Law.{step_of, MayAnswer}
 use Rattle.cache_law.specs.Core.{FitsBehind}
-use Rattle.cache_law.specs.History.{Legal, LegalFrom, Fits, Follows, next_state, reached, bytes_of_all, bytes_of}
+use Rattle.cache_law.specs.History.{Legal, LegalFrom, next_state, reached, bytes_of_all}
 use Rattle.cache_law.proofs.Histories.{reached-push, bytes_of_all-push}
 use Rattle.replay.specs.declared.policy.Request.{Request}
 use Rattle.replay.specs.declared.policy.Given.{Given}
@@ -25,10 +25,10 @@ use Rattle.replay.specs.declared.event.Script.{Script}
 use Rattle.replay.specs.declared.session.ReplayError.{ReplayError}
 use Rattle.replay.specs.declared.session.ReplayError.TheVariants.{NotBuilt, Idle, Unanswered, WriteFault, HistoryFull, NoMemory}
 use Rattle.replay.specs.Policy.{HasOneWant}
-use Rattle.replay.specs.Scene.{Scene, Round, Move, hears, calls, fetches, sends, parks, wakes, ends, events_of, entries_of, text_of, AtRest, Hears, Next, Run, opening_scene}
+use Rattle.replay.specs.Scene.{Scene, Round, Move, hears, calls, fetches, sends, parks, wakes, ends, events_of, entries_of, text_of, AtRest, Hears, Run, opening_scene}
 use Rattle.replay.specs.Endings.{IsIdle, WantsTooMuch}
 use Rattle.replay.specs.Went.{Went, events_in}
-use Rattle.replay.specs.Replayed.{EndsSo, CameTo, NobodyWaits}
+use Rattle.replay.specs.Replayed.{EndsSo, NobodyWaits}
 use Rattle.replay.specs.Laws.{NoneRefused, OneText, OneHistory, OneEnding, IsOwnEnding}
 use Rattle.replay.proofs.Unique.{IsStuck, one_way, same_round, stuck_at_rest, only_hears}
 

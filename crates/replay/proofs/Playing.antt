@@ -1,7 +1,6 @@
 -- Events, one after another.
 use Rattle.std.proofs.Common.{◌≡◌, ℕ, List, [], ◌∷◌, ◌++◌, ◌+◌, ◌<◌, ◌≤◌, Ok, Err, Result, length, take, drop, get_or, refl, sym, ◌∙◌, ap, subst}
 use Rattle.std.proofs.lemmas.List.{append-nil, append_assoc, map_more, map-append, take-append-drop, take_all, drop_more}
-use Rattle.cache_law.specs.declared.call.Entry.{Entry}
 use Rattle.cache_law.specs.Beginning.{Beginning}
 use Rattle.replay.specs.declared.policy.Request.{Request}
 use Rattle.replay.specs.declared.policy.Given.{Given}

@@ -1,5 +1,5 @@
 -- A reply that the law allows is one of the call's, and an entry's moment is the state's behind it.
-use Rattle.std.proofs.Common.{◌≡◌, ◌≢◌, ◌⊎◌, ◌+◌, nat_lt, inl, inr, ℕ, Bool, true, false, cond, Option, Some, None, List, refl, sym, ◌∙◌, ap}
+use Rattle.std.proofs.Common.{◌≡◌, ◌+◌, nat_lt, inl, inr, ℕ, Bool, true, false, cond, Option, Some, None, List, refl, ◌∙◌, ap}
 use Rattle.cache_law.specs.declared.object.ObjectView.{ObjectView}
 use Rattle.cache_law.specs.declared.call.Call.{Call}
 use Rattle.cache_law.specs.declared.call.Call.TheVariants.{Begin, Lookup, Pick, Insert, End}

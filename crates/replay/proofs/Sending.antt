@@ -1,5 +1,5 @@
 -- What a line that is taken does to a scene.
-use Rattle.std.proofs.Common.{◌≡◌, ℕ, List, [], ◌∷◌, ◌++◌, None, Some, refl, sym, ◌∙◌, ap, subst}
+use Rattle.std.proofs.Common.{ℕ, List, [], ◌∷◌, ◌++◌, None, refl, sym}
 use Rattle.std.proofs.lemmas.List.{append-nil}
 use Rattle.cache_law.specs.declared.call.Entry.{Entry}
 use Rattle.cache_law.specs.Beginning.{Beginning}

@@ -1,8 +1,7 @@
 -- Texts that are taken, one behind another, and texts that lose their end.
-use Rattle.std.proofs.Common.{◌≡◌, ℕ, List, [], ◌∷◌, ◌++◌, ◌<◌, ◌≤◌, Option, Some, None, Result, Ok, Err, length, take, drop, refl, sym, ◌∙◌, ap, subst, append_assoc, arith}
+use Rattle.std.proofs.Common.{◌≡◌, ℕ, List, [], ◌++◌, Option, Some, None, Result, Ok, Err, length, take, drop, refl, sym, ◌∙◌, ap, subst, append_assoc, arith}
 use Rattle.std.proofs.lemmas.List.{append-nil, take-append-drop, length-drop}
 use Rattle.std.specs.Io.KnownBytes.{Appends}
-use Rattle.wire.specs.Causes.{Rose}
 use Rattle.wire.specs.Content.{AppendsPart}
 use Rattle.replay.specs.declared.rounds.Break.{Break}
 use Rattle.replay.specs.declared.rounds.Break.TheVariants.{WriteFault, HistoryFull, NoMemory}

@@ -1,5 +1,5 @@
 -- How a round goes on from what it wants, and how it breaks off.
-use Rattle.std.proofs.Common.{◌≡◌, ℕ, List, [], ◌∷◌, ◌++◌, None, Some, Result, Ok, Err, refl, sym, ◌∙◌, ap, subst, arith, ◌≤◌}
+use Rattle.std.proofs.Common.{◌≡◌, ℕ, List, [], ◌∷◌, ◌++◌, Result, Ok, Err, refl, sym, ◌∙◌, subst, arith}
 use Rattle.std.proofs.lemmas.List.{append-nil}
 use Rattle.std.specs.Prelude.{OnOk, IfErr}
 use Rattle.cache_law.specs.declared.call.Entry.{Entry}
@@ -7,18 +7,18 @@ use Rattle.cache_law.specs.Beginning.{Beginning}
 use Rattle.replay.specs.declared.policy.Request.{Request}
 use Rattle.replay.specs.declared.policy.Given.{Given}
 use Rattle.replay.specs.declared.policy.Want.{Want}
-use Rattle.replay.specs.declared.policy.Want.TheVariants.{Ask, Exchange, Respond, Await, Done}
+use Rattle.replay.specs.declared.policy.Want.TheVariants.{Exchange, Respond, Await, Done}
 use Rattle.replay.specs.declared.rounds.Pending.{Pending}
 use Rattle.replay.specs.declared.rounds.Kept.{Kept}
 use Rattle.replay.specs.declared.rounds.Break.{Break}
 use Rattle.replay.specs.declared.rounds.Break.TheVariants.{WriteFault, HistoryFull, NoMemory}
 use Rattle.replay.specs.Scene.{Scene, Waiting, Parked, fetch_line, response_line}
-use Rattle.replay.specs.Pieces.{Pieces, Takes, LosesEnd, Tells}
-use Rattle.replay.specs.Went.{Went, Leads, HasTurn, IsPending, IsParked, AllAlike, Stage, Change, IsAt, IsStage, KeepsCore, KeepsRounds, Met, Meets, Breaks, NobodyRuns, ComesTo}
+use Rattle.replay.specs.Pieces.{Pieces, Takes, Tells}
+use Rattle.replay.specs.Went.{Went, Leads, HasTurn, IsPending, IsParked, AllAlike, Stage, IsAt, IsStage, KeepsCore, Meets, Breaks, NobodyRuns, ComesTo}
 use Rattle.replay.proofs.Alike.{alike-push}
 use Rattle.replay.proofs.Runs.{went-then, went-map, went-still}
 use Rattle.replay.proofs.Sending.{responded, exchanged, kept, ended}
-use Rattle.replay.proofs.Taking.{Takes-nil, Takes-then, Takes-at, LosesEnd-behind, LosesEnd-at}
+use Rattle.replay.proofs.Taking.{Takes-then, Takes-at, LosesEnd-behind, LosesEnd-at}
 
 pub KeepsCore-then : {C : Type 0} (beginning : C → Beginning) (history : C → List Entry) (one two three : C) → KeepsCore beginning history one two → KeepsCore beginning history two three → KeepsCore beginning history one three
 KeepsCore-then beginning history one two three p q =

@@ -1,9 +1,8 @@
 -- Two ways through one session are one, as far as both go.
-use Rattle.std.proofs.Common.{◌≡◌, ◌≢◌, ◌⊎◌, inl, inr, ℕ, List, [], ◌∷◌, ◌++◌, Option, Some, None, refl, sym, ◌∙◌, ap, subst, append_assoc}
+use Rattle.std.proofs.Common.{◌≡◌, ◌⊎◌, inl, inr, ℕ, List, [], ◌∷◌, ◌++◌, Some, None, refl, sym, ◌∙◌, ap, subst, append_assoc}
 use Rattle.std.proofs.lemmas.List.{append-nil, append_cancel_left}
 use Rattle.std.specs.Prelude.{find}
 use Rattle.std.specs.List.{flat_map}
-use Rattle.cache_law.specs.declared.call.Call.{Call}
 use Rattle.cache_law.specs.declared.call.Entry.{Entry}
 use Rattle.replay.specs.declared.policy.Request.{Request}
 use Rattle.replay.specs.declared.policy.Given.{Given}
@@ -17,7 +16,7 @@ use Rattle.replay.proofs.Runs.{flat_map-append}
 use Rattle.http_heads.specs.declared.exchange.Exchange.TheVariants as exchanges
 use Rattle.cache_law.specs.Beginning.{Beginning}
 use Rattle.cache_law.specs.History.{next_state}
-use Rattle.replay.specs.Scene.{Scene, Round, Waiting, Parked, Move, hears, calls, fetches, sends, parks, wakes, ends, events_of, entries_of, text_of, AtRest, Hears, Next, Path, Runs, gave, with_running, without_first, is_free, without_free}
+use Rattle.replay.specs.Scene.{Scene, Round, Waiting, Parked, Move, hears, calls, fetches, sends, parks, wakes, ends, events_of, entries_of, AtRest, Hears, Next, Path, Runs, gave, with_running, without_first, is_free, without_free}
 
 -- what makes a move: a line, a token that is closed, or what the round whose turn it is wants
 data Cause : Type 0 where

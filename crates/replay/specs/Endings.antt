@@ -1,5 +1,5 @@
 -- What ends a session before its last line.
-use Rattle.std.specs.Prelude.{◌≡◌, ℕ, true, None, List, find}
+use Rattle.std.specs.Prelude.{◌≡◌, true, None, List, find}
 use Rattle.cache_law.specs.declared.call.Call.{Call}
 use Rattle.cache_law.specs.declared.call.Entry.{Entry}
 use Rattle.cache_law.specs.Beginning.{Beginning}

@@ -1,5 +1,5 @@
 -- Words on what a round wants and is given.
-use Rattle.std.specs.Prelude.{◌≡◌, ◌⊎◌, Bool, true, false, Some, None, List, [], ◌∷◌}
+use Rattle.std.specs.Prelude.{◌≡◌, ◌⊎◌, Bool, true, false, List, []}
 use Rattle.http_heads.specs.declared.exchange.Exchange.{Exchange as What}
 use Rattle.http_heads.specs.declared.exchange.Exchange.TheVariants as exchanges
 use Rattle.cache_law.specs.declared.call.Call.{Call}
@@ -10,7 +10,7 @@ use Rattle.replay.specs.declared.policy.Request.{Request}
 use Rattle.replay.specs.declared.policy.Given.{Given}
 use Rattle.replay.specs.declared.policy.Given.TheVariants.{Start, Told, Came, Sent, Closed}
 use Rattle.replay.specs.declared.policy.Want.{Want}
-use Rattle.replay.specs.declared.policy.Want.TheVariants.{Ask, Exchange, Respond, Await, Done}
+use Rattle.replay.specs.declared.policy.Want.TheVariants.{Ask, Exchange, Respond, Await}
 
 abbrev pub is_response : Want → Bool
 is_response (Respond text) = true

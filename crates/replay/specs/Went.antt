@@ -1,5 +1,5 @@
 -- How far a part of a session has come, as the functions that play it tell.
-use Rattle.std.specs.Prelude.{◌≡◌, ◌⊎◌, ℕ, Option, None, Some, List, [], ◌∷◌, ◌++◌, ◌≤◌, ◌-◌, map, Result, Ok, Err}
+use Rattle.std.specs.Prelude.{◌≡◌, ℕ, Option, None, Some, List, [], ◌∷◌, ◌++◌, ◌≤◌, ◌-◌, map, Result, Ok, Err}
 use Rattle.cache_law.specs.declared.call.Entry.{Entry}
 use Rattle.cache_law.specs.Beginning.{Beginning}
 use Rattle.cache_law.specs.History.{Legal, reached, bytes_of_all}
@@ -18,7 +18,7 @@ use Rattle.replay.specs.declared.schedule.Stop.{Stop}
 use Rattle.replay.specs.declared.schedule.Stop.TheVariants.{Idle, Broken}
 use Rattle.replay.specs.declared.schedule.Halt.{Halt}
 use Rattle.replay.specs.declared.schedule.Halt.TheVariants as halts
-use Rattle.replay.specs.Scene.{Round, Waiting, Parked, Scene, AtRest, Runs, Run, opening_scene}
+use Rattle.replay.specs.Scene.{Round, Waiting, Parked, Scene, AtRest, Run, opening_scene}
 use Rattle.replay.specs.Pieces.{Pieces, pieces, Takes, LosesEnd, UsesSink}
 use Rattle.replay.specs.Endings.{WantsTooMuch, IsIdle}
 

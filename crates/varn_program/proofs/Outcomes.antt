@@ -2,14 +2,13 @@
 use Rattle.std.specs.Prelude.{IsTrue, ◌↔◌, IsErrOf}
 use Rattle.std.specs.Cmp.Lexicographic.{pointwise, same_text}
 use Rattle.std.proofs.lemmas.Bool.{eq-eqb}
-use Rattle.std.proofs.Common.{◌≡◌, ◌∙◌, ◌∷◌, ◌++◌, ◌+◌, ◌⊎◌, ◌<◌, ◌≤◌, ◌&&◌, Bool, true, nat_eq, length, get_or, ap, arith, ℕ, List, [], Option, Some, None, Result, Ok, Err, refl, sym, subst, inl, inr, length-append}
+use Rattle.std.proofs.Common.{◌≡◌, ◌∙◌, ◌∷◌, ◌++◌, ◌+◌, ◌⊎◌, ◌<◌, ◌≤◌, ◌&&◌, Bool, true, nat_eq, length, get_or, ap, arith, ℕ, List, [], Option, Some, None, Err, refl, sym, subst, inl, inr, length-append}
 use Rattle.std.proofs.lemmas.List.{append-nil}
 use Rattle.cache_law.specs.declared.setting.Params.{Params}
 use Rattle.cache_law.specs.declared.setting.Boot.{Boot}
 use Rattle.cache_law.specs.declared.call.Entry.{Entry}
-use Rattle.cache_law.specs.Beginning.{Beginning, beginning_of}
+use Rattle.cache_law.specs.Beginning.{beginning_of}
 use Rattle.std.specs.Io.KnownBytes.{Consumes, IsAtEnd}
-use Rattle.wire.specs.Causes.{Rose}
 use Rattle.wire.specs.Content.{ReadsUpTo}
 use Rattle.session_text.specs.declared.session.Session.{Session}
 use Rattle.session_text.specs.declared.session.NumberedLine.{NumberedLine}
@@ -19,7 +18,7 @@ use Rattle.replay.specs.declared.event.Event.{Event}
 use Rattle.replay.specs.declared.event.NumberedEvent.{NumberedEvent}
 use Rattle.replay.specs.declared.event.Script.{Script}
 use Rattle.replay.specs.Build.{IsBuilt, IsBuiltAs, IsNotBuilt, StandsFor}
-use Rattle.replay.specs.Laws.{NothingStops, IsOwnEnding}
+use Rattle.replay.specs.Laws.{NothingStops}
 use Rattle.session_text.specs.Sessions.{IsSession}
 use Rattle.replay.specs.declared.session.ReplayError.{ReplayError}
 use Rattle.replay.specs.declared.session.ReplayError.TheVariants as refusals

@@ -9,7 +9,6 @@ use Rattle.cache_law.specs.declared.setting.Params.{Params}
 use Rattle.cache_law.specs.declared.setting.Boot.{Boot}
 use Rattle.cache_law.specs.declared.call.Entry.{Entry}
 use Rattle.cache_law.specs.Beginning.{beginning_of}
-use Rattle.wire.specs.Causes.{Rose}
 use Rattle.replay.specs.declared.event.Script.{Script}
 use Rattle.replay.specs.Build.{IsBuilt}
 use Rattle.replay.specs.Laws.{NothingStops}

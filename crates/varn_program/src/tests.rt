@@ -443,7 +443,7 @@ fn pieces(rt: HostRuntime) -> Result<(), Fail> {
     ];
     for (failing, status, entries, lines) in cases {
         let mut session = session_with_bodies(alloc, 0, 40_000)?;
-        session.truncate(session.len() - 4);
+        session.truncate(session.len().saturating_sub(4));
         session.extend_from_slice(br#"req 1 "GET /a HTTP/1.1\r\nHost: h\r\n\r\n""#)?;
         session.extend_from_slice(b"\nreq 1 \"a\"\nend\n")?;
         let mut source = FailingSource::new(session, Vec::new(alloc));

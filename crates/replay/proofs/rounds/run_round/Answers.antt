@@ -1,4 +1,4 @@
-use Rattle.std.proofs.Common.{Ok, Err, refl, sym, subst, arith}
+use Rattle.std.proofs.Common.{Ok, Err, refl, arith}
 use Rattle.replay.specs.Pieces.{pieces}
 use Rattle.replay.specs.Went.{stage_of}
 use Rattle.replay.proofs.Runs.{went-here}

@@ -1,4 +1,4 @@
-use Rattle.std.proofs.Common.{◌≡◌, ◌*◌, ◌+◌, ◌≤◌, [], cond}
+use Rattle.std.proofs.Common.{◌*◌, ◌+◌, ◌≤◌, [], cond}
 use Rattle.replay.specs.Policy.{is_response}
 use Rattle.replay.specs.Pieces.{pieces}
 use Rattle.replay.specs.Scene.{Scene}

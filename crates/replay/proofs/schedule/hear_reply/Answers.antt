@@ -1,4 +1,4 @@
-use Rattle.std.proofs.Common.{◌≡◌, ◌==◌, ℕ, List, [], ◌∷◌, None, Some, refl, sym, subst}
+use Rattle.std.proofs.Common.{◌≡◌, ◌==◌, [], ◌∷◌, None, Some, refl}
 use Rattle.std.specs.Prelude.{position}
 use Rattle.replay.specs.declared.event.Event.TheVariants as events
 use Rattle.replay.specs.declared.rounds.Pending.{Pending}

@@ -1,4 +1,4 @@
-use Rattle.std.proofs.Common.{◌≡◌, [], ◌∷◌, true, false, refl, sym, ◌∙◌}
+use Rattle.std.proofs.Common.{◌≡◌, [], ◌∷◌, true, false, refl}
 use Rattle.replay.specs.declared.event.Event.TheVariants as events
 use Rattle.replay.specs.Scene.{begun, is_under_way, with_running}
 use Rattle.replay.specs.Went.{stage_of}

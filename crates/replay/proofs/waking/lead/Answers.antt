@@ -1,4 +1,3 @@
-use Rattle.std.proofs.Common.{Ok, refl}
 use Rattle.replay.specs.Pieces.{pieces}
 use Rattle.replay.specs.Scene.{AtRest}
 use Rattle.replay.specs.Went.{stage_of}

@@ -1,4 +1,4 @@
-use Rattle.std.proofs.Common.{◌<◌, length, refl, sym, arith}
+use Rattle.std.proofs.Common.{◌<◌, length, refl, arith}
 use Rattle.replay.specs.declared.policy.Want.TheVariants as wants
 use Rattle.replay.specs.Pieces.{pieces}
 use Rattle.replay.specs.Went.{NobodyRuns, Stage, stage_of}

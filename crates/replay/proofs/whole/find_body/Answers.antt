@@ -1,4 +1,3 @@
-use Rattle.std.proofs.Common.{◌≡◌, true, false}
 use Rattle.replay.proofs.whole.find_body.Goals as goal
 
 pub returns-else-eq : goal.returns-else-eq

@@ -1,5 +1,4 @@
 use Rattle.std.proofs.Common.{ℕ, List, subst, sym, inl, inr}
-use Rattle.session_text.specs.declared.session.Session.{Session}
 use Rattle.session_text.specs.Sessions.{IsSession}
 use Rattle.varn_program.proofs.Outcomes.{replay_ends, complete_at, not_refused, same_error}
 use Rattle.varn_program.proofs.command.replay.Goals as goal
