@@ -1,0 +1,7 @@
+pub mod Attributes
+pub mod Functions
+pub mod Modules
+pub mod Names
+pub mod Scopes
+pub mod Variables
+pub mod Words
