@@ -9,6 +9,9 @@
 mod command_line;
 mod copying;
 mod failing;
+mod failing_link;
+mod link;
+mod peer;
 mod stream;
 #[cfg(test)]
 mod tests;
@@ -18,6 +21,8 @@ mod unfailing;
 pub use command_line::{WordsError, read_words, tell};
 pub use copying::{ReadError, WriteFault, read_all, write_all};
 pub use failing::{FailingSink, FailingSource};
+pub use link::{DialError, Dialer, Link};
+pub use peer::{Peer, Talk};
 pub use stream::{StreamSink, StreamSource};
 pub use traits::{Failed, Sink, Source};
 pub use unfailing::{UnfailingSink, UnfailingSource};

@@ -1,0 +1,226 @@
+// A connection in memory whose calls fail at chosen numbers.
+ghost use Rattle.std.specs.Prelude.{◌≡◌, ◌↔◌, ◌<◌, ◌≤◌, [], ◌∷◌, None, Some, true, min, max, length, Contains, IsErr, IfOk, OnErr, IfErr};
+ghost use Rattle.std.specs.Io.{ReadsAtMost, WritesAtMost};
+ghost use Rattle.wire.specs.Causes.{HasCause, TakesOrRose, next_count};
+ghost use Rattle.wire.specs.Flow.{Reads, Writes};
+ghost use Rattle.wire.specs.LinkMemory.{LinkState, Direction as Way, called, failed, gave, taken, wrote};
+
+use crate::failing::fill;
+use crate::{Failed, Link, Peer, Talk};
+use std::alloc::{AllocError, Global};
+use std::collections::LinkedList;
+use std::marker::Model;
+
+/// How the calls of one direction go: they are numbered from 0 on, those with the given numbers fail, and one moves at most
+/// `most` bytes. A read moves at least one where there is one, since to give nothing is the end; a write with 0 takes nothing.
+#[derive(Drop)]
+pub struct Direction {
+    pub faults: u64,
+    pub calls: u64,
+    pub failing: Vec<u64>,
+    pub most: usize,
+}
+
+impl Model for Direction {
+    ghost use Rattle.wire.specs.LinkMemory.{Direction as Way};
+
+    ghost Value = { Way };
+
+    ghost view = { λ d. record { faults = d.faults; calls = d.calls; failing = d.failing.items; most = d.most } };
+}
+
+impl Direction {
+    pub fn new(failing: Vec<u64>, most: usize) -> Direction
+        ensures { result ≡ record { faults = 0; calls = 0; failing = failing.items; most = most } }
+    {
+        Direction {
+            faults: 0,
+            calls: 0,
+            failing,
+            most,
+        }
+    }
+
+    // Counts a call, and tells whether it is one of those that fail.
+    fn call(&mut self) -> bool
+        ensures fails { result ≡ true ↔ Contains self.old.failing self.old.calls }
+        ensures calls { self.new ≡ called self.old }
+    {
+        let fails = self.failing.contains(&self.calls);
+        self.calls = self.calls.saturating_add(1);
+        fails
+    }
+
+    fn fault(&mut self)
+        ensures { self.new ≡ record self.old { faults = next_count self.old.faults } }
+    {
+        self.faults = self.faults.saturating_add(1);
+    }
+}
+
+/// What goes over a connection in memory.
+#[derive(Drop)]
+pub struct Conversation {
+    input: Vec<u8>,
+    at: usize,
+    output: Vec<u8>,
+    reads: Direction,
+    writes: Direction,
+    peer: Peer,
+}
+
+impl Model for Conversation {
+    ghost use Rattle.std.specs.Prelude.{take, drop, length, ◌≤◌};
+    ghost use Rattle.wire.specs.LinkMemory.{LinkState};
+
+    ghost Value = { LinkState };
+
+    ghost view = { λ c. record {
+        flow = record { given = take c.at c.input.items; left = drop c.at c.input.items; took = c.output.items };
+        reads = c.reads;
+        writes = c.writes;
+        peer = c.peer;
+    } };
+
+    ghost invariant = { λ c. c.at ≤ length c.input.items };
+}
+
+impl Conversation {
+    fn read(&mut self, into: &mut [u8]) -> Result<usize, Failed>
+        ensures fails { IsErr result ↔ Contains self.old.reads.failing self.old.reads.calls }
+        ensures bound { ReadsAtMost result into.new }
+        ensures filled { Reads (Some self.old.flow) (Some self.new.flow) result into.new }
+        ensures gives { IfOk result (λ count. (count ≡ min (min (length self.old.flow.left) (length into.old)) (max 1 self.old.reads.most))
+            × (self.new ≡ record self.old { flow = gave self.old.flow count; reads = called self.old.reads })) }
+        ensures err { OnErr result (self.new ≡ record self.old { reads = failed self.old.reads }) }
+    {
+        if self.reads.call() {
+            self.reads.fault();
+            return Err(Failed);
+        }
+        let most = into.len().min(self.reads.most.max(1));
+        let count = fill(&self.input[self.at..], &mut into[..most]);
+        self.at += count;
+        Ok(count)
+    }
+
+    fn write(&mut self, piece: &[u8]) -> Result<usize, Failed>
+        ensures fails { Contains self.old.writes.failing self.old.writes.calls → IsErr result }
+        ensures bound { WritesAtMost result piece.now }
+        ensures took { IfOk result (λ count. (count ≡ min (length piece.now) self.old.writes.most)
+            × (self.new ≡ record self.old { flow = taken self.old.flow piece.now count; writes = wrote self.old.writes piece.now count })) }
+        ensures err { OnErr result (self.new ≡ record self.old { writes = failed self.old.writes }) }
+    {
+        let fails = self.writes.call();
+        let count = piece.len().min(self.writes.most);
+        if fails || self.output.extend_from_slice(&piece[..count]).is_err() {
+            self.writes.fault();
+            return Err(Failed);
+        }
+        if count == 0 && !piece.is_empty() {
+            self.writes.fault();
+        }
+        Ok(count)
+    }
+}
+
+/// A connection over bytes in memory. A write for which memory is wanting fails too.
+#[derive(Drop)]
+pub struct FailingLink {
+    talk: Conversation,
+    /// The place of its talk in a dialer's list.
+    room: LinkedList<Option<Talk<Conversation>>>,
+}
+
+impl Model for FailingLink {
+    ghost use Rattle.std.specs.Prelude.{◌≡◌, ◌∷◌, [], None};
+    ghost use Rattle.wire.specs.LinkMemory.{LinkState};
+
+    ghost Value = { LinkState };
+
+    ghost view = { λ l. l.talk };
+
+    ghost invariant = { λ l. l.room ≡ None ∷ [] };
+}
+
+impl FailingLink {
+    /// A connection on which these bytes come, from that peer.
+    pub fn new(
+        alloc: Global,
+        input: Vec<u8>,
+        reads: Direction,
+        writes: Direction,
+        peer: Peer,
+    ) -> Result<FailingLink, AllocError>
+        ensures { IfOk result (λ link. link ≡ record { flow = record { given = []; left = input.items; took = [] }; reads = reads; writes = writes; peer = peer }) }
+    {
+        let mut room = LinkedList::new(alloc);
+        room.push_back(None)?;
+        let talk = Conversation {
+            input,
+            at: 0,
+            output: Vec::new(alloc),
+            reads,
+            writes,
+            peer,
+        };
+        Ok(FailingLink { talk, room })
+    }
+
+    /// The bytes that it took.
+    pub fn took(&self) -> &[u8]
+        ensures { result.now ≡ self.now.flow.took }
+    {
+        self.talk.output.as_slice()
+    }
+}
+
+impl Link for FailingLink {
+    ghost use Rattle.std.specs.Prelude.{Some};
+
+    ghost flow = { λ l. Some l.flow };
+
+    ghost read_faults = { λ l. l.reads.faults };
+
+    ghost write_faults = { λ l. l.writes.faults };
+
+    ghost peer = { λ l. l.peer };
+
+    fn read(&mut self, into: &mut [u8]) -> Result<usize, Failed>
+        ensures bound { ReadsAtMost result into.new }
+        ensures bytes { Reads (Some self.old.flow) (Some self.new.flow) result into.new }
+        ensures cause { HasCause self.old.reads.faults self.new.reads.faults result }
+        ensures other { self.new.writes.faults ≡ self.old.writes.faults }
+        ensures peer { self.new.peer ≡ self.old.peer }
+        ensures fails { IsErr result ↔ Contains self.old.reads.failing self.old.reads.calls }
+        ensures gives { IfOk result (λ count. (count ≡ min (min (length self.old.flow.left) (length into.old)) (max 1 self.old.reads.most))
+            × (self.new ≡ record self.old { flow = gave self.old.flow count; reads = called self.old.reads })) }
+        ensures err { OnErr result (self.new ≡ record self.old { reads = failed self.old.reads }) }
+    {
+        self.talk.read(into)
+    }
+
+    fn write(&mut self, piece: &[u8]) -> Result<usize, Failed>
+        ensures bound { WritesAtMost result piece.now }
+        ensures bytes { Writes (Some self.old.flow) (Some self.new.flow) result piece.now }
+        ensures cause { HasCause self.old.writes.faults self.new.writes.faults result }
+        ensures takes { TakesOrRose self.old.writes.faults self.new.writes.faults result piece.now }
+        ensures other { self.new.reads.faults ≡ self.old.reads.faults }
+        ensures peer { self.new.peer ≡ self.old.peer }
+        ensures fails { Contains self.old.writes.failing self.old.writes.calls → IsErr result }
+        ensures took { IfOk result (λ count. (count ≡ min (length piece.now) self.old.writes.most)
+            × (self.new ≡ record self.old { flow = taken self.old.flow piece.now count; writes = wrote self.old.writes piece.now count })) }
+        ensures err { OnErr result (self.new ≡ record self.old { writes = failed self.old.writes }) }
+    {
+        self.talk.write(piece)
+    }
+
+    fn shut(&mut self)
+        ensures bytes { Some self.new.flow ≡ Some self.old.flow }
+        ensures reads { self.new.reads.faults ≡ self.old.reads.faults }
+        ensures writes { self.new.writes.faults ≡ self.old.writes.faults }
+        ensures peer { self.new.peer ≡ self.old.peer }
+        ensures same { self.new ≡ self.old }
+    {
+    }
+}
