@@ -33,3 +33,7 @@ Reads before after result room =
 -- a write of this piece, of which a front was taken
 abbrev pub Writes : {E : Type 0} → Option Flow → Option Flow → Result ℕ E → List ℕ → Type 0
 Writes before after result piece = MatchResult result (λ count. Moves before after [] (take count piece)) (λ _. Moves before after [] [])
+
+-- writes took a front of the piece that isn't the whole piece
+abbrev pub MovesPart : Option Flow → Option Flow → List ℕ → Type 0
+MovesPart before after piece = (n : ℕ) × (n < length piece) × Moves before after [] (take n piece)

@@ -1,9 +1,8 @@
--- Connections and dialers in memory, as clauses see them.
-use Rattle.std.specs.Prelude.{ℕ, ◌++◌, ◌==◌, ◌&&◌, nat_lt, List, length, take, drop, Option, if◌then◌else◌}
+-- Connections in memory, as clauses see them.
+use Rattle.std.specs.Prelude.{ℕ, ◌++◌, ◌==◌, ◌&&◌, nat_lt, List, length, take, drop, if◌then◌else◌}
 use Rattle.wire.specs.Causes.{next_count}
 use Rattle.wire.specs.Flow.{Flow}
 use Rattle.wire.specs.declared.peer.Peer.{Peer}
-use Rattle.wire.specs.declared.peer.Talk.{Talk}
 
 -- one direction: its count of faults, the number of the next call, the numbers of the calls that fail, and how many bytes
 -- a call moves at most
@@ -38,13 +37,3 @@ taken flow piece count = record flow { took = flow.took ++ take count piece }
 -- to take nothing of a piece that isn't empty is a fault
 abbrev pub wrote : Direction → List ℕ → ℕ → Direction
 wrote d piece count = if count == 0 && nat_lt 0 (length piece) then failed d else called d
-
--- a dialer: the connections that it will give, in order; its talks; its counts; and the same of its dials as of a direction
-pub record DialerState : Type 0 where
-  pub planned : List LinkState
-  pub talks : List (Talk LinkState)
-  pub dials : ℕ
-  pub failing : List ℕ
-  pub dial_faults : ℕ
-  pub read_faults : ℕ
-  pub write_faults : ℕ

@@ -1,14 +1,13 @@
 // A connection in memory whose calls fail at chosen numbers.
-ghost use Rattle.std.specs.Prelude.{◌≡◌, ◌↔◌, ◌<◌, ◌≤◌, [], ◌∷◌, None, Some, true, min, max, length, Contains, IsErr, IfOk, OnErr, IfErr};
+ghost use Rattle.std.specs.Prelude.{◌≡◌, ◌↔◌, ◌+◌, ◌<◌, ◌≤◌, ◌++◌, [], take, drop, Some, true, min, max, length, Contains, IsErr, IfOk, OnErr, IfErr};
 ghost use Rattle.std.specs.Io.{ReadsAtMost, WritesAtMost};
 ghost use Rattle.wire.specs.Causes.{HasCause, TakesOrRose, next_count};
 ghost use Rattle.wire.specs.Flow.{Reads, Writes};
 ghost use Rattle.wire.specs.LinkMemory.{LinkState, Direction as Way, called, failed, gave, taken, wrote};
 
 use crate::failing::fill;
-use crate::{Failed, Link, Peer, Talk};
-use std::alloc::{AllocError, Global};
-use std::collections::LinkedList;
+use crate::{Failed, Link, Peer};
+use std::alloc::Global;
 use std::marker::Model;
 
 /// How the calls of one direction go: they are numbered from 0 on, those with the given numbers fail, and one moves at most
@@ -52,15 +51,43 @@ impl Direction {
     }
 
     fn fault(&mut self)
-        ensures { self.new ≡ record self.old { faults = next_count self.old.faults } }
+        ensures faults { self.new ≡ record self.old { faults = next_count self.old.faults } }
+        ensures later { self.old.faults ≤ self.new.faults }
     {
         self.faults = self.faults.saturating_add(1);
     }
 }
 
-/// What goes over a connection in memory.
+// Puts the bytes behind a place into the room, as many as it has, but at most so many.
+fn fill_from(bytes: &[u8], at: usize, most: usize, into: &mut [u8]) -> usize
+    requires { at ≤ length bytes.now }
+    ensures count { result ≡ min (min (length (drop at bytes.now)) (length into.old)) most }
+    ensures filled { take result into.new ≡ take result (drop at bytes.now) }
+{
+    let rest = &bytes[at..];
+    fill(&rest[..rest.len().min(most)], into)
+}
+
+// The same, and goes behind what was given.
+fn give(input: &[u8], at: &mut usize, most: usize, into: &mut [u8]) -> usize
+    requires { at.old ≤ length input.now }
+    ensures count { result ≡ min (min (length (drop at.old input.now)) (length into.old)) most }
+    ensures at { at.new ≡ at.old + result }
+    ensures within { at.new ≤ length input.now }
+    ensures given { take at.new input.now ≡ take at.old input.now ++ take result into.new }
+    ensures left { drop at.old input.now ≡ take result into.new ++ drop at.new input.now }
+    ensures filled { take result into.new ≡ take result (drop at.old input.now) }
+    ensures behind { drop at.new input.now ≡ drop result (drop at.old input.now) }
+    ensures end { result ≡ 0 → 0 < most → 0 < length into.new → drop at.new input.now ≡ [] }
+{
+    let count = fill_from(input, *at, most, into);
+    *at += count;
+    count
+}
+
+/// A connection over bytes in memory. A write for which memory is wanting fails too.
 #[derive(Drop)]
-pub struct Conversation {
+pub struct FailingLink {
     input: Vec<u8>,
     at: usize,
     output: Vec<u8>,
@@ -69,78 +96,20 @@ pub struct Conversation {
     peer: Peer,
 }
 
-impl Model for Conversation {
+impl Model for FailingLink {
     ghost use Rattle.std.specs.Prelude.{take, drop, length, ◌≤◌};
     ghost use Rattle.wire.specs.LinkMemory.{LinkState};
 
     ghost Value = { LinkState };
 
-    ghost view = { λ c. record {
-        flow = record { given = take c.at c.input.items; left = drop c.at c.input.items; took = c.output.items };
-        reads = c.reads;
-        writes = c.writes;
-        peer = c.peer;
+    ghost view = { λ l. record {
+      flow = record { given = take l.at l.input.items; left = drop l.at l.input.items; took = l.output.items };
+      reads = l.reads;
+      writes = l.writes;
+      peer = l.peer;
     } };
 
-    ghost invariant = { λ c. c.at ≤ length c.input.items };
-}
-
-impl Conversation {
-    fn read(&mut self, into: &mut [u8]) -> Result<usize, Failed>
-        ensures fails { IsErr result ↔ Contains self.old.reads.failing self.old.reads.calls }
-        ensures bound { ReadsAtMost result into.new }
-        ensures filled { Reads (Some self.old.flow) (Some self.new.flow) result into.new }
-        ensures gives { IfOk result (λ count. (count ≡ min (min (length self.old.flow.left) (length into.old)) (max 1 self.old.reads.most))
-            × (self.new ≡ record self.old { flow = gave self.old.flow count; reads = called self.old.reads })) }
-        ensures err { OnErr result (self.new ≡ record self.old { reads = failed self.old.reads }) }
-    {
-        if self.reads.call() {
-            self.reads.fault();
-            return Err(Failed);
-        }
-        let most = into.len().min(self.reads.most.max(1));
-        let count = fill(&self.input[self.at..], &mut into[..most]);
-        self.at += count;
-        Ok(count)
-    }
-
-    fn write(&mut self, piece: &[u8]) -> Result<usize, Failed>
-        ensures fails { Contains self.old.writes.failing self.old.writes.calls → IsErr result }
-        ensures bound { WritesAtMost result piece.now }
-        ensures took { IfOk result (λ count. (count ≡ min (length piece.now) self.old.writes.most)
-            × (self.new ≡ record self.old { flow = taken self.old.flow piece.now count; writes = wrote self.old.writes piece.now count })) }
-        ensures err { OnErr result (self.new ≡ record self.old { writes = failed self.old.writes }) }
-    {
-        let fails = self.writes.call();
-        let count = piece.len().min(self.writes.most);
-        if fails || self.output.extend_from_slice(&piece[..count]).is_err() {
-            self.writes.fault();
-            return Err(Failed);
-        }
-        if count == 0 && !piece.is_empty() {
-            self.writes.fault();
-        }
-        Ok(count)
-    }
-}
-
-/// A connection over bytes in memory. A write for which memory is wanting fails too.
-#[derive(Drop)]
-pub struct FailingLink {
-    talk: Conversation,
-    /// The place of its talk in a dialer's list.
-    room: LinkedList<Option<Talk<Conversation>>>,
-}
-
-impl Model for FailingLink {
-    ghost use Rattle.std.specs.Prelude.{◌≡◌, ◌∷◌, [], None};
-    ghost use Rattle.wire.specs.LinkMemory.{LinkState};
-
-    ghost Value = { LinkState };
-
-    ghost view = { λ l. l.talk };
-
-    ghost invariant = { λ l. l.room ≡ None ∷ [] };
+    ghost invariant = { λ l. l.at ≤ length l.input.items };
 }
 
 impl FailingLink {
@@ -151,27 +120,36 @@ impl FailingLink {
         reads: Direction,
         writes: Direction,
         peer: Peer,
-    ) -> Result<FailingLink, AllocError>
-        ensures { IfOk result (λ link. link ≡ record { flow = record { given = []; left = input.items; took = [] }; reads = reads; writes = writes; peer = peer }) }
+    ) -> FailingLink
+        ensures { result ≡ record { flow = record { given = []; left = input.items; took = [] }; reads = reads; writes = writes; peer = peer } }
     {
-        let mut room = LinkedList::new(alloc);
-        room.push_back(None)?;
-        let talk = Conversation {
+        FailingLink {
             input,
             at: 0,
             output: Vec::new(alloc),
             reads,
             writes,
             peer,
-        };
-        Ok(FailingLink { talk, room })
+        }
     }
 
     /// The bytes that it took.
     pub fn took(&self) -> &[u8]
         ensures { result.now ≡ self.now.flow.took }
     {
-        self.talk.output.as_slice()
+        self.output.as_slice()
+    }
+
+    pub fn read_faults(&self) -> u64
+        ensures { result ≡ self.now.reads.faults }
+    {
+        self.reads.faults
+    }
+
+    pub fn write_faults(&self) -> u64
+        ensures { result ≡ self.now.writes.faults }
+    {
+        self.writes.faults
     }
 }
 
@@ -193,11 +171,16 @@ impl Link for FailingLink {
         ensures other { self.new.writes.faults ≡ self.old.writes.faults }
         ensures peer { self.new.peer ≡ self.old.peer }
         ensures fails { IsErr result ↔ Contains self.old.reads.failing self.old.reads.calls }
-        ensures gives { IfOk result (λ count. (count ≡ min (min (length self.old.flow.left) (length into.old)) (max 1 self.old.reads.most))
-            × (self.new ≡ record self.old { flow = gave self.old.flow count; reads = called self.old.reads })) }
+        ensures count { IfOk result (λ count. count ≡ min (min (length self.old.flow.left) (length into.old)) (max 1 self.old.reads.most)) }
+        ensures gives { IfOk result (λ count. self.new ≡ record self.old { flow = gave self.old.flow count; reads = called self.old.reads }) }
         ensures err { OnErr result (self.new ≡ record self.old { reads = failed self.old.reads }) }
     {
-        self.talk.read(into)
+        if self.reads.call() {
+            self.reads.fault();
+            return Err(Failed);
+        }
+        let most = self.reads.most.max(1);
+        Ok(give(self.input.as_slice(), &mut self.at, most, into))
     }
 
     fn write(&mut self, piece: &[u8]) -> Result<usize, Failed>
@@ -208,11 +191,20 @@ impl Link for FailingLink {
         ensures other { self.new.reads.faults ≡ self.old.reads.faults }
         ensures peer { self.new.peer ≡ self.old.peer }
         ensures fails { Contains self.old.writes.failing self.old.writes.calls → IsErr result }
-        ensures took { IfOk result (λ count. (count ≡ min (length piece.now) self.old.writes.most)
-            × (self.new ≡ record self.old { flow = taken self.old.flow piece.now count; writes = wrote self.old.writes piece.now count })) }
+        ensures count { IfOk result (λ count. count ≡ min (length piece.now) self.old.writes.most) }
+        ensures took { IfOk result (λ count. self.new ≡ record self.old { flow = taken self.old.flow piece.now count; writes = wrote self.old.writes piece.now count }) }
         ensures err { OnErr result (self.new ≡ record self.old { writes = failed self.old.writes }) }
     {
-        self.talk.write(piece)
+        let fails = self.writes.call();
+        let count = piece.len().min(self.writes.most);
+        if fails || self.output.extend_from_slice(&piece[..count]).is_err() {
+            self.writes.fault();
+            return Err(Failed);
+        }
+        if count == 0 && !piece.is_empty() {
+            self.writes.fault();
+        }
+        Ok(count)
     }
 
     fn shut(&mut self)
@@ -221,6 +213,5 @@ impl Link for FailingLink {
         ensures writes { self.new.writes.faults ≡ self.old.writes.faults }
         ensures peer { self.new.peer ≡ self.old.peer }
         ensures same { self.new ≡ self.old }
-    {
-    }
+    {}
 }

@@ -12,6 +12,7 @@ mod failing;
 mod failing_link;
 mod link;
 mod peer;
+mod sending;
 mod stream;
 #[cfg(test)]
 mod tests;
@@ -21,8 +22,10 @@ mod unfailing;
 pub use command_line::{WordsError, read_words, tell};
 pub use copying::{ReadError, WriteFault, read_all, write_all};
 pub use failing::{FailingSink, FailingSource};
+pub use failing_link::{Direction, FailingLink};
 pub use link::{DialError, Dialer, Link};
 pub use peer::{Peer, Talk};
+pub use sending::write_link;
 pub use stream::{StreamSink, StreamSource};
 pub use traits::{Failed, Sink, Source};
 pub use unfailing::{UnfailingSink, UnfailingSource};

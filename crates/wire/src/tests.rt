@@ -118,6 +118,48 @@ fn sinks(rt: HostRuntime) -> Result<(), Fail> {
     Ok(())
 }
 
+// A connection on which `abc` comes, two bytes in one read; reads and writes with these numbers fail.
+fn abc_link(
+    alloc: Global,
+    failing_reads: &[u64],
+    failing_writes: &[u64],
+    most: usize,
+) -> Result<FailingLink, Fail> {
+    let reads = Direction::new(failing_reads.to_vec(alloc)?, 2);
+    let writes = Direction::new(failing_writes.to_vec(alloc)?, most);
+    let peer = Peer::Accepted([127, 0, 0, 1]);
+    Ok(FailingLink::new(alloc, b"abc".to_vec(alloc)?, reads, writes, peer))
+}
+
+#[test]
+fn links(rt: HostRuntime) -> Result<(), Fail> {
+    let alloc = rt.alloc();
+    let cases: [(&[u64], usize, bool, &[u8], u64); 5] = [
+        (&[], 9, true, b"abcde", 0),
+        (&[], 2, true, b"abcde", 0),
+        (&[0], 9, false, b"", 1),
+        (&[2], 2, false, b"abcd", 1),
+        (&[], 0, false, b"", 1),
+    ];
+    for (failing, most, whole, took, faults) in cases {
+        let mut link = abc_link(alloc, &[], failing, most)?;
+        let done = write_link(&mut link, b"abcde");
+        assert_eq!(rt; done.is_ok(), whole, "{failing:?} {most}");
+        assert_eq!(rt; link.took(), took, "{failing:?} {most}");
+        assert_eq!(rt; link.write_faults(), faults, "{failing:?} {most}");
+    }
+    let mut link = abc_link(alloc, &[1], &[], 9)?;
+    let mut room = [0u8; 4];
+    for answer in [Ok(2), Err(Failed), Ok(1), Ok(0)] {
+        assert!(rt; link.read(&mut room) == answer);
+    }
+    assert_eq!(rt; room, [b'c', b'b', 0, 0]);
+    link.shut();
+    assert_eq!(rt; link.read_faults(), 1);
+    assert_eq!(rt; link.write_faults(), 0);
+    Ok(())
+}
+
 #[test]
 fn streams_count_their_faults(rt: HostRuntime) -> Result<(), Fail> {
     let interrupted = Err(ErrorKind::Interrupted);
