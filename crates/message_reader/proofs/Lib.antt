@@ -1,0 +1,3 @@
+pub mod Errors
+mod HeadFacts
+mod BodyFacts

@@ -1,0 +1,19 @@
+//! Messages that are read from a connection, piece by piece.
+//!
+//! Contract for the layer above: the input of a call is the bytes that were held and those that the link gave in that
+//! call. `read_head` and `read_body` answer what the crates of heads and bodies say of the whole input, however it was
+//! cut, and hold what stands behind the part that they read.
+#![tactic(auto)]
+
+mod bodies;
+mod heads;
+mod intake;
+mod stop;
+#[cfg(test)]
+mod tests;
+mod watch;
+
+pub use bodies::read_body;
+pub use heads::{Head, read_head};
+pub use intake::{Intake, fill};
+pub use stop::Stop;
