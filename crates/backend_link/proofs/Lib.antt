@@ -1,0 +1,2 @@
+mod BehindFacts
+mod ConversedFacts

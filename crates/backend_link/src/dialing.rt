@@ -1,0 +1,31 @@
+// One exchange with a backend: a dial, a conversation, and the link handed back.
+ghost use Rattle.std.specs.Prelude.{◌≡◌};
+ghost use Rattle.wire.specs.Causes.{Rose};
+ghost use Rattle.backend_link.specs.Exchanges.{Exchanged};
+
+use crate::converse;
+use http_heads::{Backend, BackendRequest, Exchange};
+use std::alloc::Global;
+use wire::{DialError, Dialer};
+
+/// Sends a request to a backend over a link of its own, and reads its reply. The link is handed back in every case.
+pub fn exchange<D: Dialer>(
+    alloc: Global,
+    dialer: &mut D,
+    backend: &Backend,
+    request: &BackendRequest,
+) -> Exchange
+    ensures told { Exchanged D.Link.flow backend.now request.now (D.talks dialer.old) (D.talks dialer.new) result }
+    ensures dials { result ≡ Exchange.Fault 1 → Rose (D.dial_faults dialer.old) (D.dial_faults dialer.new) }
+    ensures writes { result ≡ Exchange.Fault 2 → Rose (D.write_faults dialer.old) (D.write_faults dialer.new) }
+    ensures reads { result ≡ Exchange.Fault 3 → Rose (D.read_faults dialer.old) (D.read_faults dialer.new) }
+{
+    let mut link = match dialer.dial(&backend.host, &backend.port) {
+        Ok(link) => link,
+        Err(DialError::Failed) => return Exchange::Fault(1),
+        Err(DialError::NoMemory) => return Exchange::NoMemory,
+    };
+    let answer = converse(alloc, &mut link, request);
+    dialer.hang_up(link);
+    answer
+}

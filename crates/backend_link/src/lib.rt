@@ -1,0 +1,15 @@
+//! One request to a backend, and its reply.
+//!
+//! Contract for the layer above: `exchange` dials, converses and hangs up. What `converse` answers is told by the bytes
+//! that the link gave and took: a reply only where the link took the request whole, and then the message behind the
+//! interim replies.
+#![tactic(auto)]
+
+mod conversing;
+mod dialing;
+mod replies;
+#[cfg(test)]
+mod tests;
+
+pub use conversing::converse;
+pub use dialing::exchange;
