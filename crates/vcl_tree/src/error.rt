@@ -155,15 +155,17 @@ pub fn one_order()
 #[cfg(test)]
 mod tests {
     use super::*;
+    use std::test::Fail;
 
     #[test]
-    fn refusals_shown(rt: HostRuntime) {
+    fn refusals_shown(rt: HostRuntime) -> Result<(), Fail> {
         let refused = VclError::Refused {
             kind: Refusal::TooLong,
             place: 1048576,
         };
-        let shown = format!(in rt.alloc(); "{refused}").unwrap();
+        let shown = format!(in rt.alloc(); "{refused}")?;
         assert!(rt; shown.as_str() == "too long, at byte 1048576");
+        Ok(())
     }
 
     #[test]
