@@ -11,8 +11,7 @@ use Rattle.session_text.specs.declared.session.FaultKind.{FaultKind}
 use Rattle.session_text.specs.declared.session.FaultKind.TheVariants.{Argument, NoEnd, Moment, After}
 use Rattle.session_text.specs.declared.session.NumberedLine.{NumberedLine}
 use Rattle.session_text.specs.declared.session.Session.{Session}
-use Rattle.session_text.specs.declared.reading.Reading.{Reading}
-use Rattle.session_text.specs.declared.reading.Reading.TheVariants.{Passed, End, Says, Bad}
+use Rattle.session_text.specs.Readings.{Reading, Passed, End, Says, Bad}
 use Rattle.session_text.specs.declared.place.Place.{Place}
 use Rattle.session_text.specs.Lines.{TextLine, text_line, lines_of, onto, size, content}
 use Rattle.session_text.specs.Readings.{IsReading}

@@ -2,3 +2,4 @@ pub mod Cuts
 pub mod Words
 pub mod Meanings
 pub mod Going
+pub mod Commanded

@@ -14,8 +14,7 @@ use Rattle.session_text.specs.declared.session.FaultKind.TheVariants.{Word, Unkn
 use Rattle.session_text.specs.declared.session.Line.{Line}
 use Rattle.session_text.specs.declared.session.Line.TheVariants.{At, Req, Reply, Fail, Cli, Lurk}
 use Rattle.session_text.specs.declared.session.NumberedLine.{NumberedLine}
-use Rattle.session_text.specs.declared.reading.Reading.{Reading}
-use Rattle.session_text.specs.declared.reading.Reading.TheVariants.{Passed, End, Says, Bad}
+use Rattle.session_text.specs.Readings.{Reading, Passed, End, Says, Bad}
 use Rattle.session_text.specs.declared.place.Place.{Place}
 use Rattle.session_text.specs.Lines.{TextLine, lines_of, size, content}
 use Rattle.session_text.specs.Readings.{IsWord, HasWord, word_for, IsArgument, IsLine, IsPassed, IsKnown, HasBadText, IsReading}
@@ -264,6 +263,9 @@ pub record AsFar (text rest : List ℕ) (place : Place) (lines : List NumberedLi
   pub fails : (line : ℕ) (kind : FaultKind) → Fails (lines_of rest) place line kind → Fails (lines_of text) first_place line kind
   pub small : place.number + place.room ≤ session_limit + 1
 
+pub as_far_first : (text : List ℕ) → AsFar text text first_place []
+as_far_first text = record { reads = λ more end h. h; fails = λ line kind h. h; small = omega arith }
+
 pub as_far_on : (text rest behind : List ℕ) (place next : Place) (lines given : List NumberedLine) (line : TextLine) → AsFar text rest place lines → lines_of rest ≡ line ∷ lines_of behind → IsStep place line (On given next) → next.number + next.room ≤ session_limit + 1 → AsFar text behind next (lines ++ given)
 as_far_on text rest behind place next lines given line far cut step small =
     record {
@@ -296,6 +298,13 @@ reads_here text rest place lines end far e h =
     let of_ : List NumberedLine → Type 0 = λ v. Reads (lines_of text) first_place v end in
     subst of_ (append-nil lines) (far.reads [] end (subst at (sym e) k))
 
+-- the lines so far are a session's, at the end of its text
+pub lines_here : (text rest : List ℕ) (place : Place) (o : Option ℕ) (lines v : List NumberedLine) (x : ℕ) → AsFar text rest place lines → rest ≡ [] → place.end ≡ o → Reads (lines_of text) first_place v x → lines ≡ v
+lines_here text rest place (Some e) lines v x far none end h = (reads_same (lines_of text) first_place lines v e x (reads_here text rest place lines e far none end) h).0
+lines_here text rest place None lines v x far none end h =
+    let at : List ℕ → Type 0 = λ r. Fails (lines_of r) place place.number NoEnd in
+    absurd (not_both (lines_of text) first_place v x place.number NoEnd h (far.fails place.number NoEnd (subst at (sym none) (end, refl, refl))))
+
 -- what a reader answers where the text is a session, and where it has a fault
 pub answers_session : (text : List ℕ) (s : Session) (r : Result Session SessionError) → IfOk r (λ read. IsSession text read) → IfErr r (λ error. IsErrorOf text error) → IsSession text s → MatchResult r (λ read. read ≡ s) (λ error. error ≡ NoMemory)
 answers_session text s (Ok t) a b h =
@@ -304,9 +313,10 @@ answers_session text s (Ok t) a b h =
 answers_session text s (Err NoMemory) a b h = refl
 answers_session text s (Err (Refused line kind)) a b h = absurd (not_both (lines_of text) first_place s.lines s.end line kind h b)
 
-pub answers_fault : (text : List ℕ) (line : ℕ) (kind : FaultKind) (r : Result Session SessionError) → IfOk r (λ read. IsSession text read) → IfErr r (λ error. IsErrorOf text error) → IsFault text line kind → MatchResult r (λ read. ⊥) (λ error. (error ≡ Refused line kind) ⊎ (error ≡ NoMemory))
-answers_fault text line kind (Ok t) a b h = not_both (lines_of text) first_place t.lines t.end line kind a h
-answers_fault text line kind (Err NoMemory) a b h = inr refl
+pub answers_fault : (text : List ℕ) (line : ℕ) (kind : FaultKind) (r : Result Session SessionError) → IfOk r (λ read. IsSession text read) → IfErr r (λ error. IsErrorOf text error) → IsFault text line kind → r ≡ Err (Refused line kind)
+answers_fault text line kind (Ok t) a b h = absurd (not_both (lines_of text) first_place t.lines t.end line kind a h)
+answers_fault text line kind (Err NoMemory) a b h = absurd (not_both (lines_of text) first_place b.0.lines b.0.end line kind b.1 h)
 answers_fault text line kind (Err (Refused x k)) a b h =
     let same = fails_same (lines_of text) first_place x line k kind b h in
-    inl (ap (λ n. Refused n k) same.0 ∙ ap (Refused line) same.1)
+    let refused : ℕ → FaultKind → Result Session SessionError = λ n f. Err (Refused n f) in
+    ap (λ n. refused n k) same.0 ∙ ap (refused line) same.1

@@ -1,6 +1,9 @@
 -- The readings of a line: what its first word is, and that it is read in one way.
-use Rattle.std.proofs.Common.{◌≡◌, ℕ, ◌+◌, ◌<◌, ◌≤◌, ◌^◌, List, [], ◌∷◌, ◌++◌, length, get_or, sym, ap, ◌∙◌, subst, refl, arith, drop, length-drop, false, eqb, rules, eq-eqb, lit<}
+use Rattle.std.proofs.Common.{◌≡◌, ℕ, ◌+◌, ◌<◌, ◌≤◌, ◌^◌, List, [], ◌∷◌, ◌++◌, length, get_or, sym, ap, ◌∙◌, subst, refl, arith, drop, length-drop, true, false, eqb, rules, eq-eqb, lit<}
 use Rattle.std.proofs.lemmas.Bool.{false≢true}
+use Rattle.std.proofs.lemmas.Bool.Decides.{eqb_tells}
+use native.Mathlib.Decide.{dec_le}
+use Rattle.std.specs.Prelude.{◌↔◌}
 use Rattle.std.specs.Prelude.{codes}
 use Rattle.std.specs.Char.{digit_value}
 use Rattle.std.proofs.lemmas.List.{drop_all}
@@ -14,7 +17,7 @@ use Rattle.units.proofs.Numerals.{spelled}
 use Rattle.session_text.specs.declared.session.FaultKind.TheVariants.{Word, Unknown, Argument}
 use Rattle.session_text.specs.declared.session.Line.{Line}
 use Rattle.session_text.specs.declared.session.Line.TheVariants.{At, Req, Reply, Fail, Cli, Lurk}
-use Rattle.session_text.specs.declared.reading.Reading.TheVariants.{Bad}
+use Rattle.session_text.specs.Readings.{Bad}
 use Rattle.session_text.specs.declared.reading.Keyword.{Keyword}
 use Rattle.session_text.specs.declared.reading.Keyword.TheVariants as keywords
 use Rattle.session_text.specs.Keywords.{keyword_text}
@@ -236,6 +239,19 @@ pub quoted_short : (values text bytes : List ℕ) (behind : ℕ) → behind < le
 quoted_short values text bytes behind short h k =
     let e = ap length (quoted_same text values bytes (drop behind bytes) [] h.2 k).1 in
     omega (arith, e, length-drop behind bytes)
+
+-- a quoted text is whole where nothing is behind it
+pub is_whole : (bytes : List ℕ) (behind : ℕ) → ((values : List ℕ) × IsQuotedAt bytes 0 values behind) → (eqb behind (length bytes) ≡ true) ↔ ((values : List ℕ) × IsQuoted values bytes [])
+is_whole bytes behind h = (
+  λ t. elim (eqb_tells behind (length bytes)) [
+    | inl k ↦ let at : List ℕ → Type 0 = λ r. IsQuoted h.0 bytes r in (h.0, subst at (drop_all behind bytes (omega arith)) h.1.2)
+    | inr k ↦ absurd (false≢true (sym k.0 ∙ t))
+  ],
+  λ whole. eq-eqb behind (length bytes) (elim (dec_le (length bytes) behind) [
+    | yes past ↦ omega (arith, h.1.1)
+    | no within ↦ absurd (quoted_short whole.0 h.0 bytes behind (omega arith) h.1 whole.1)
+  ]),
+)
 
 -- the words begin with letters
 pub line_first : (line : Line) → 35 < get_or (word_for line) 0 0

@@ -1,3 +1,4 @@
+pub mod Commands
 pub mod Errors
 pub mod Faults
 pub mod Keywords

@@ -3,14 +3,13 @@ use Rattle.std.specs.Prelude.{ℕ, ◌≡◌, ◌≢◌, ◌<◌, ◌≤◌, ◌
 use Rattle.std.specs.List.{AllByRecursion}
 use Rattle.units.specs.Numbers.{IsNumber}
 use Rattle.units.specs.Quoted.{IsQuoted}
+use Rattle.session_text.specs.declared.session.FaultKind.{FaultKind}
 use Rattle.session_text.specs.declared.session.FaultKind.TheVariants.{Word, Unknown, Argument}
 use Rattle.session_text.specs.declared.session.Line.{Line}
 use Rattle.session_text.specs.declared.session.Line.TheVariants.{At, Req, Reply, Fail, Cli, Lurk}
 use Rattle.session_text.specs.declared.reading.Keyword.{Keyword}
 use Rattle.session_text.specs.declared.reading.Keyword.TheVariants as keywords
 use Rattle.session_text.specs.Keywords.{keyword_text}
-use Rattle.session_text.specs.declared.reading.Reading.{Reading}
-use Rattle.session_text.specs.declared.reading.Reading.TheVariants.{Passed, End, Says, Bad}
 
 -- the text has no blank
 abbrev pub IsWord : List ℕ → Type 0
@@ -64,6 +63,13 @@ IsKnown word = (word ≡ codes "end") ⊎ ((line : Line) × (word ≡ word_for l
 abbrev pub HasBadText : List ℕ → Type 0
 HasBadText text =
     (word number quoted : List ℕ) × ((word ≡ codes "req") ⊎ (word ≡ codes "reply")) × (text ≡ word ++ 32 ∷ (number ++ 32 ∷ quoted)) × IsWord number × ((values : List ℕ) → IsQuoted values quoted [] → ⊥)
+
+-- what the text of a line may be: passed over, `end`, a line, or at fault
+pub data Reading : Type 0 where
+  Passed : Reading
+  End : Reading
+  Says : Line → Reading
+  Bad : FaultKind → Reading
 
 -- What a text is read as: each text in one way. A text without a meaning has the least kind of fault: a text
 -- that isn't quoted as it should be, else a first word that isn't known, else what the word takes.

@@ -7,11 +7,9 @@ use Rattle.session_text.specs.declared.session.Line.{Line}
 use Rattle.session_text.specs.declared.session.Line.TheVariants.{At}
 use Rattle.session_text.specs.declared.session.NumberedLine.{NumberedLine}
 use Rattle.session_text.specs.declared.session.Session.{Session}
-use Rattle.session_text.specs.declared.reading.Reading.{Reading}
-use Rattle.session_text.specs.declared.reading.Reading.TheVariants.{Passed, End, Says, Bad}
 use Rattle.session_text.specs.declared.place.Place.{Place}
 use Rattle.session_text.specs.Lines.{TextLine, lines_of, size, content}
-use Rattle.session_text.specs.Readings.{IsReading}
+use Rattle.session_text.specs.Readings.{Reading, Passed, End, Says, Bad, IsReading}
 
 -- a session has at most so many bytes
 abbrev pub session_limit : ℕ

@@ -4,6 +4,7 @@
 //! with its line and kind, as the definitions in `specs/` say; and exactly one of the two stands for each text.
 #![tactic(auto)]
 
+mod command;
 mod laws;
 mod lines;
 mod place;

@@ -2,14 +2,16 @@
 ghost use Rattle.std.specs.Prelude.{◌≡◌, ◌≤◌, ◌<◌, ◌+◌, ◌-◌, ◌∷◌, [], ℕ, IfOk, SomeIff, nat_lt, if◌then◌else◌};
 ghost use Rattle.std.specs.Option.{is_some};
 ghost use Rattle.session_text.specs.Lines.{text_line, size};
-ghost use Rattle.session_text.specs.Sessions.{first_place, session_limit, moment_after, numbered, IsStep, On, Stop};
-ghost use Rattle.session_text.specs.Turns.{step_for, IsShort};
+ghost use Rattle.session_text.specs.Sessions.{first_place, session_limit, moment_after, numbered, On, Stop};
+ghost use Rattle.session_text.specs.Commands.{IsLineOf};
+ghost use Rattle.session_text.specs.Turns.{step_with, IsTurn, IsShort, SaysNothing, SaysOnly};
+ghost use Rattle.session_text.specs.declared.session.Line.{Line};
 
 use crate::SESSION_LIMIT;
+use crate::command::Command;
 use crate::lines::{NextLine, content_of};
-use crate::reading::{Reading, read_line};
-use crate::session::{FaultKind, Line, NumberedLine};
-use std::alloc::{AllocError, Global};
+use crate::reading::{LineReading, read_line};
+use crate::session::FaultKind;
 
 /// A place between two lines.
 #[derive(Clone, Copy)]
@@ -39,24 +41,24 @@ impl Place {
 }
 
 /// What a line does at a place.
-#[derive(Drop)]
-pub enum Turn {
+#[derive(Clone, Copy)]
+pub enum Turn<'a> {
     /// It says nothing for a player, and this place is behind it.
     Passes(Place),
-    /// It says this, and this place is behind it.
-    Gives(NumberedLine, Place),
+    /// The line of this number says this, and this place is behind it.
+    Gives(u32, Command<'a>, Place),
     Stops(FaultKind),
 }
 
 /// What a line does at a place.
-pub fn take_line(alloc: Global, place: Place, next: NextLine<'_>) -> Result<Turn, AllocError>
+pub fn take_line(place: Place, next: NextLine<'_>) -> Turn<'_>
     requires some { 0 < size (text_line next.body.now next.ended) }
     requires small { place.number + place.room ≤ session_limit + 1 }
-    ensures step { IfOk result (λ made. IsStep place (text_line next.entry.body.now next.entry.ended) (step_for made)) }
-    ensures small { IfOk result IsShort }
+    ensures turn { IsTurn place (text_line next.entry.body.now next.entry.ended) result }
+    ensures small { IsShort result }
 {
     let Some(room) = room_behind(place.room, next.body, next.ended) else {
-        return Ok(Turn::Stops(FaultKind::Argument));
+        return Turn::Stops(FaultKind::Argument);
     };
     let behind = Place {
         number: place.number + 1,
@@ -64,11 +66,14 @@ pub fn take_line(alloc: Global, place: Place, next: NextLine<'_>) -> Result<Turn
         moment: place.moment,
         end: place.end,
     };
-    match read_line(alloc, content_of(next.body, next.ended))? {
-        Reading::Passed => Ok(Turn::Passes(behind)),
-        Reading::End => Ok(turn_of_end(place, behind)),
-        Reading::Says(line) => Ok(turn_of_line(place, behind, line)),
-        Reading::Bad(kind) => Ok(Turn::Stops(kind)),
+    match read_line(content_of(next.body, next.ended)) {
+        LineReading::Passed => Turn::Passes(behind),
+        LineReading::End => turn_of_end(place, behind),
+        LineReading::Says(command) => {
+            let moment = moment_behind(place.moment, &command);
+            turn_of_line(place, behind, moment, command)
+        }
+        LineReading::Bad(kind) => Turn::Stops(kind),
     }
 }
 
@@ -85,8 +90,9 @@ fn room_behind(room: usize, body: &[u8], ended: bool) -> Option<usize>
 }
 
 // `end` comes once.
-fn turn_of_end(place: Place, behind: Place) -> Turn
-    ensures step { step_for result ≡ (if is_some place.end then Stop FaultKind.After else On [] (record behind { end = Some place.number })) }
+fn turn_of_end(place: Place, behind: Place) -> Turn<'static>
+    ensures step { (says : Line) → step_with says result ≡ (if is_some place.end then Stop FaultKind.After else On [] (record behind { end = Some place.number })) }
+    ensures alone { SaysNothing result }
     ensures small { behind.number + behind.room ≤ session_limit + 1 → IsShort result }
 {
     match place.end {
@@ -101,37 +107,31 @@ fn turn_of_end(place: Place, behind: Place) -> Turn
 }
 
 // A line is said before `end`, and at no earlier moment.
-fn turn_of_line(place: Place, behind: Place, line: Line) -> Turn
-    ensures step { step_for result ≡ (if nat_lt (moment_after place.moment line) place.moment then Stop FaultKind.Moment else (if is_some place.end then Stop FaultKind.After else On (numbered place.number line ∷ []) (record behind { moment = moment_after place.moment line }))) }
+fn turn_of_line<'a>(place: Place, behind: Place, moment: u64, command: Command<'a>) -> Turn<'a>
+    ensures step { (says : Line) → step_with says result ≡ (if nat_lt moment place.moment then Stop FaultKind.Moment else (if is_some place.end then Stop FaultKind.After else On (numbered place.number says ∷ []) (record behind { moment = moment }))) }
+    ensures given { SaysOnly command.entry result }
     ensures small { behind.number + behind.room ≤ session_limit + 1 → IsShort result }
 {
-    let moment = moment_behind(place.moment, &line);
     if moment < place.moment {
         return Turn::Stops(FaultKind::Moment);
     }
     if place.end.is_some() {
         return Turn::Stops(FaultKind::After);
     }
-    let says = NumberedLine {
-        number: place.number,
-        line,
+    let next = Place {
+        number: behind.number,
+        room: behind.room,
+        moment,
+        end: behind.end,
     };
-    Turn::Gives(
-        says,
-        Place {
-            number: behind.number,
-            room: behind.room,
-            moment,
-            end: behind.end,
-        },
-    )
+    Turn::Gives(place.number, command, next)
 }
 
-fn moment_behind(moment: u64, line: &Line) -> u64
-    ensures { result ≡ moment_after moment line.now }
+fn moment_behind(moment: u64, command: &Command<'_>) -> u64
+    ensures { (says : Line) → IsLineOf command.now says → result ≡ moment_after moment says }
 {
-    match line {
-        Line::At(later) => *later,
+    match command {
+        Command::At(later) => *later,
         _ => moment,
     }
 }

@@ -1,39 +1,40 @@
 // What one line says.
-ghost use Rattle.std.specs.Prelude.{◌≡◌, ◌↔◌, IsTrue, ◌∷◌, ◌++◌, ◌<◌, ◌≤◌, [], List, ℕ, codes, length, IfOk, MatchOption};
+ghost use Rattle.std.specs.Prelude.{◌≡◌, ◌↔◌, IsTrue, ◌∷◌, ◌++◌, ◌<◌, ◌≤◌, [], List, ℕ, codes, length, MatchOption};
 ghost use Rattle.units.specs.Numbers.{IsNumber};
 ghost use Rattle.units.specs.Quoted.{IsQuoted};
-ghost use Rattle.session_text.specs.Readings.{IsReading, IsWord, IsKnown, IsPassed};
+ghost use Rattle.session_text.specs.Readings.{IsWord, IsKnown, IsPassed};
+ghost use Rattle.session_text.specs.Commands.{IsReadAs};
 ghost use Rattle.session_text.specs.Keywords.{keyword_text};
 
 use crate::MOMENT_LIMIT;
-use crate::session::{FaultKind, Line};
-use std::alloc::{AllocError, Global};
-use units::{Text, quoted, read_number};
+use crate::command::Command;
+use crate::session::FaultKind;
+use units::{end_of_quoted, read_number};
 
 /// What the text of a line is read as.
-#[derive(Drop)]
-pub enum Reading {
+#[derive(Clone, Copy)]
+pub enum LineReading<'a> {
     /// An empty line or a comment.
     Passed,
     End,
-    Says(Line),
+    Says(Command<'a>),
     Bad(FaultKind),
 }
 
 /// Reads the text of one line.
-pub fn read_line(alloc: Global, text: &[u8]) -> Result<Reading, AllocError>
-    ensures { IfOk result (λ reading. IsReading text.now reading) }
+pub fn read_line(text: &[u8]) -> LineReading<'_>
+    ensures { IsReadAs text.now result }
 {
     if is_passed(text) {
-        return Ok(Reading::Passed);
+        return LineReading::Passed;
     }
     let Some((word, argument)) = cut_word(text) else {
-        return Ok(read_word(text));
+        return read_word(text);
     };
     let Some(keyword) = keyword_of(word) else {
-        return Ok(Reading::Bad(FaultKind::Unknown));
+        return LineReading::Bad(FaultKind::Unknown);
     };
-    read_command(alloc, keyword, argument)
+    read_command(keyword, argument)
 }
 
 fn is_passed(text: &[u8]) -> bool
@@ -85,104 +86,104 @@ fn keyword_of(word: &[u8]) -> Option<Keyword>
 }
 
 // A line that is one word.
-fn read_word(word: &[u8]) -> Reading
+fn read_word(word: &[u8]) -> LineReading<'static>
     requires word { IsWord word.now }
     requires some { IsPassed word.now → ⊥ }
-    ensures { IsReading word.now result }
+    ensures { IsReadAs word.now result }
 {
     match keyword_of(word) {
         Some(keyword) => read_alone(keyword),
-        None => Reading::Bad(FaultKind::Unknown),
+        None => LineReading::Bad(FaultKind::Unknown),
     }
 }
 
-fn read_alone(keyword: Keyword) -> Reading
-    ensures { IsReading (keyword_text keyword) result }
+fn read_alone(keyword: Keyword) -> LineReading<'static>
+    ensures { IsReadAs (keyword_text keyword) result }
 {
     match keyword {
-        Keyword::End => Reading::End,
-        _ => Reading::Bad(FaultKind::Argument),
+        Keyword::End => LineReading::End,
+        _ => LineReading::Bad(FaultKind::Argument),
     }
 }
 
 // A line with a word that is known and something behind it.
-fn read_command(alloc: Global, keyword: Keyword, argument: &[u8]) -> Result<Reading, AllocError>
-    ensures { IfOk result (λ reading. IsReading (keyword_text keyword ++ 32 ∷ argument.now) reading) }
+fn read_command(keyword: Keyword, argument: &[u8]) -> LineReading<'_>
+    ensures { IsReadAs (keyword_text keyword ++ 32 ∷ argument.now) result }
 {
     match keyword {
-        Keyword::At => Ok(read_at(argument)),
-        Keyword::Req => read_req(alloc, argument),
-        Keyword::Reply => read_reply(alloc, argument),
-        Keyword::Fail => Ok(read_fail(argument)),
-        Keyword::Cli => Ok(Reading::Says(Line::Cli(Text::of(alloc, argument)?))),
-        Keyword::Lurk => Ok(read_lurk(argument)),
-        Keyword::End => Ok(Reading::Bad(FaultKind::Argument)),
+        Keyword::At => read_at(argument),
+        Keyword::Req => read_req(argument),
+        Keyword::Reply => read_reply(argument),
+        Keyword::Fail => read_fail(argument),
+        Keyword::Cli => LineReading::Says(Command::Cli(argument)),
+        Keyword::Lurk => read_lurk(argument),
+        Keyword::End => LineReading::Bad(FaultKind::Argument),
     }
 }
 
-fn read_at(argument: &[u8]) -> Reading
-    ensures { IsReading (codes "at" ++ 32 ∷ argument.now) result }
+fn read_at(argument: &[u8]) -> LineReading<'static>
+    ensures { IsReadAs (codes "at" ++ 32 ∷ argument.now) result }
 {
     let Some(moment) = read_number(argument) else {
-        return Reading::Bad(FaultKind::Argument);
+        return LineReading::Bad(FaultKind::Argument);
     };
     if moment > MOMENT_LIMIT {
-        return Reading::Bad(FaultKind::Argument);
+        return LineReading::Bad(FaultKind::Argument);
     }
-    Reading::Says(Line::At(moment))
+    LineReading::Says(Command::At(moment))
 }
 
-fn read_fail(argument: &[u8]) -> Reading
-    ensures { IsReading (codes "fail" ++ 32 ∷ argument.now) result }
+fn read_fail(argument: &[u8]) -> LineReading<'static>
+    ensures { IsReadAs (codes "fail" ++ 32 ∷ argument.now) result }
 {
     match read_number(argument) {
-        Some(fetch) => Reading::Says(Line::Fail(fetch)),
-        None => Reading::Bad(FaultKind::Argument),
+        Some(fetch) => LineReading::Says(Command::Fail(fetch)),
+        None => LineReading::Bad(FaultKind::Argument),
     }
 }
 
-fn read_lurk(argument: &[u8]) -> Reading
-    ensures { IsReading (codes "lurk" ++ 32 ∷ argument.now) result }
+fn read_lurk(argument: &[u8]) -> LineReading<'static>
+    ensures { IsReadAs (codes "lurk" ++ 32 ∷ argument.now) result }
 {
     let Some(count) = read_number(argument) else {
-        return Reading::Bad(FaultKind::Argument);
+        return LineReading::Bad(FaultKind::Argument);
     };
     if count > 0xffff_ffff {
-        return Reading::Bad(FaultKind::Argument);
+        return LineReading::Bad(FaultKind::Argument);
     }
-    Reading::Says(Line::Lurk(count as u32))
+    LineReading::Says(Command::Lurk(count as u32))
 }
 
-fn read_req(alloc: Global, argument: &[u8]) -> Result<Reading, AllocError>
-    ensures { IfOk result (λ reading. IsReading (codes "req" ++ 32 ∷ argument.now) reading) }
+fn read_req(argument: &[u8]) -> LineReading<'_>
+    ensures { IsReadAs (codes "req" ++ 32 ∷ argument.now) result }
 {
-    let Some((number, text)) = cut_word(argument) else {
-        return Ok(Reading::Bad(FaultKind::Argument));
+    let Some((number, quoted)) = cut_word(argument) else {
+        return LineReading::Bad(FaultKind::Argument);
     };
-    let Some(text) = whole_quoted(alloc, text)? else {
-        return Ok(Reading::Bad(FaultKind::Word));
-    };
+    if !is_quoted(quoted) {
+        return LineReading::Bad(FaultKind::Word);
+    }
     let Some(client) = client_of(number) else {
-        return Ok(Reading::Bad(FaultKind::Argument));
+        return LineReading::Bad(FaultKind::Argument);
     };
-    if text.bytes().len() == 0 {
-        return Ok(Reading::Bad(FaultKind::Argument));
+    if is_empty_text(quoted) {
+        return LineReading::Bad(FaultKind::Argument);
     }
-    Ok(Reading::Says(Line::Req { client, text }))
+    LineReading::Says(Command::Req { client, quoted })
 }
 
-fn read_reply(alloc: Global, argument: &[u8]) -> Result<Reading, AllocError>
-    ensures { IfOk result (λ reading. IsReading (codes "reply" ++ 32 ∷ argument.now) reading) }
+fn read_reply(argument: &[u8]) -> LineReading<'_>
+    ensures { IsReadAs (codes "reply" ++ 32 ∷ argument.now) result }
 {
-    let Some((number, text)) = cut_word(argument) else {
-        return Ok(Reading::Bad(FaultKind::Argument));
+    let Some((number, quoted)) = cut_word(argument) else {
+        return LineReading::Bad(FaultKind::Argument);
     };
-    let Some(text) = whole_quoted(alloc, text)? else {
-        return Ok(Reading::Bad(FaultKind::Word));
-    };
+    if !is_quoted(quoted) {
+        return LineReading::Bad(FaultKind::Word);
+    }
     match read_number(number) {
-        Some(fetch) => Ok(Reading::Says(Line::Reply { fetch, text })),
-        None => Ok(Reading::Bad(FaultKind::Argument)),
+        Some(fetch) => LineReading::Says(Command::Reply { fetch, quoted }),
+        None => LineReading::Bad(FaultKind::Argument),
     }
 }
 
@@ -204,17 +205,19 @@ fn client_of(number: &[u8]) -> Option<u32>
     Some(client as u32)
 }
 
-// What a quoted text stands for that the bytes are, from their first to their last.
-fn whole_quoted(alloc: Global, bytes: &[u8]) -> Result<Option<Text>, AllocError>
-    ensures { IfOk result (λ found. MatchOption found
-        ((values : List ℕ) → IsQuoted values bytes.now [] → ⊥)
-        (λ text. IsQuoted text bytes.now [])) }
+// Whether the bytes are a quoted text, from their first to their last.
+fn is_quoted(bytes: &[u8]) -> bool
+    ensures { IsTrue result ↔ ((values : List ℕ) × IsQuoted values bytes.now []) }
 {
-    let Some((text, behind)) = quoted(alloc, bytes, 0)? else {
-        return Ok(None);
-    };
-    if behind < bytes.len() {
-        return Ok(None);
+    match end_of_quoted(bytes, 0) {
+        Some(behind) => behind == bytes.len(),
+        None => false,
     }
-    Ok(Some(text))
+}
+
+// Whether a quoted text stands for no bytes.
+fn is_empty_text(quoted: &[u8]) -> bool
+    ensures { IsTrue result ↔ (quoted.now ≡ codes "\"\"") }
+{
+    quoted == b"\"\"".as_slice()
 }
