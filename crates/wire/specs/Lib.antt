@@ -4,3 +4,6 @@ pub mod Memory
 pub mod Flow
 pub mod Talks
 pub mod LinkMemory
+pub mod DialerMemory
+pub mod UnfailingMemory
+pub mod Tapes

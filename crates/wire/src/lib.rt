@@ -6,26 +6,42 @@
 //! front of the piece, and an error adds nothing. `write_all` and `read_all` keep that over many calls.
 #![tactic(auto)]
 
+mod clock;
 mod command_line;
 mod copying;
 mod failing;
+mod failing_dialer;
 mod failing_link;
 mod link;
 mod peer;
+mod scripted_clock;
 mod sending;
 mod stream;
+mod system_clock;
+mod tcp_dialer;
+mod tcp_link;
 #[cfg(test)]
 mod tests;
 mod traits;
 mod unfailing;
+mod unfailing_dialer;
+mod unfailing_link;
 
+pub use clock::Clock;
 pub use command_line::{WordsError, read_words, tell};
 pub use copying::{ReadError, WriteFault, read_all, write_all};
 pub use failing::{FailingSink, FailingSource};
+pub use failing_dialer::{DialedLink, FailingDialer, Plan};
 pub use failing_link::{Direction, FailingLink};
 pub use link::{DialError, Dialer, Link};
 pub use peer::{Peer, Talk};
+pub use scripted_clock::ScriptedClock;
 pub use sending::write_link;
 pub use stream::{StreamSink, StreamSource};
+pub use system_clock::SystemClock;
+pub use tcp_dialer::TcpDialer;
+pub use tcp_link::TcpLink;
 pub use traits::{Failed, Sink, Source};
 pub use unfailing::{UnfailingSink, UnfailingSource};
+pub use unfailing_dialer::UnfailingDialer;
+pub use unfailing_link::UnfailingLink;

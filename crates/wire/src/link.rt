@@ -10,6 +10,7 @@ ghost use Rattle.wire.specs.declared.peer.Peer.{Peer as End};
 ghost use Rattle.wire.specs.declared.peer.Talk.{Talk as Dialing};
 
 use crate::traits::Failed;
+use std::alloc::AllocError;
 use std::error::Error;
 use std::fmt::{self, Display, Formatter, Write};
 use units::Text;
@@ -60,6 +61,16 @@ pub enum DialError {
     /// There is no answer at that host and port, and the dialer's count of failed dials rose.
     Failed,
     NoMemory,
+}
+
+impl From<AllocError> for DialError {
+    ghost use Rattle.wire.specs.declared.link.DialError.TheVariants.{NoMemory};
+
+    ghost from_gives = { λ _ error. error ≡ NoMemory };
+
+    fn from(_error: AllocError) -> DialError {
+        DialError::NoMemory
+    }
 }
 
 impl Display for DialError {

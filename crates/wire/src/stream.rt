@@ -1,6 +1,8 @@
 // Sources and sinks over std's readers and writers.
 ghost use Rattle.std.specs.Prelude.{◌≡◌, ◌≤◌};
-ghost use Rattle.wire.specs.Causes.{Settles};
+ghost use Rattle.std.specs.Io.{ReadsAtMost, WritesAtMost};
+ghost use Rattle.std.specs.Io.KnownBytes.{ReadConsumes, WriteAppends};
+ghost use Rattle.wire.specs.Causes.{HasCause, Settles, TakesOrRose};
 
 use crate::{Failed, Sink, Source};
 use std::io;
@@ -36,6 +38,45 @@ fn settled(
     }
 }
 
+// A read, which is made again where a signal interrupted it; each error is counted.
+pub(crate) fn read_counted<R: Read>(
+    reader: &mut R,
+    into: &mut [u8],
+    faults: &mut u64,
+) -> Result<usize, Failed>
+    ensures bound { ReadsAtMost result into.new }
+    ensures bytes { ReadConsumes (R.remaining reader.old) (R.remaining reader.new) result into.new }
+    ensures cause { HasCause faults.old faults.new result }
+{
+    for turn in 0..TRIES {
+        let answer = reader.read(into);
+        if let Some(settled) = settled(answer, false, faults) {
+            return settled;
+        }
+    }
+    Err(Failed)
+}
+
+// A write, in the same way. To take nothing of a piece that isn't empty is counted too.
+pub(crate) fn write_counted<W: Write>(
+    writer: &mut W,
+    piece: &[u8],
+    faults: &mut u64,
+) -> Result<usize, Failed>
+    ensures bound { WritesAtMost result piece.now }
+    ensures bytes { WriteAppends (W.contents writer.old) (W.contents writer.new) result piece.now }
+    ensures cause { HasCause faults.old faults.new result }
+    ensures takes { TakesOrRose faults.old faults.new result piece.now }
+{
+    for turn in 0..TRIES {
+        let answer = writer.write(piece);
+        if let Some(settled) = settled(answer, !piece.is_empty(), faults) {
+            return settled;
+        }
+    }
+    Err(Failed)
+}
+
 /// A source over a reader. It tells of the bytes what the reader tells: standard input tells nothing.
 #[derive(Drop)]
 pub struct StreamSource<R: Read + Drop> {
@@ -58,13 +99,7 @@ impl<R: Read + Drop> Source for StreamSource<R> {
 
     /// A read that a signal interrupted counts as a fault, and is made again.
     fn read(&mut self, into: &mut [u8]) -> Result<usize, Failed> {
-        for turn in 0..TRIES {
-            let answer = self.reader.read(into);
-            if let Some(settled) = settled(answer, false, &mut self.faults) {
-                return settled;
-            }
-        }
-        Err(Failed)
+        read_counted(&mut self.reader, into, &mut self.faults)
     }
 }
 
@@ -90,12 +125,6 @@ impl<W: Write + Drop> Sink for StreamSink<W> {
 
     /// A write that a signal interrupted counts as a fault, and is made again.
     fn write(&mut self, piece: &[u8]) -> Result<usize, Failed> {
-        for turn in 0..TRIES {
-            let answer = self.writer.write(piece);
-            if let Some(settled) = settled(answer, !piece.is_empty(), &mut self.faults) {
-                return settled;
-            }
-        }
-        Err(Failed)
+        write_counted(&mut self.writer, piece, &mut self.faults)
     }
 }

@@ -5,7 +5,10 @@ use std::alloc::Global;
 use std::collections::VecDeque;
 use std::io;
 use std::io::{ErrorKind, Read, Write};
+use std::net::{OpenStream, TcpListener};
 use std::test::Fail;
+use std::time::Duration;
+use units::Text;
 
 // A reader and writer of std that answers as it is told to: a number of bytes, or an error. With no answer left it
 // answers 0.
@@ -192,5 +195,103 @@ fn words_are_read(rt: HostRuntime) -> Result<(), Fail> {
     let words = read_words(&rt)?;
     tell(&rt, "a line");
     assert!(rt; words.len() < 1_000_000);
+    Ok(())
+}
+
+#[test]
+fn clocks(rt: HostRuntime) -> Result<(), Fail> {
+    let alloc = rt.alloc();
+    let mut scripted = ScriptedClock::new(vec![in alloc; 5, 7]?, vec![in alloc; 9]?);
+    for (reading, word) in [(5, 9), (7, 9), (7, 9)] {
+        assert_eq!(rt; scripted.now(), reading);
+        assert_eq!(rt; scripted.word(), word);
+    }
+    let mut system = SystemClock::new(rt);
+    let (before, word) = (system.now(), system.word());
+    // A moment in 2020, and two words that are one word in 2^64 runs.
+    assert!(rt; before > 1_577_836_800_000);
+    assert!(rt; word != system.word());
+    Ok(())
+}
+
+// Writes over a connection, takes one byte from it, and hands it back. Whether it could be dialed.
+fn talk<D: Dialer>(dialer: &mut D, host: &Text) -> Result<bool, Fail> {
+    let mut link = match dialer.dial(host, host) {
+        Ok(link) => link,
+        Err(DialError::Failed) => return Ok(false),
+        Err(DialError::NoMemory) => return Err(Fail::from("no memory")),
+    };
+    let _ = write_link(&mut link, b"hello");
+    let _ = link.read(&mut [0u8; 1]);
+    dialer.hang_up(link);
+    Ok(true)
+}
+
+#[test]
+fn dialers(rt: HostRuntime) -> Result<(), Fail> {
+    let alloc = rt.alloc();
+    let host = Text::of(alloc, b"h")?;
+    let mut planned = VecDeque::new(alloc);
+    for failing in [9, 0, 1] {
+        planned.push_back(Plan {
+            input: b"a".to_vec(alloc)?,
+            failing_reads: vec![in alloc; failing]?,
+            failing_writes: vec![in alloc; failing]?,
+            most: 3,
+        })?;
+    }
+    let mut dialer = FailingDialer::new(alloc, planned, vec![in alloc; 1]?);
+    let wanted: [Option<&[u8]>; 5] = [Some(b"hello"), None, Some(b""), Some(b"hel"), None];
+    for took in wanted {
+        assert_eq!(rt; talk(&mut dialer, &host)?, took.is_some());
+        let link = dialer.latest().and_then(|talk| talk.link.as_ref());
+        assert!(rt; link.map(|link| link.took()) == took);
+    }
+    let mut planned = VecDeque::new(alloc);
+    planned.push_back(b"a".to_vec(alloc)?)?;
+    let mut dialer = UnfailingDialer::new(alloc, planned, 4);
+    for _ in 0..2 {
+        assert!(rt; talk(&mut dialer, &host)?);
+        assert!(rt; dialer.latest().map(|link| link.bytes()) == Some(b"hell".as_slice()));
+    }
+    Ok(())
+}
+
+#[test]
+fn a_connection_over_tcp(rt: HostRuntime) -> Result<(), Fail> {
+    let alloc = rt.alloc();
+    let listener = TcpListener::bind(&rt, "127.0.0.1:0")?;
+    let port = format!(in alloc; "{}", listener.local_addr()?.port())?;
+    let (host, port) = (
+        Text::of(alloc, b"127.0.0.1")?,
+        Text::of(alloc, port.as_bytes())?,
+    );
+    let mut dialer = TcpDialer::new(rt);
+    let mut link = dialer.dial(&host, &port)?;
+    assert!(rt; link.stream.nodelay()?);
+    assert!(rt; link.stream.read_timeout()? == Some(Duration::from_secs(60)));
+    assert!(rt; link.stream.write_timeout()? == Some(Duration::from_secs(60)));
+    let (stream, _) = listener.accept()?;
+    let mut other = TcpLink::new(stream, Peer::Accepted([127, 0, 0, 1]));
+    let mut room = [0u8; 8];
+    assert!(rt; write_link(&mut link, b"ping").is_ok());
+    assert!(rt; other.read(&mut room) == Ok(4));
+    assert!(rt; write_link(&mut other, b"pong!").is_ok());
+    other.shut();
+    assert!(rt; link.read(&mut room) == Ok(5));
+    assert!(rt; link.read(&mut room) == Ok(0));
+    assert!(rt; room.starts_with(b"pong!"));
+    drop(other);
+    // Nobody reads any more: a write fails and is counted, and the program goes on.
+    for _ in 0..100 {
+        if link.write(b"x").is_err() {
+            break;
+        }
+    }
+    assert!(rt; (link.read_faults, link.write_faults) == (0, 1));
+    dialer.hang_up(link);
+    drop(listener);
+    assert!(rt; dialer.dial(&host, &port).is_err());
+    assert!(rt; (dialer.dial_faults, dialer.write_faults) == (1, 1));
     Ok(())
 }

@@ -1,5 +1,5 @@
 -- What a room got is the front of what was left, and the rest is left behind it.
-use Rattle.std.proofs.Common.{◌≡◌, ◌+◌, List, ℕ, ◌++◌, take, drop, sym, ◌∙◌, ap}
+use Rattle.std.proofs.Common.{List, ℕ, ◌++◌, take, drop, sym, ◌∙◌, ap}
 use Rattle.std.proofs.Math.Seq.{take-add}
 use Rattle.std.proofs.lemmas.List.{take-append-drop, drop-drop}
 use Rattle.wire.proofs.failing_link.give.Goals as goal

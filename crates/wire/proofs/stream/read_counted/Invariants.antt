@@ -2,11 +2,11 @@
 use Rattle.std.proofs.Common.{◌≤◌, ◌<◌}
 use Rattle.std.specs.Io.KnownBytes.{Keeps}
 use Rattle.wire.specs.Causes.{Rose}
-use Rattle.wire.proofs.stream.StreamSourceSource.read.Given as goal
+use Rattle.wire.proofs.stream.read_counted.Given as goal
 
 abbrev pub invariant-loop-turn : goal.invariant-loop-turn
 invariant-loop-turn g l = record {
-  later : l.fn.self.faults ≤ l.self.faults;
-  rose : 0 < l.turn → Rose l.fn.self.faults l.self.faults;
-  kept : Keeps (g.R.Read.remaining l.fn.self.reader) (g.R.Read.remaining l.self.reader);
+  later : l.fn.faults ≤ l.faults;
+  rose : 0 < l.turn → Rose l.fn.faults l.faults;
+  kept : Keeps (g.R.Read.remaining l.fn.reader) (g.R.Read.remaining l.reader);
 }

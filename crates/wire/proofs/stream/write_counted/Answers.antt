@@ -1,7 +1,7 @@
 use Rattle.std.proofs.Common.{arith}
 use Rattle.std.proofs.KnownBytes.{Keeps-trans}
 use Rattle.wire.proofs.Settling.{cause_of, rose_again, write_again}
-use Rattle.wire.proofs.stream.StreamSinkSink.write.Goals as goal
+use Rattle.wire.proofs.stream.write_counted.Goals as goal
 
 pub returns-in-Some-clause-cause : goal.returns-in-Some-clause-cause
 returns-in-Some-clause-cause g c = cause_of c.write-answer.result _ c.in-Some.settled _ _ _ c.loop-turn.invariant.later c.in-Some.ensures.later c.in-Some.ensures.settles
