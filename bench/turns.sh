@@ -1,8 +1,10 @@
 #!/usr/bin/env bash
-# Turns of one lock per second by 1, 2, 4, 8 and 16 threads, the best of five runs each, as a ratio to one thread: bare
-# turns, in which a number is written down and nothing more, and turns with some microseconds of work in each. The time
-# that a run of no turns takes is taken off. Run it at the top of the repository. The program is built and proved first
-# where it isn't there yet.
+# Turns of one lock per second by 1, 2, 4, 8 and 16 threads, the best of five runs each: bare turns, in which a number is
+# written down and nothing more, and turns with some microseconds of work in each. Each rate stands beside two ratios: to
+# one thread, which shows what it costs that turns go from processor to processor, and, where there are more threads than
+# processors, to as many threads as processors, which shows what sleeping and waking costs and is to be a half at least.
+# The time that a run of no turns takes is taken off. Run it at the top of the repository. The program is built and proved
+# first where it isn't there yet.
 . "$(dirname "$0")/prepare.sh"
 prepare turns
 python3 - "$program" <<'PY'
@@ -23,10 +25,12 @@ def best(threads, turns, work):
 
 print('%d processors' % os.cpu_count())
 for work, turns in ((0, 1 << 20), (100, 1 << 16)):
-    alone = None
+    alone, full = None, None
     for threads in THREADS:
         rate = turns / (best(threads, turns, work) - best(threads, 0, work))
         alone = rate if alone is None else alone
+        full = (threads, rate) if threads <= os.cpu_count() else full
         kind = 'bare turns' if work == 0 else 'turns with work (%d)' % work
-        print('%-22s %2d threads   %10.0f turns/s   %5.2f times one thread' % (kind, threads, rate, rate / alone))
+        more = '' if threads <= os.cpu_count() else ', %5.2f times %d threads' % (rate / full[1], full[0])
+        print('%-22s %2d threads   %10.0f turns/s   %5.2f times one thread%s' % (kind, threads, rate, rate / alone, more))
 PY

@@ -33,7 +33,7 @@ impl Chronicle for Visits {
 
     ghost Sound = { λ _. Unit {0} };
 
-    ghost closed = { λ token entries. nat_lt token (length entries) };
+    ghost closed = { λ _ token entries. nat_lt token (length entries) };
 
     fn is_closed(&self, token: u64) -> bool {
         token < self.callers.len() as u64

@@ -1,4 +1,4 @@
-mod Places
+pub mod Places
 mod Moves
 mod Tickets
 mod Turning

@@ -21,10 +21,10 @@ pub trait Chronicle: Sized {
     /// What is true of the value whenever nobody has a turn.
     ghost Sound: { Self → Type 0 };
 
-    /// Whether nobody works on what the token stands for any more, as the history tells.
-    ghost closed: { ℕ → List Self.Entry → Bool };
+    /// Whether nobody works on what the token stands for any more, as the setting and the history tell.
+    ghost closed: { Self.Setting → ℕ → List Self.Entry → Bool };
 
     /// Whether the token is closed.
     fn is_closed(&self, token: u64) -> bool
-        ensures { result ≡ closed token (history self.now) };
+        ensures { result ≡ closed (setting self.now) token (history self.now) };
 }

@@ -167,6 +167,18 @@ impl<T: Chronicle> Turnstile<T> {
         self.news.ring_all();
     }
 
+    /// Gives the turn back without an entry. No token can have closed, so nobody who waits for one is woken.
+    pub fn pass_by(&self, pass: &mut Pass<T::Entry, T::Setting>, held: Held<T>)
+        requires held { IsHeldOf self.now held × ((held_known held).number ≡ number_of pass.old) }
+        requires history { T.history held.value ≡ (held_known held).seen }
+        requires setting { (held_known held).setting ≡ Some (T.setting held.value) }
+        requires sound { T.Sound held.value }
+        ensures pass { IsPassOf self.now pass.new × (known pass.new ≡ held_known held) }
+        ensures number { number_of pass.new ≡ number_of pass.old }
+    {
+        self.pass_on(pass, held);
+    }
+
     /// Waits for a turn in which the token is closed. Where it isn't yet, the turn is passed on, with nothing done, and
     /// the next one taken after another thread has had one.
     pub fn turn_when<R: Wait>(
@@ -181,7 +193,7 @@ impl<T: Chronicle> Turnstile<T> {
         ensures history { Meets T.caller (known pass.old) (T.history result.value) }
         ensures setting { (known pass.old).setting ≡ Some (T.setting result.value) }
         ensures sound { T.Sound result.value }
-        ensures closed { T.closed token (T.history result.value) ≡ true }
+        ensures closed { T.closed (T.setting result.value) token (T.history result.value) ≡ true }
     {
         'turns: for _ in rt.forever() {
             let held = self.turn(rt, pass);
