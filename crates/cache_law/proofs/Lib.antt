@@ -1,5 +1,12 @@
+pub mod BanLemmas
+pub mod WaitingBans
 pub mod Growth
 pub mod Histories
 pub mod Lawful
+pub mod Leaves
 pub mod Moments
+pub mod Numbers
 pub mod Reserve
+pub mod Serving
+pub mod Values
+pub mod Waits

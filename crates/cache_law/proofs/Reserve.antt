@@ -1,22 +1,23 @@
 -- What is reserved serves the closing of what is open.
-use Rattle.std.proofs.Common.{◌≡◌, ℕ, Bool, true, false, not, cond, List, [], ◌∷◌, ◌+◌, ◌*◌, ◌≤◌, inl, inr, ◌||◌, ◌&&◌, ◌==◌, length, filter, refl, arith, sym, ap, subst}
+use Rattle.std.proofs.Common.{◌≡◌, ℕ, Bool, true, false, not, cond, List, [], ◌∷◌, ◌+◌, ◌*◌, ◌≤◌, inl, inr, ◌||◌, ◌&&◌, ◌==◌, Option, length, filter, refl, arith, sym, ap, subst}
 use Rattle.std.specs.List.{list_any}
 use Rattle.std.proofs.lemmas.Bool.{cases_Bool, cond-false, true≢false, false≢true, and_parts}
 use Rattle.cache_law.specs.declared.object.Object.{Object}
 use Rattle.cache_law.specs.declared.call.Call.{Call}
-use Rattle.cache_law.specs.declared.call.Call.TheVariants.{Begin, Lookup, Pick, Insert, End}
+use Rattle.cache_law.specs.declared.call.Call.TheVariants.{Insert, Drop, End}
 use Rattle.cache_law.specs.declared.call.Reply.{Reply}
-use Rattle.cache_law.specs.declared.call.Reply.TheVariants.{NoRound, NotOpen, NotInTime, NoRoom, Ended}
+use Rattle.cache_law.specs.declared.call.Reply.TheVariants.{NoRound, NotOpen, Dropped, Ended}
 use Rattle.cache_law.specs.declared.call.Entry.{Entry}
 use Rattle.cache_law.specs.declared.state.OpenRound.{OpenRound}
 use Rattle.cache_law.specs.declared.state.OpenFetch.{OpenFetch}
 use Rattle.cache_law.specs.State.{State, at_moment, reserve, has_round, has_fetch, without_fetch, without_round_of}
 use Rattle.cache_law.specs.Beginning.{Beginning}
-use Rattle.cache_law.specs.Law.{step_of, leaving, closing, stored, after, MayAnswer}
+use Rattle.cache_law.specs.Law.{Step, step_of, leaving, closing, inserted, after, MayAnswer}
 use Rattle.cache_law.specs.History.{bytes_of, bytes_of_all, next_state, reached_from, reached, LegalFrom, Legal}
 use Rattle.cache_law.specs.Core.{FitsBehind}
 use Rattle.cache_law.proofs.Histories.{bytes_of_all-cons}
-use Rattle.cache_law.proofs.Lawful.{after-lawful, not_open}
+use Rattle.cache_law.proofs.Lawful.{after-lawful}
+use Rattle.cache_law.proofs.Leaves.{inserted_leaf}
 
 -- an element more or not
 kept_or_not : {X : Type 0} (b : Bool) (x : X) (ys : List X) → length (cond b (x ∷ ys) ys) ≤ length ys + 1
@@ -56,34 +57,31 @@ pub length-without_fetch : (fetches : List OpenFetch) (caller token : ℕ) → h
 length-without_fetch fetches caller token any =
     length-filter_not (λ (fetch : OpenFetch). (fetch.token == token) && (fetch.caller == caller)) (λ (fetch : OpenFetch). not (fetch.token == token)) (λ fetch e. not_of _ (and_parts _ _ e).0) fetches any
 
--- whatever the law answers to it, an insertion of an open fetch closes it
-pub reserve-inserted : (room : ℕ) (state : State) (caller token : ℕ) (object : Object) (opened lives full : Bool) → reserve (cond opened (cond lives (cond full (closing token state NoRoom) (stored state token object)) (closing token state NotInTime)) (leaving state NotOpen)).state ≡ 64 * (length state.rounds + cond opened (length (without_fetch token state.fetches)) (length state.fetches))
-reserve-inserted room state caller token object false lives full = refl
-reserve-inserted room state caller token object true false full = refl
-reserve-inserted room state caller token object true true false = refl
-reserve-inserted room state caller token object true true true = refl
+-- closing a fetch leaves less to be reserved
+less_reserved : (state : State) (token : ℕ) → 64 * (length state.rounds + length (without_fetch token state.fetches)) ≤ reserve state
+less_reserved state token = omega (arith, length-filter-le (λ (fetch : OpenFetch). not (fetch.token == token)) state.fetches)
 
-refused_by_cases : (state : State) (token : ℕ) (opened : Bool) (kept : ℕ) → opened ≡ true → kept ≡ 64 * (length state.rounds + cond opened (length (without_fetch token state.fetches)) (length state.fetches)) → 64 * (length state.rounds + length (without_fetch token state.fetches)) ≤ kept
-refused_by_cases state token true kept e same = omega (arith, same)
-refused_by_cases state token false kept e same = absurd (false≢true e)
+-- a refused insertion leaves no more to be reserved than the law's answer
+pub refused_reserves : (room : ℕ) (state : State) (caller token : ℕ) (object : Object) (stale : Option ℕ) → 64 * (length state.rounds + length (without_fetch token state.fetches)) ≤ reserve (inserted room state caller token object stale).state
+refused_reserves room state caller token object stale =
+    inserted_leaf (λ (step : Step). 64 * (length state.rounds + length (without_fetch token state.fetches)) ≤ reserve step.state) room state caller token object stale (record {
+      opens_not = less_reserved state token;
+      gone = less_reserved state token;
+      late = omega arith;
+      full = omega arith;
+      stores = omega arith;
+    })
+
+by_law : (beginning : Beginning) (state : State) (caller moment : ℕ) (call : Call) (answer : Reply) → answer ≡ (step_of beginning state caller moment call).reply → reserve (after beginning state caller moment call answer) ≤ reserve (step_of beginning state caller moment call).state
+by_law beginning state caller moment call answer e = omega (arith, ap reserve (after-lawful beginning state caller moment call answer e))
 
 -- what is reserved after an answer is at most what is reserved after the law's
 pub reserve-after : (beginning : Beginning) (state : State) (caller moment : ℕ) (call : Call) (answer : Reply) → MayAnswer (at_moment moment state) call (step_of beginning state caller moment call).reply answer → reserve (after beginning state caller moment call answer) ≤ reserve (step_of beginning state caller moment call).state
-reserve-after beginning state caller moment Begin answer may =
-    omega (arith, ap reserve (after-lawful beginning state caller moment Begin answer may))
-reserve-after beginning state caller moment (Lookup query) answer may =
-    omega (arith, ap reserve (after-lawful beginning state caller moment (Lookup query) answer may))
-reserve-after beginning state caller moment (Pick vcl target word) answer may =
-    omega (arith, ap reserve (after-lawful beginning state caller moment (Pick vcl target word) answer may))
-reserve-after beginning state caller moment (Insert token object) answer (inl lawful) =
-    omega (arith, ap reserve (after-lawful beginning state caller moment (Insert token object) answer lawful))
-reserve-after beginning state caller moment (Insert token object) answer (inr free) =
-    let opened = not_open beginning.params.room (at_moment moment state) caller token object (has_fetch state.fetches caller token) _ free.1 in
-    let least = refused_by_cases (at_moment moment state) token (has_fetch state.fetches caller token) _ opened
-    (reserve-inserted beginning.params.room (at_moment moment state) caller token object (has_fetch state.fetches caller token) _ _) in
-    subst (λ (r : Reply). reserve (after beginning state caller moment (Insert token object) r) ≤ reserve (step_of beginning state caller moment (Insert token object)).state) (sym free.0) least
-reserve-after beginning state caller moment End answer may =
-    omega (arith, ap reserve (after-lawful beginning state caller moment End answer may))
+reserve-after beginning state caller moment (Insert token object stale) answer (inl lawful) = by_law beginning state caller moment (Insert token object stale) answer lawful
+reserve-after beginning state caller moment (Insert token object stale) answer (inr free) =
+    subst (λ (r : Reply). reserve (after beginning state caller moment (Insert token object stale) r) ≤ reserve (step_of beginning state caller moment (Insert token object stale)).state) (sym free.0)
+    (refused_reserves beginning.params.room (at_moment moment state) caller token object stale)
+reserve-after beginning state caller moment call answer may = by_law beginning state caller moment call answer may
 
 -- a legal history leaves room for the closing of what is open
 pub within_from : (beginning : Beginning) (state : State) (used : ℕ) (entries : List Entry) → LegalFrom beginning state used entries → used + reserve state ≤ beginning.params.history → used + bytes_of_all entries + reserve (reached_from beginning state entries) ≤ beginning.params.history
@@ -108,3 +106,13 @@ ending_takes state caller false same yes_ = absurd (false≢true yes_)
 pub ending_fits : (beginning : Beginning) (entries : List Entry) (caller moment : ℕ) → Legal beginning entries → has_round (reached beginning entries).rounds caller ≡ true → FitsBehind beginning entries caller moment End
 ending_fits beginning entries caller moment legal opened =
     record { within = omega (arith, within beginning entries legal, ending_takes (at_moment moment (reached beginning entries)) caller _ refl opened) }
+
+-- the drop of an open fetch takes what is reserved for it
+pub dropping_takes : (state : State) (caller token : ℕ) (open_ : Bool) → open_ ≡ has_fetch state.fetches caller token → open_ ≡ true → reserve (cond open_ (closing token state Dropped) (leaving state NotOpen)).state + 64 ≤ reserve state
+dropping_takes state caller token true same yes_ = omega (arith, length-without_fetch state.fetches caller token (sym same))
+dropping_takes state caller token false same yes_ = absurd (false≢true yes_)
+
+-- in a legal history the drop of an open fetch of its caller fits
+pub dropping_fits : (beginning : Beginning) (entries : List Entry) (caller moment token : ℕ) → Legal beginning entries → has_fetch (reached beginning entries).fetches caller token ≡ true → FitsBehind beginning entries caller moment (Drop token)
+dropping_fits beginning entries caller moment token legal opened =
+    record { within = omega (arith, within beginning entries legal, dropping_takes (at_moment moment (reached beginning entries)) caller token _ refl opened) }

@@ -1,5 +1,5 @@
 -- Where a history begins.
-use Rattle.std.specs.Prelude.{[]}
+use Rattle.std.specs.Prelude.{[], codes}
 use Rattle.cache_law.specs.declared.setting.Params.{Params}
 use Rattle.cache_law.specs.declared.setting.Boot.{Boot}
 use Rattle.cache_law.specs.State.{State}
@@ -9,13 +9,16 @@ pub record Beginning : Type 0 where
   pub params : Params
   pub base : State
 
--- a run's first state: nothing is stored or open, and the opening VCL, number 1, is active
+-- a run's first state: nothing is stored or open, and the opening VCL, number 1 and named `boot`, is active
 abbrev pub base_of : Boot → State
 base_of boot =
     record {
       moment = 0;
       next = 1;
-      active = record { number = 1; text = boot.text; backends = boot.backends };
+      active = record { number = 1; name = codes "boot"; text = boot.text; backends = boot.backends };
+      others = [];
+      counters = [];
+      health = [];
       bans = [];
       objects = [];
       fetches = [];

@@ -1,9 +1,13 @@
 -- What one call does to the history of a cache.
-use Rattle.std.specs.Prelude.{◌≡◌, ℕ, Bool, false, List, [], ◌∷◌, ◌++◌, max, length}
+use Rattle.std.specs.Prelude.{◌≡◌, ℕ, Bool, true, false, List, [], ◌∷◌, ◌++◌, max, length}
+use Rattle.cache_law.specs.declared.object.Object.{Object}
+use Rattle.cache_law.specs.declared.call.Query.{Query}
 use Rattle.cache_law.specs.declared.call.Call.{Call}
-use Rattle.cache_law.specs.declared.call.Call.TheVariants.{Insert, End}
+use Rattle.cache_law.specs.declared.call.Call.TheVariants.{Insert, Drop, End}
 use Rattle.cache_law.specs.declared.call.Entry.{Entry}
 use Rattle.cache_law.specs.declared.cache.Told.{Told}
+use Rattle.cache_law.specs.Object.{in_time}
+use Rattle.cache_law.specs.Lookup.{matches, is_fresh}
 use Rattle.cache_law.specs.State.{State, has_round, has_fetch}
 use Rattle.cache_law.specs.Beginning.{Beginning}
 use Rattle.cache_law.specs.History.{Fits, Follows, reached, bytes_of_all}
@@ -28,8 +32,15 @@ pub record Entered (beginning : Beginning) (old new : List Entry) (caller readin
   pub follows : Follows beginning (reached beginning old) (entry_of caller call told)
   pub fits : FitsBehind beginning old caller told.moment call
 
--- the calls for which memory is kept: the end of an open round, and the insertion of an open fetch
+-- the calls for which memory is kept: the end of an open round, and the insertion and the drop of an open fetch
 abbrev pub is_kept : State → ℕ → Call → Bool
-is_kept state caller (Insert token object) = has_fetch state.fetches caller token
+is_kept state caller (Insert token object stale) = has_fetch state.fetches caller token
+is_kept state caller (Drop token) = has_fetch state.fetches caller token
 is_kept state caller End = has_round state.rounds caller
 is_kept state caller call = false
+
+-- the object may answer the lookup at the moment: it is in time, matches the request, and is fresh for it
+pub record Serves (moment : ℕ) (query : Query) (object : Object) : Type 0 where
+  pub lives : in_time moment object ≡ true
+  pub suits : matches query object ≡ true
+  pub fresh : is_fresh moment query.options object ≡ true

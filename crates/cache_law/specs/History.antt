@@ -1,20 +1,21 @@
 -- Histories: what an entry takes, which entry may follow, and what a whole history owes.
-use Rattle.std.specs.Prelude.{ℕ, List, [], ◌∷◌, ◌+◌, ◌≤◌, length, sum_by}
+use Rattle.std.specs.Prelude.{◌≡◌, ℕ, None, List, [], ◌∷◌, ◌+◌, ◌≤◌, length, sum_by}
 use Rattle.cache_law.specs.declared.call.Call.{Call}
-use Rattle.cache_law.specs.declared.call.Call.TheVariants.{Begin, Lookup, Pick, Insert, End}
+use Rattle.cache_law.specs.declared.call.Call.TheVariants.{Begin, Draw, Lookup, Pick, Insert, Drop, End}
 use Rattle.cache_law.specs.declared.call.Entry.{Entry}
-use Rattle.cache_law.specs.Object.{texts_len, fields_len}
-use Rattle.cache_law.specs.State.{State, at_moment, reserve}
+use Rattle.cache_law.specs.Object.{texts_len, fields_len, object_len}
+use Rattle.cache_law.specs.State.{State, at_moment, awaits, reserve}
 use Rattle.cache_law.specs.Beginning.{Beginning}
 use Rattle.cache_law.specs.Law.{step_of, after, MayAnswer}
 
 -- the texts of a call
 abbrev pub call_len : Call → ℕ
 call_len Begin = 0
+call_len Draw = 0
 call_len (Lookup query) = texts_len query.key + length query.request.url + fields_len query.request.fields
 call_len (Pick vcl target word) = length target
-call_len (Insert token object) =
-    texts_len object.key + length object.reason + fields_len object.fields + length object.body
+call_len (Insert token object stale) = object_len object
+call_len (Drop token) = 0
 call_len End = 0
 
 -- what the entry of a call takes: 64 bytes, and the texts of the call
@@ -29,9 +30,15 @@ bytes_of_all entries = sum_by (λ entry. bytes_of entry.call) entries
 pub record Fits (beginning : Beginning) (state : State) (used caller moment : ℕ) (call : Call) : Type 0 where
   pub within : used + bytes_of call + reserve (step_of beginning state caller moment call).state ≤ beginning.params.history
 
--- the entry may come next: no moment goes back, and the call may be answered so
+-- a lookup comes only where its caller waits for nothing
+abbrev pub HasWaited : State → ℕ → Call → Type 0
+HasWaited state caller (Lookup query) = awaits state caller ≡ None
+HasWaited state caller call = Unit {0}
+
+-- the entry may come next: no moment goes back, its caller waits for nothing, and the call may be answered so
 pub record Follows (beginning : Beginning) (state : State) (entry : Entry) : Type 0 where
   pub no_earlier : state.moment ≤ entry.moment
+  pub waited : HasWaited state entry.caller entry.call
   pub answer : MayAnswer (at_moment entry.moment state) entry.call (step_of beginning state entry.caller entry.moment entry.call).reply entry.reply
 
 abbrev pub next_state : Beginning → State → Entry → State

@@ -1,16 +1,17 @@
 -- What each call answers together with the state that it leaves, and what may be answered in its place.
 use Rattle.std.specs.Prelude.{◌≡◌, ◌≢◌, ◌⊎◌, ℕ, List, ◌∷◌, ◌+◌, Option, Some, None, nat_lt, if◌then◌else◌}
 use Rattle.cache_law.specs.declared.object.Object.{Object}
+use Rattle.cache_law.specs.declared.object.Object.TheVariants.{Ordinary, HitForMiss, HitForPass}
 use Rattle.cache_law.specs.declared.object.ObjectView.{ObjectView}
 use Rattle.cache_law.specs.declared.call.Query.{Query}
 use Rattle.cache_law.specs.declared.call.Call.{Call}
-use Rattle.cache_law.specs.declared.call.Call.TheVariants.{Begin, Lookup, Pick, Insert, End}
+use Rattle.cache_law.specs.declared.call.Call.TheVariants.{Begin, Draw, Lookup, Pick, Insert, Drop, End}
 use Rattle.cache_law.specs.declared.call.Reply.{Reply}
-use Rattle.cache_law.specs.declared.call.Reply.TheVariants.{Began, NoRound, Hit, Miss, Picked, Stored, NotOpen, NotInTime, NoRoom, Refused, Ended}
+use Rattle.cache_law.specs.declared.call.Reply.TheVariants.{Began, NoRound, Drawn, Hit, HitMiss, HitPass, Grace, Wait, Miss, Picked, Stored, NotOpen, StaleGone, NotInTime, NoRoom, Refused, Dropped, Ended}
 use Rattle.cache_law.specs.Object.{in_time, size_of}
-use Rattle.cache_law.specs.State.{State, Held, at_moment, has_round, has_fetch, without_fetch, without_fetches_of, without_round_of, stored_over, sizes_of}
+use Rattle.cache_law.specs.State.{State, Held, at_moment, has_round, has_fetch, least_token, with_wait, without_fetch, without_fetches_of, without_round_of, is_gone, without_stale, stored_over, sizes_of}
 use Rattle.cache_law.specs.Beginning.{Beginning}
-use Rattle.cache_law.specs.Lookup.{Scan, scanned}
+use Rattle.cache_law.specs.Lookup.{Scan, scanned, raised, counted}
 
 -- a reply, and the state behind it
 pub record Step : Type 0 where
@@ -21,6 +22,10 @@ pub record Step : Type 0 where
 abbrev pub leaving : State → Reply → Step
 leaving state reply = record { reply = reply; state = state }
 
+-- in the caller's open round; without one there is nothing to answer
+abbrev pub in_round : State → ℕ → Step → Step
+in_round state caller step = if has_round state.rounds caller then step else leaving state NoRound
+
 -- Begin draws the round's number, and the round runs under the active VCL.
 abbrev pub begun : State → ℕ → Step
 begun state caller =
@@ -30,73 +35,133 @@ begun state caller =
       reply = Began state.next state.active.number state.active.text;
       state = record state {
         next = state.next + 1;
-        rounds = record { caller = caller; vcl = state.active.number } ∷ state.rounds;
+        rounds = record { caller = caller; vcl = state.active.number; waits = None } ∷ state.rounds;
       };
     }
 
--- A miss draws a number and opens a fetch of the key.
-abbrev pub missed : State → ℕ → List (List ℕ) → Step
-missed state caller key =
-    record {
-      reply = Miss state.next;
-      state = record state {
-        next = state.next + 1;
-        fetches = record { token = state.next; caller = caller; key = key } ∷ state.fetches;
-      };
+-- Draw draws a number.
+abbrev pub drawn : State → ℕ → Step
+drawn state caller = in_round state caller (record { reply = Drawn state.next; state = record state { next = state.next + 1 } })
+
+-- A token draws the next number, and opens a fetch of the key for the caller.
+abbrev pub fetching : State → ℕ → List (List ℕ) → State
+fetching state caller key =
+    record state {
+      next = state.next + 1;
+      fetches = record { token = state.next; caller = caller; key = key } ∷ state.fetches;
     }
 
--- what a lookup's scan leads to, in the state with the objects that it left
-abbrev pub found : State → ℕ → List (List ℕ) → Option ObjectView → Step
-found state caller key None = missed state caller key
-found state caller key (Some view) = leaving state (Hit view)
+abbrev pub missed : State → ℕ → List (List ℕ) → Option ObjectView → Step
+missed state caller key stale = record { reply = Miss state.next stale; state = fetching state caller key }
 
-abbrev pub found_by : State → ℕ → List (List ℕ) → Scan Held → Step
-found_by state caller key scan = found (record state { objects = scan.objects }) caller key scan.fresh
+-- the object's hit is counted
+abbrev pub with_hit : State → ObjectView → State
+with_hit state view = record state { objects = counted view.number state.objects }
+
+-- what an object gives that is fresh: itself, or what it is a marker of
+abbrev pub found_fresh : State → ℕ → List (List ℕ) → ObjectView → Object → Step
+found_fresh state caller key view (Ordinary response) = leaving (with_hit state view) (Hit (raised view))
+found_fresh state caller key view (HitForMiss marker) = record { reply = HitMiss state.next; state = fetching state caller key }
+found_fresh state caller key view (HitForPass marker) = leaving state HitPass
+
+-- An object in grace is given, with a token exactly where no fetch of the key is open.
+abbrev pub found_grace : State → ℕ → List (List ℕ) → ObjectView → Option ℕ → Step
+found_grace state caller key view None =
+    record { reply = Grace (raised view) (Some state.next); state = fetching (with_hit state view) caller key }
+found_grace state caller key view (Some open_) = leaving (with_hit state view) (Grace (raised view) None)
+
+-- With no object to give, an open fetch of the key is waited for: that of the least token.
+abbrev pub waited_or_missed : State → ℕ → List (List ℕ) → Option ObjectView → Option ℕ → Step
+waited_or_missed state caller key stale None = missed state caller key stale
+waited_or_missed state caller key stale (Some token) = leaving state (Wait token)
+
+-- the fetch to wait for, unless the lookup ignores open ones
+abbrev pub busy : Query → Option ℕ → Option ℕ
+busy query token = if query.options.ignore_busy then None else token
+
+-- without a fresh object
+abbrev pub found_other : State → ℕ → Query → Option ObjectView → Option ObjectView → Step
+found_other state caller query (Some view) stale = found_grace state caller query.key view (least_token query.key state.fetches)
+found_other state caller query None stale = waited_or_missed state caller query.key stale (busy query (least_token query.key state.fetches))
+
+-- what a scan leads to: its fresh object comes first, then the one in grace
+abbrev pub found : State → ℕ → Query → Option ObjectView → Option ObjectView → Option ObjectView → Step
+found state caller query (Some view) grace stale = found_fresh state caller query.key view view.object
+found state caller query None grace stale = found_other state caller query grace stale
+
+abbrev pub found_by : State → ℕ → Query → Scan Held → Step
+found_by state caller query scan = found (record state { objects = scan.objects }) caller query scan.fresh scan.grace scan.stale
+
+-- what a lookup gives in an open round; with always_miss no object is looked at
+abbrev pub sought : State → ℕ → Query → Step
+sought state caller query =
+    if query.options.always_miss
+    then missed state caller query.key None
+    else found_by state caller query (scanned state.moment query state.objects)
+
+-- the token that a reply tells its caller to wait for
+abbrev pub wait_in : Reply → Option ℕ
+wait_in (Wait token) = Some token
+wait_in reply = None
+
+-- the caller's round remembers whether its newest lookup was told to wait
+abbrev pub remembered : ℕ → Step → Step
+remembered caller step =
+    record { reply = step.reply; state = record step.state { rounds = with_wait caller (wait_in step.reply) step.state.rounds } }
 
 abbrev pub looked_up : State → ℕ → Query → Step
-looked_up state caller query =
-    if has_round state.rounds caller
-    then found_by state caller query.key (scanned state.moment query state.objects)
-    else leaving state NoRound
+looked_up state caller query = in_round state caller (remembered caller (sought state caller query))
 
 -- the reply closes the fetch
 abbrev pub closing : ℕ → State → Reply → Step
 closing token state reply = record { reply = reply; state = record state { fetches = without_fetch token state.fetches } }
 
--- the object stands first, and its fetch is closed
-abbrev pub stored : State → ℕ → Object → Step
-stored state token object = closing token (record state { objects = stored_over token object state.objects }) (Stored token)
+-- the object stands first, in the stale one's place, and its fetch is closed
+abbrev pub stored : State → ℕ → Object → Option ℕ → Step
+stored state token object stale = closing token (record state { objects = stored_over token object stale state.objects }) (Stored token)
 
--- an insertion of an open fetch: the object has to be in time, and its size to find room beside the others'
-abbrev pub placed : ℕ → State → ℕ → Object → Step
-placed room state token object =
+-- the object has to be in time, and its size to find room beside those that stay
+abbrev pub placed : ℕ → State → ℕ → Object → Option ℕ → Step
+placed room state token object stale =
     if in_time state.moment object
-    then (if nat_lt room (sizes_of state.objects + size_of object) then closing token state NoRoom else stored state token object)
+    then (if nat_lt room (sizes_of (without_stale stale state.objects) + size_of object)
+    then closing token state NoRoom
+    else stored state token object stale)
     else closing token state NotInTime
 
-abbrev pub inserted : ℕ → State → ℕ → ℕ → Object → Step
-inserted room state caller token object =
-    if has_fetch state.fetches caller token then placed room state token object else leaving state NotOpen
+-- An insertion of an open fetch; where the stale object is gone, the fetch stays open.
+abbrev pub handed_over : ℕ → State → ℕ → Object → Option ℕ → Step
+handed_over room state token object stale =
+    if is_gone stale state.objects then leaving state StaleGone else placed room state token object stale
+
+abbrev pub inserted : ℕ → State → ℕ → ℕ → Object → Option ℕ → Step
+inserted room state caller token object stale =
+    if has_fetch state.fetches caller token then handed_over room state token object stale else leaving state NotOpen
+
+-- Drop closes the fetch.
+abbrev pub dropped : State → ℕ → ℕ → Step
+dropped state caller token =
+    if has_fetch state.fetches caller token then closing token state Dropped else leaving state NotOpen
 
 -- End closes the caller's round and its fetches.
 abbrev pub ended : State → ℕ → Step
 ended state caller =
-    if has_round state.rounds caller
-    then record {
+    in_round state caller (record {
       reply = Ended;
       state = record state {
         rounds = without_round_of caller state.rounds;
         fetches = without_fetches_of caller state.fetches;
       };
-    }
-    else leaving state NoRound
+    })
 
 -- what the call is answered in a state as it is at the call's moment, with this room for objects
 abbrev pub answered : ℕ → State → ℕ → Call → Step
 answered room state caller Begin = begun state caller
+answered room state caller Draw = drawn state caller
 answered room state caller (Lookup query) = looked_up state caller query
 answered room state caller (Pick vcl target word) = leaving state (Picked (Some target))
-answered room state caller (Insert token object) = inserted room state caller token object
+answered room state caller (Insert token object stale) = inserted room state caller token object stale
+answered room state caller (Drop token) = dropped state caller token
 answered room state caller End = ended state caller
 
 -- what a call of this caller is answered at this moment, and the state behind that
@@ -106,12 +171,12 @@ step_of beginning state caller moment call = answered beginning.params.room (at_
 -- What the cache may answer in this state, as it is at the call's moment, where the law gives this reply: that
 -- reply, or, to an insertion that isn't NotOpen, that memory was wanting.
 abbrev pub MayAnswer : State → Call → Reply → Reply → Type 0
-MayAnswer state (Insert token object) law answer = (answer ≡ law) ⊎ ((answer ≡ Refused) × (law ≢ NotOpen))
+MayAnswer state (Insert token object stale) law answer = (answer ≡ law) ⊎ ((answer ≡ Refused) × (law ≢ NotOpen))
 MayAnswer state call law answer = answer ≡ law
 
 -- the state behind a refused call: the insertion's fetch is closed, and nothing else changes
 abbrev pub refused : State → Call → State
-refused state (Insert token object) = record state { fetches = without_fetch token state.fetches }
+refused state (Insert token object stale) = record state { fetches = without_fetch token state.fetches }
 refused state call = state
 
 -- of two states, that behind a refusal or that behind the law's reply

@@ -1,5 +1,8 @@
 pub mod Object
+pub mod Bans
 pub mod State
+pub mod ShownBans
+pub mod BansAtOnce
 pub mod Beginning
 pub mod Lookup
 pub mod Law

@@ -1,22 +1,16 @@
 -- What a cache holds after some calls, as plain lists, and each change of these lists.
-use Rattle.std.specs.Prelude.{ℕ, Bool, List, [], ◌∷◌, ◌+◌, ◌*◌, ◌==◌, ◌&&◌, not, filter, length, sum_by}
+use Rattle.std.specs.Prelude.{◌≡◌, ℕ, Bool, false, List, [], ◌∷◌, ◌+◌, ◌*◌, ◌==◌, ◌&&◌, Option, Some, None, not, filter, find, fold, map, length, fold, min, sum_by, option_and_then, if◌then◌else◌}
 use Rattle.std.specs.List.{list_any}
+use Rattle.std.specs.Option.{option_map_or}
 use Rattle.cache_law.specs.declared.object.Object.{Object}
 use Rattle.cache_law.specs.declared.object.ObjectView.{ObjectView}
+use Rattle.cache_law.specs.declared.ban.Issued.{Issued}
 use Rattle.cache_law.specs.declared.state.OpenFetch.{OpenFetch}
 use Rattle.cache_law.specs.declared.state.OpenRound.{OpenRound}
 use Rattle.cache_law.specs.declared.state.Vcl.{Vcl}
-use Rattle.cache_law.specs.Object.{in_time, size_of}
-
--- the words of a ban
-pub record Ban : Type 0 where
-  pub words : List (List ℕ)
-
--- a ban that was issued, with its number and the moment of its entry
-pub record Issued : Type 0 where
-  pub number : ℕ
-  pub moment : ℕ
-  pub ban : Ban
+use Rattle.cache_law.specs.declared.state.Counter.{Counter}
+use Rattle.cache_law.specs.declared.state.SetHealth.{SetHealth}
+use Rattle.cache_law.specs.Object.{in_time, size_of, same_texts}
 
 -- a stored object, and the bans that a lookup has still to test it on, newest first
 pub record Held : Type 0 where
@@ -28,12 +22,17 @@ pub record State : Type 0 where
   pub moment : ℕ
   -- the next number to be drawn
   pub next : ℕ
-  -- the VCL that rounds begin under
+  -- the VCL that rounds begin under, and the others
   pub active : Vcl
+  pub others : List Vcl
+  -- what directors have counted, and the health that backends were set to
+  pub counters : List Counter
+  pub health : List SetHealth
   -- all bans that were issued, newest first
   pub bans : List Issued
   -- the objects, newest first
   pub objects : List Held
+  -- the open fetches and rounds, newest first
   pub fetches : List OpenFetch
   pub rounds : List OpenRound
 
@@ -56,9 +55,42 @@ has_round rounds caller = list_any (λ round. round.caller == caller) rounds
 abbrev pub has_fetch : List OpenFetch → ℕ → ℕ → Bool
 has_fetch fetches caller token = list_any (λ fetch. (fetch.token == token) && (fetch.caller == caller)) fetches
 
+-- a fetch of this number is open
+abbrev pub is_open : List OpenFetch → ℕ → Bool
+is_open fetches token = list_any (λ fetch. fetch.token == token) fetches
+
 -- no open fetch has the number
 abbrev pub is_closed : List OpenFetch → ℕ → Bool
-is_closed fetches token = not (list_any (λ fetch. fetch.token == token) fetches)
+is_closed fetches token = not (is_open fetches token)
+
+-- the least of a number and of another that may be there
+abbrev pub least_of : ℕ → Option ℕ → ℕ
+least_of token other = option_map_or (min token) other token
+
+-- the least token that is known, once a fetch is seen that may be of the key
+abbrev pub least_with : List (List ℕ) → Option ℕ → OpenFetch → Option ℕ
+least_with key known fetch = if same_texts fetch.key key then Some (least_of fetch.token known) else known
+
+-- the least token of the open fetches of a key
+abbrev pub least_token : List (List ℕ) → List OpenFetch → Option ℕ
+least_token key fetches = fold (least_with key) None fetches
+
+-- the token that the caller's newest lookup in its open round was told to wait for
+abbrev pub told_to_wait : List OpenRound → ℕ → Option ℕ
+told_to_wait rounds caller = option_and_then (λ round. round.waits) (find (λ round. round.caller == caller) rounds)
+
+-- the same, while that token isn't closed
+abbrev pub awaits : State → ℕ → Option ℕ
+awaits state caller =
+    option_and_then (λ token. if is_open state.fetches token then Some token else None) (told_to_wait state.rounds caller)
+
+-- the round remembers what its caller was told to wait for
+abbrev pub remembering : ℕ → Option ℕ → OpenRound → OpenRound
+remembering caller token round = if round.caller == caller then record round { waits = token } else round
+
+-- the rounds, of which the caller's remembers so
+abbrev pub with_wait : ℕ → Option ℕ → List OpenRound → List OpenRound
+with_wait caller token rounds = map (remembering caller token) rounds
 
 -- the fetches without the one of this number
 abbrev pub without_fetch : ℕ → List OpenFetch → List OpenFetch
@@ -71,10 +103,25 @@ without_fetches_of caller fetches = filter (λ fetch. not (fetch.caller == calle
 abbrev pub without_round_of : ℕ → List OpenRound → List OpenRound
 without_round_of caller rounds = filter (λ round. not (round.caller == caller)) rounds
 
--- the objects with one more before them, under the number of its fetch
-abbrev pub stored_over : ℕ → Object → List Held → List Held
-stored_over token object objects =
-    record { view = record { number = token; hits = 0; object = object }; pending = [] } ∷ objects
+-- a stale object was named, and isn't there any more
+abbrev pub is_gone : Option ℕ → List Held → Bool
+is_gone None objects = false
+is_gone (Some stale) objects = not (list_any (λ held. held.view.number == stale) objects)
+
+-- the objects without the stale one
+abbrev pub without_stale : Option ℕ → List Held → List Held
+without_stale None objects = objects
+without_stale (Some stale) objects = filter (λ held. not (held.view.number == stale)) objects
+
+-- the bans that the stale object has still to be tested on
+abbrev pub inherited : Option ℕ → List Held → List Issued
+inherited None objects = []
+inherited (Some stale) objects = option_map_or (λ held. held.pending) (find (λ held. held.view.number == stale) objects) []
+
+-- the objects with one more before them, under the number of its fetch: it takes the stale one's place
+abbrev pub stored_over : ℕ → Object → Option ℕ → List Held → List Held
+stored_over token object stale objects =
+    record { view = record { number = token; hits = 0; object = object }; pending = inherited stale objects } ∷ without_stale stale objects
 
 -- the sizes of the objects
 abbrev pub sizes_of : List Held → ℕ

@@ -1,9 +1,9 @@
 // What an object takes of the room, and an entry of the history.
-ghost use Rattle.std.specs.Prelude.{◌≡◌, ◌+◌, ◌-◌, ◌^◌, min};
-ghost use Rattle.cache_law.specs.Object.{size_of, texts_len, fields_len};
+ghost use Rattle.std.specs.Prelude.{◌≡◌, ◌+◌, ◌*◌, ◌-◌, ◌^◌, length, min};
+ghost use Rattle.cache_law.specs.Object.{fields_len, object_len, size_of, texts_len, vary_len};
 ghost use Rattle.cache_law.specs.History.{bytes_of};
 
-use crate::{Call, Object};
+use crate::{Call, Content, Marker, Object, Query, VaryItem};
 use http_heads::Field;
 use units::Text;
 
@@ -36,14 +36,73 @@ fn fields_bytes(start: u128, fields: &[Field]) -> u128
     total
 }
 
+/// The names and values by which a response was chosen.
+fn vary_bytes(start: u128, vary: &[VaryItem]) -> u128
+    ensures { result ≡ min (start + vary_len vary.now) (2 ^ 128 - 1) }
+{
+    let mut total = start;
+    for item in vary {
+        total = texts_bytes(plus(total, item.name.bytes().len()), item.values.as_slice());
+    }
+    total
+}
+
+fn content_size(content: &Content) -> u128
+    ensures { result ≡ min (512 + texts_len content.now.key + fields_len content.now.fields + 4 * length content.now.fields + length content.now.body) (2 ^ 128 - 1) }
+{
+    let key = texts_bytes(512, content.key.as_slice());
+    let fields = fields_bytes(key, content.fields.as_slice());
+    let counted = fields.saturating_add(4 * content.fields.as_slice().len() as u128);
+    plus(counted, content.body.bytes().len())
+}
+
 /// What an object takes of the room, or the greatest number of 128 bits where that is less.
 pub fn object_size(object: &Object) -> u128
     ensures { result ≡ min (size_of object.now) (2 ^ 128 - 1) }
 {
-    let key = texts_bytes(512, object.key.as_slice());
-    let fields = fields_bytes(key, object.fields.as_slice());
-    let counted = fields.saturating_add(4 * object.fields.as_slice().len() as u128);
-    plus(counted, object.body.bytes().len())
+    match object {
+        Object::Ordinary(response) => content_size(&response.content),
+        Object::HitForMiss(marker) => texts_bytes(512, marker.key.as_slice()),
+        Object::HitForPass(marker) => texts_bytes(512, marker.key.as_slice()),
+    }
+}
+
+fn content_bytes(content: &Content) -> u128
+    ensures { result ≡ min (64 + (texts_len content.now.key + vary_len content.now.vary + length content.now.reason + fields_len content.now.fields + length content.now.body + texts_len content.now.xkeys)) (2 ^ 128 - 1) }
+{
+    let key = texts_bytes(64, content.key.as_slice());
+    let vary = vary_bytes(key, content.vary.as_slice());
+    let reason = plus(vary, content.reason.bytes().len());
+    let fields = fields_bytes(reason, content.fields.as_slice());
+    let body = plus(fields, content.body.bytes().len());
+    texts_bytes(body, content.xkeys.as_slice())
+}
+
+fn marker_bytes(marker: &Marker) -> u128
+    ensures { result ≡ min (64 + (texts_len marker.now.key + vary_len marker.now.vary)) (2 ^ 128 - 1) }
+{
+    vary_bytes(
+        texts_bytes(64, marker.key.as_slice()),
+        marker.vary.as_slice(),
+    )
+}
+
+fn insert_bytes(object: &Object) -> u128
+    ensures { result ≡ min (64 + object_len object.now) (2 ^ 128 - 1) }
+{
+    match object {
+        Object::Ordinary(response) => content_bytes(&response.content),
+        Object::HitForMiss(marker) => marker_bytes(marker),
+        Object::HitForPass(marker) => marker_bytes(marker),
+    }
+}
+
+fn lookup_bytes(query: &Query) -> u128
+    ensures { result ≡ min (64 + (texts_len query.now.key + length query.now.request.url + fields_len query.now.request.fields)) (2 ^ 128 - 1) }
+{
+    let key = texts_bytes(64, query.key.as_slice());
+    let url = plus(key, query.request.url.bytes().len());
+    fields_bytes(url, query.request.fields.as_slice())
 }
 
 /// What the entry of a call takes of the history, or the greatest number of 128 bits where that is less.
@@ -51,19 +110,9 @@ pub fn entry_bytes(call: &Call) -> u128
     ensures { result ≡ min (bytes_of call.now) (2 ^ 128 - 1) }
 {
     match call {
-        Call::Begin => 64,
-        Call::Lookup(query) => {
-            let key = texts_bytes(64, query.key.as_slice());
-            let url = plus(key, query.request.url.bytes().len());
-            fields_bytes(url, query.request.fields.as_slice())
-        }
+        Call::Begin | Call::Draw | Call::Drop { .. } | Call::End => 64,
+        Call::Lookup(query) => lookup_bytes(query),
         Call::Pick { target, .. } => plus(64, target.bytes().len()),
-        Call::Insert { object, .. } => {
-            let key = texts_bytes(64, object.key.as_slice());
-            let reason = plus(key, object.reason.bytes().len());
-            let fields = fields_bytes(reason, object.fields.as_slice());
-            plus(fields, object.body.bytes().len())
-        }
-        Call::End => 64,
+        Call::Insert { object, .. } => insert_bytes(object),
     }
 }

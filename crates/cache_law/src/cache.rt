@@ -3,8 +3,8 @@ ghost use Rattle.std.specs.Prelude.{◌≡◌, [], List, IfOk, OnErr, true, IsEr
 ghost use Rattle.cache_law.specs.declared.call.Entry.{Entry as HistoryEntry};
 ghost use Rattle.cache_law.specs.Beginning.{Beginning, beginning_of};
 ghost use Rattle.cache_law.specs.Core.{Entered, FitsBehind, moment_of, is_kept};
-ghost use Rattle.cache_law.specs.History.{Legal, reached};
-ghost use Rattle.cache_law.specs.State.{is_closed};
+ghost use Rattle.cache_law.specs.History.{HasWaited, Legal, bytes_of_all, reached};
+ghost use Rattle.cache_law.specs.State.{awaits, is_closed};
 
 use crate::{Boot, Call, Entry, Params, Reply};
 use std::alloc::{AllocError, Global};
@@ -40,7 +40,8 @@ pub trait CacheCore: Sized {
         ensures history { IfOk result (λ core. history core ≡ []) };
 
     /// Answers one call of the caller, at the reading of the clock in milliseconds since 1970 or at the
-    /// moment of the entry before, where that is greater. After an error all is as before.
+    /// moment of the entry before, where that is greater. After an error all is as before. A caller that was told to
+    /// wait for a fetch looks up again once that is closed.
     fn step(
         &mut self,
         alloc: Global,
@@ -48,6 +49,7 @@ pub trait CacheCore: Sized {
         reading: u64,
         call: Call,
     ) -> Result<Told, StepError>
+        requires waited { HasWaited (reached (beginning self.old) (history self.old)) caller call }
         ensures told { IfOk result (Entered (beginning self.old) (history self.old) (history self.new) caller reading call) }
         ensures full { IsErrOf result StepError.HistoryFull
             → ¬ FitsBehind (beginning self.old) (history self.old) caller (moment_of (beginning self.old) (history self.old) reading) call }
@@ -56,9 +58,18 @@ pub trait CacheCore: Sized {
         ensures legal { Legal (beginning self.old) (history self.old) → Legal (beginning self.new) (history self.new) }
         ensures same { beginning self.new ≡ beginning self.old };
 
+    /// What the entries take of the history's limit. It takes no memory.
+    fn bytes(&self) -> u64
+        ensures { result ≡ bytes_of_all (history self.now) };
+
     /// Whether no open fetch has the number. It takes no memory.
     fn closed(&self, token: u64) -> bool
         ensures { result ≡ is_closed (reached (beginning self.now) (history self.now)).fetches token };
+
+    /// The token that the caller's newest lookup in its open round was told to wait for, while that isn't closed. It
+    /// takes no memory.
+    fn awaits(&self, caller: u32) -> Option<u64>
+        ensures { result ≡ awaits (reached (beginning self.now) (history self.now)) caller };
 
     /// The history.
     fn into_history(self) -> Sequence<Entry>

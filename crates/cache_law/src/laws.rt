@@ -1,15 +1,55 @@
 // Laws of histories, as contracts of functions that do nothing.
-ghost use Rattle.std.specs.Prelude.{◌≡◌, ℕ, List, true};
+ghost use Rattle.std.specs.Prelude.{◌≡◌, ◌≤◌, ◌<◌, ◌++◌, ◌∷◌, ℕ, List, true};
 ghost use Rattle.cache_law.specs.declared.call.Entry.{Entry as HistoryEntry};
-ghost use Rattle.cache_law.specs.declared.call.Call.TheVariants.{End};
-ghost use Rattle.cache_law.specs.Beginning.{Beginning};
-ghost use Rattle.cache_law.specs.State.{has_round};
+ghost use Rattle.cache_law.specs.declared.call.Query.{Query as Sought};
+ghost use Rattle.cache_law.specs.declared.object.ObjectView.{ObjectView as View};
+ghost use Rattle.cache_law.specs.declared.setting.Params.{Params as Limits};
+ghost use Rattle.cache_law.specs.declared.setting.Boot.{Boot as Opening};
+ghost use Rattle.cache_law.specs.declared.call.Call.TheVariants.{Drop as DropCall, End, Lookup};
+ghost use Rattle.cache_law.specs.declared.call.Reply.TheVariants.{Hit};
+ghost use Rattle.cache_law.specs.Beginning.{Beginning, beginning_of};
+ghost use Rattle.cache_law.specs.State.{has_fetch, has_round, is_closed, is_open};
 ghost use Rattle.cache_law.specs.History.{Legal, reached};
-ghost use Rattle.cache_law.specs.Core.{FitsBehind};
+ghost use Rattle.cache_law.specs.Core.{FitsBehind, Serves};
 
 /// Behind a legal history the end of an open round fits, at any moment: it uses what is reserved.
 pub fn closing_fits()
     ensures { (beginning : Beginning) (entries : List HistoryEntry) (caller moment : ℕ) →
         Legal beginning entries → has_round (reached beginning entries).rounds caller ≡ true →
         FitsBehind beginning entries caller moment End }
+{}
+
+/// Behind a legal history the drop of an open fetch of its caller fits, at any moment.
+pub fn dropping_fits()
+    ensures { (beginning : Beginning) (entries : List HistoryEntry) (caller moment token : ℕ) →
+        Legal beginning entries → has_fetch (reached beginning entries).fetches caller token ≡ true →
+        FitsBehind beginning entries caller moment (DropCall token) }
+{}
+
+/// The next number never falls.
+pub fn numbers_rise()
+    ensures { (beginning : Beginning) (entries more : List HistoryEntry) →
+        (reached beginning entries).next ≤ (reached beginning (entries ++ more)).next }
+{}
+
+/// In a run's history each open fetch has a number that was drawn.
+pub fn open_numbers_are_drawn()
+    ensures { (params : Limits) (boot : Opening) (entries : List HistoryEntry) (token : ℕ) →
+        is_open (reached (beginning_of params boot) entries).fetches token ≡ true →
+        token < (reached (beginning_of params boot) entries).next }
+{}
+
+/// A number that was drawn and whose fetch is closed is never open again: a token is closed once.
+pub fn closed_once()
+    ensures { (beginning : Beginning) (entries more : List HistoryEntry) (token : ℕ) →
+        token < (reached beginning entries).next → is_closed (reached beginning entries).fetches token ≡ true →
+        is_closed (reached beginning (entries ++ more)).fetches token ≡ true }
+{}
+
+/// In a legal history the object of a hit is one of the key that may answer the request, and is in time and fresh for
+/// the lookup at the hit's moment.
+pub fn hits_are_fresh()
+    ensures { (beginning : Beginning) (before behind : List HistoryEntry) (entry : HistoryEntry) (query : Sought) (view : View) →
+        Legal beginning (before ++ entry ∷ behind) → entry.call ≡ Lookup query → entry.reply ≡ Hit view →
+        Serves entry.moment query view.object }
 {}

@@ -7,20 +7,31 @@
 //! The state, the replies and the limit are defined in `specs/` on plain lists.
 #![tactic(auto)]
 
+mod ban;
+mod ban_laws;
 mod bytes;
 mod cache;
 mod call;
 mod laws;
+mod matching;
 mod object;
 mod setting;
 mod shared;
 mod state;
 
+pub use ban::{Ban, BanLine, Condition, Issued, TextField, TextOperator, TimeField};
+pub use ban_laws::{
+    all_bans_are_shown, bans_act_at_once, bans_show_themselves, equal_bans_match_alike,
+    no_request_matters, only_issued_bans_wait,
+};
 pub use bytes::{entry_bytes, object_size};
 pub use cache::{CacheCore, StepError, Told};
-pub use call::{Call, Entry, Query, Reply, RequestView};
-pub use laws::closing_fits;
-pub use object::{Object, ObjectView, Timing, is_fresh_at, is_in_time};
+pub use call::{Call, Entry, Options, Query, Reply, RequestView};
+pub use laws::{
+    closed_once, closing_fits, dropping_fits, hits_are_fresh, numbers_rise, open_numbers_are_drawn,
+};
+pub use matching::{can_confirm, is_fresh_for, is_in_grace_for, matches};
+pub use object::{Content, Marker, Object, ObjectView, Response, VaryItem, is_in_time};
 pub use setting::{Boot, Params};
 pub use shared::Shared;
-pub use state::{OpenFetch, OpenRound, Vcl};
+pub use state::{Counter, OpenFetch, OpenRound, SetHealth, Vcl};
