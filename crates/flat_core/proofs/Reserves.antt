@@ -1,40 +1,56 @@
--- What is reserved behind a call, by the place of the object that it is answered with and by what was open before it.
-use Rattle.std.proofs.Common.{◌≡◌, ℕ, Bool, true, false, cond, List, ◌+◌, ◌*◌, ◌&&◌, length, position, is_none, Option, Some, None, refl, arith, sym, ap, ◌∙◌, nat_lt}
+-- What is reserved behind a call, by what it finds and by what was open before it.
+use Rattle.std.proofs.Common.{◌≡◌, ℕ, Bool, true, false, cond, List, ◌∷◌, ◌+◌, ◌*◌, length, Option, Some, None, refl, arith, nat_lt}
+use Rattle.std.proofs.lemmas.List.{length-map}
 use Rattle.cache_law.specs.declared.object.Object.{Object}
-use Rattle.cache_law.specs.declared.object.ObjectView.{ObjectView}
-use Rattle.cache_law.specs.declared.call.Query.{Query}
-use Rattle.cache_law.specs.declared.call.Call.TheVariants.{Lookup, Insert}
-use Rattle.cache_law.specs.declared.call.Reply.TheVariants.{NoRound}
+use Rattle.cache_law.specs.declared.call.Reply.TheVariants.{Began, NoRound, Drawn, NotOpen, StaleGone, NotInTime, NoRoom, Dropped}
 use Rattle.cache_law.specs.Object.{in_time, size_of}
-use Rattle.cache_law.specs.State.{State, Held, at_moment, those_in_time, has_round, has_fetch, without_fetch, reserve, sizes_of}
-use Rattle.cache_law.specs.Lookup.{Scan, scanned}
-use Rattle.cache_law.specs.Law.{answered, found, leaving}
-use Rattle.cache_law.proofs.Reserve.{reserve-inserted}
-use Rattle.flat_core.specs.Kept.{held_all, is_hit}
-use Rattle.flat_core.proofs.Scans.{scan_at, scan_missed, scan_found, hit_place, no_place}
+use Rattle.cache_law.specs.State.{State, has_round, has_fetch, remembering, without_fetch, without_stale, is_gone, reserve, sizes_of}
+use Rattle.cache_law.specs.Law.{begun, drawn, leaving, closing, stored, inserted, dropped}
+use Rattle.flat_core.specs.declared.finding.Finding.{Finding}
+use Rattle.flat_core.specs.declared.finding.Finding.TheVariants.{Hit, HitMiss, HitPass, Grace, GraceAlone, Wait, Miss}
+use Rattle.flat_core.specs.Found.{opens_more, told_so}
 
--- whether the scan ends at an object is whether there is a place
-fresh_by_place : (now : ℕ) (query : Query) (views : List ObjectView) (o : Option ℕ) → position (λ (held : Held). is_hit now query held.view) (held_all views) ≡ o → is_none (scan_at now query views).fresh ≡ is_none o
-fresh_by_place now query views None e = ap (λ (scan : Scan Held). is_none scan.fresh) (scan_missed now query views (no_place now query views e))
-fresh_by_place now query views (Some place) e =
-    let at_ = hit_place now query views place e in
-    ap (λ (scan : Scan Held). is_none scan.fresh) (scan_found now query views place at_.0 at_.1).2
+by_round : (state : State) (caller : ℕ) (opened : Bool) → 64 * (length state.rounds + length state.fetches + cond opened 0 1) ≡ reserve (cond opened (leaving state NoRound) (record { reply = Began state.next state.active.number state.active.text; state = record state { next = state.next + 1; rounds = record { caller = caller; vcl = state.active.number; waits = None } ∷ state.rounds } })).state
+by_round state caller true = omega arith
+by_round state caller false = omega arith
 
-by_cases : (state : State) (caller : ℕ) (key : List (List ℕ)) (opened : Bool) (objects : List Held) (fresh : Option ObjectView) → 64 * (cond (opened && is_none fresh) (length state.rounds + length state.fetches + 1) (length state.rounds + length state.fetches)) ≡ reserve (cond opened (found (record state { objects = objects }) caller key fresh) (leaving state NoRound)).state
-by_cases state caller key false objects fresh = refl
-by_cases state caller key true objects None = omega arith
-by_cases state caller key true objects (Some view) = refl
+pub begin_reserve : (state : State) (caller : ℕ) → 64 * (length state.rounds + length state.fetches + cond (has_round state.rounds caller) 0 1) ≡ reserve (begun state caller).state
+begin_reserve state caller = by_round state caller (has_round state.rounds caller)
 
--- a fetch more is open exactly behind a miss
-pub lookup_reserve : (room : ℕ) (old : State) (views : List ObjectView) (now caller : ℕ) (query : Query) (place : Option ℕ) (misses : Bool) → old.objects ≡ held_all views → place ≡ position (λ (held : Held). is_hit now query held.view) old.objects → misses ≡ (has_round old.rounds caller && is_none place) → 64 * (cond misses (length old.rounds + length old.fetches + 1) (length old.rounds + length old.fetches)) ≡ reserve (answered room (at_moment now old) caller (Lookup query)).state
-lookup_reserve room old views now caller query place misses kept found_ e =
-    let fresh = (scanned now query (those_in_time now old.objects)).fresh in
-    let same : is_none place ≡ is_none fresh = sym (ap (λ (objects : List Held). is_none (scanned now query (those_in_time now objects)).fresh) kept ∙ fresh_by_place now query views place (sym (found_ ∙ ap (position (λ (held : Held). is_hit now query held.view)) kept))) in
-    ap (λ (b : Bool). 64 * (cond b (length old.rounds + length old.fetches + 1) (length old.rounds + length old.fetches)))
-    (e ∙ ap (λ (b : Bool). has_round old.rounds caller && b) same)
-    ∙ by_cases (at_moment now old) caller query.key (has_round old.rounds caller) (scanned now query (those_in_time now old.objects)).objects fresh
+by_draw : (state : State) (opened : Bool) → 64 * (length state.rounds + length state.fetches) ≡ reserve (cond opened (record { reply = Drawn state.next; state = record state { next = state.next + 1 } }) (leaving state NoRound)).state
+by_draw state true = refl
+by_draw state false = refl
 
--- whatever the insertion answers, it closes its fetch
-pub insert_reserve : (room : ℕ) (old : State) (now caller token : ℕ) (object : Object) → 64 * (length old.rounds + cond (has_fetch old.fetches caller token) (length (without_fetch token old.fetches)) (length old.fetches)) ≡ reserve (answered room (at_moment now old) caller (Insert token object)).state
-insert_reserve room old now caller token object =
-    sym (reserve-inserted room (at_moment now old) caller token object (has_fetch old.fetches caller token) (in_time now object) (nat_lt room (sizes_of (those_in_time now old.objects) + size_of object)))
+pub draw_reserve : (state : State) (caller : ℕ) → 64 * (length state.rounds + length state.fetches) ≡ reserve (drawn state caller).state
+draw_reserve state caller = by_draw state (has_round state.rounds caller)
+
+by_drop : (state : State) (token : ℕ) (opened : Bool) → 64 * (length state.rounds + cond opened (length (without_fetch token state.fetches)) (length state.fetches)) ≡ reserve (cond opened (closing token state Dropped) (leaving state NotOpen)).state
+by_drop state token true = refl
+by_drop state token false = refl
+
+pub drop_reserve : (state : State) (caller token : ℕ) → 64 * (length state.rounds + cond (has_fetch state.fetches caller token) (length (without_fetch token state.fetches)) (length state.fetches)) ≡ reserve (dropped state caller token).state
+drop_reserve state caller token = by_drop state token (has_fetch state.fetches caller token)
+
+-- a fetch more is open where one was opened
+pub lookup_reserve : (state : State) (caller : ℕ) (key : List (List ℕ)) (finding : Option Finding) → 64 * (length state.rounds + length state.fetches + cond (opens_more finding) 1 0) ≡ reserve (told_so state caller key finding).state
+lookup_reserve state caller key None = omega arith
+lookup_reserve state caller key (Some (Hit view)) = omega (arith, length-map state.rounds (remembering caller None))
+lookup_reserve state caller key (Some HitMiss) = omega (arith, length-map state.rounds (remembering caller None))
+lookup_reserve state caller key (Some HitPass) = omega (arith, length-map state.rounds (remembering caller None))
+lookup_reserve state caller key (Some (Grace view)) = omega (arith, length-map state.rounds (remembering caller None))
+lookup_reserve state caller key (Some (GraceAlone view)) = omega (arith, length-map state.rounds (remembering caller None))
+lookup_reserve state caller key (Some (Wait token)) = omega (arith, length-map state.rounds (remembering caller (Some token)))
+lookup_reserve state caller key (Some (Miss stale)) = omega (arith, length-map state.rounds (remembering caller None))
+
+by_tests : (state : State) (token : ℕ) (object : Object) (stale : Option ℕ) (opened gone lives full : Bool) → 64 * (length state.rounds + cond gone (length state.fetches) (cond opened (length (without_fetch token state.fetches)) (length state.fetches))) ≡ reserve (cond opened (cond gone (leaving state StaleGone) (cond lives (cond full (closing token state NoRoom) (stored state token object stale)) (closing token state NotInTime))) (leaving state NotOpen)).state
+by_tests state token object stale false false lives full = refl
+by_tests state token object stale false true lives full = refl
+by_tests state token object stale true true lives full = refl
+by_tests state token object stale true false false full = refl
+by_tests state token object stale true false true false = refl
+by_tests state token object stale true false true true = refl
+
+-- an insertion of an open fetch closes it, unless the stale object is gone
+pub insert_reserve : (room : ℕ) (state : State) (caller token : ℕ) (object : Object) (stale : Option ℕ) → 64 * (length state.rounds + cond (is_gone stale state.objects) (length state.fetches) (cond (has_fetch state.fetches caller token) (length (without_fetch token state.fetches)) (length state.fetches))) ≡ reserve (inserted room state caller token object stale).state
+insert_reserve room state caller token object stale =
+    by_tests state token object stale (has_fetch state.fetches caller token) (is_gone stale state.objects) (in_time state.moment object) (nat_lt room (sizes_of (without_stale stale state.objects) + size_of object))

@@ -1,14 +1,19 @@
--- What a lookup's scan finds and leaves, where the place of the first hit is known.
-use Rattle.std.proofs.Common.{zero, suc, ◌≡◌, ℕ, Bool, true, false, not, cond, List, [], ◌∷◌, ◌+◌, ◌<◌, ◌≤◌, ◌&&◌, length, get_or, set, find, position, filter, slice_get, Option, Some, None, nat_lt, refl, arith, sym, ap, ◌∙◌}
-use Rattle.std.specs.List.{position_or_len, list_all}
-use Rattle.std.proofs.lemmas.List.Folds.{find_at}
-use Rattle.std.proofs.lemmas.Bool.{ltb-true, ltb-false, and_parts, cond-true}
+-- What a lookup's scan finds and leaves, by what is found among the objects in memory.
+use Rattle.std.proofs.Common.{◌≡◌, ℕ, Bool, true, false, not, cond, List, [], ◌∷◌, ◌++◌, ◌+◌, ◌&&◌, ◌||◌, ◌==◌, length, find, filter, map, Option, Some, None, refl, arith, sym, ap, ◌∙◌}
+use Rattle.std.specs.List.{list_all, list_any}
+use Rattle.std.specs.Prelude.{sum_by}
+use Rattle.std.proofs.lemmas.Bool.{and_parts}
+use Rattle.std.proofs.lemmas.List.Sums.{sum_by-cons}
+use Rattle.std.specs.Option.{option_map_or, option_or}
+use Rattle.std.proofs.lemmas.List.Folds.{find-append}
 use Rattle.cache_law.specs.declared.object.ObjectView.{ObjectView}
+use Rattle.cache_law.specs.declared.call.Options.{Options}
 use Rattle.cache_law.specs.declared.call.Query.{Query}
-use Rattle.cache_law.specs.Object.{in_time}
-use Rattle.cache_law.specs.State.{Held, those_in_time}
-use Rattle.cache_law.specs.Lookup.{Scan, serves, raised, scanned, passing, ending}
-use Rattle.flat_core.specs.Kept.{held_of, held_all, is_hit}
+use Rattle.cache_law.specs.Object.{in_time, can_confirm, size_of}
+use Rattle.cache_law.specs.declared.ban.Issued.{Issued}
+use Rattle.cache_law.specs.State.{Held, those_in_time, is_gone, without_stale, inherited, sizes_of}
+use Rattle.cache_law.specs.Lookup.{Scan, scanned, passing, ending, seeing, first_of, matches, is_fresh, is_in_grace, raised, counting, counted}
+use Rattle.flat_core.specs.Kept.{held_of, held_all, is_fresh_match, is_grace_match, is_stale_match, counted_in, stays, size_staying, sizes_staying}
 
 kept_or_not : (b : Bool) (view : ObjectView) (views : List ObjectView) → held_all (cond b (view ∷ views) views) ≡ cond b (held_of view ∷ held_all views) (held_all views)
 kept_or_not true view views = refl
@@ -21,106 +26,82 @@ held_all-filter now (view ∷ views) =
     kept_or_not (in_time now view.object) view (filter (λ (v : ObjectView). in_time now v.object) views)
     ∙ ap (λ (rest : List Held). cond (in_time now view.object) (held_of view ∷ rest) rest) (held_all-filter now views)
 
-pub length-held_all : (views : List ObjectView) → length (held_all views) ≡ length views
-length-held_all [] = refl
-length-held_all (view ∷ views) = omega (arith, length-held_all views)
-
-pub position_or_len-held_all : (now : ℕ) (query : Query) (views : List ObjectView) → position_or_len (λ (held : Held). is_hit now query held.view) (held_all views) ≡ position_or_len (is_hit now query) views
-position_or_len-held_all now query [] = refl
-position_or_len-held_all now query (view ∷ views) =
-    ap (λ (n : ℕ). cond (not (is_hit now query view)) (1 + n) 0) (position_or_len-held_all now query views)
-
--- the place of a hit is the same in memory and by the law
-pub position-held_all : (now : ℕ) (query : Query) (views : List ObjectView) → position (λ (held : Held). is_hit now query held.view) (held_all views) ≡ position (is_hit now query) views
-position-held_all now query views = rw (position_or_len-held_all now query views, length-held_all views) refl
-
-place_found : (b : Bool) (n i : ℕ) → cond b (Some n) None ≡ Some i → (b ≡ true) × (n ≡ i)
-place_found true n i e = (refl, cc)
-place_found false n i e = cc
-
-place_missed : (b : Bool) (n : ℕ) → cond b (Some n) None ≡ None → b ≡ false
-place_missed true n e = cc
-place_missed false n e = refl
-
 -- the scan of the objects that are in time
 abbrev pub scan_at : ℕ → Query → List ObjectView → Scan Held
 scan_at now query views = scanned now query (those_in_time now (held_all views))
 
--- one object before others that are scanned so: it is a hit, or is passed by, or isn't in time
-scan_hit : (now : ℕ) (query : Query) (view : ObjectView) (lives serving : Bool) (rest : List Held) → lives ≡ in_time now view.object → serving ≡ serves now query view.object → (lives && serving) ≡ true → scanned now query (cond lives (held_of view ∷ rest) rest) ≡ ending (raised view) (held_of (raised view)) rest
-scan_hit now query view true true rest a b h = rw (sym b) refl
-scan_hit now query view true false rest a b h = cc
-scan_hit now query view false serving rest a b h = cc
+-- a scan of one object before others, by three tests of it
+abbrev seen : ℕ → Options → Held → List Held → Scan Held → Bool → Bool → Bool → Scan Held
+seen now options held rest scan lives suits fresh =
+    cond lives (cond suits (cond fresh (ending held.view held rest) (seeing now options held.view held scan)) (passing held scan)) scan
 
-scan_other : (now : ℕ) (query : Query) (view : ObjectView) (lives serving : Bool) (rest : List Held) → lives ≡ in_time now view.object → serving ≡ serves now query view.object → (lives && serving) ≡ false → scanned now query (cond lives (held_of view ∷ rest) rest) ≡ cond lives (passing (held_of view) (scanned now query rest)) (scanned now query rest)
-scan_other now query view true true rest a b h = cc
-scan_other now query view true false rest a b h = rw (sym b) refl
-scan_other now query view false serving rest a b h = refl
+one_seen : (now : ℕ) (query : Query) (view : ObjectView) (rest : List Held) (lives : Bool) → scanned now query (cond lives (held_of view ∷ rest) rest) ≡ seen now query.options (held_of view) rest (scanned now query rest) lives (matches query view.object) (is_fresh now query.options view.object)
+one_seen now query view rest true = refl
+one_seen now query view rest false = refl
 
-passed_or_gone : (lives : Bool) (held : Held) (fresh : Option ObjectView) (rest : List Held) → (let scan : Scan Held = record { fresh = fresh; objects = rest } in cond lives (passing held scan) scan) ≡ record { fresh = fresh; objects = cond lives (held ∷ rest) rest }
-passed_or_gone true held fresh rest = refl
-passed_or_gone false held fresh rest = refl
+scan-cons : (now : ℕ) (query : Query) (view : ObjectView) (views : List ObjectView) → scan_at now query (view ∷ views) ≡ seen now query.options (held_of view) (those_in_time now (held_all views)) (scan_at now query views) (in_time now view.object) (matches query view.object) (is_fresh now query.options view.object)
+scan-cons now query view views = one_seen now query view (those_in_time now (held_all views)) (in_time now view.object)
 
--- none of the objects is a hit: the scan leaves those in time as they are
-missed_step : (now : ℕ) (query : Query) (view : ObjectView) (views : List ObjectView) (hit : Bool) → hit ≡ is_hit now query view → cond hit (Some view) (find (is_hit now query) views) ≡ None → (find (is_hit now query) views ≡ None → scan_at now query views ≡ record { fresh = None; objects = those_in_time now (held_all views) }) → scan_at now query (view ∷ views) ≡ record { fresh = None; objects = those_in_time now (held_all (view ∷ views)) }
-missed_step now query view views true e none_ later = cc
-missed_step now query view views false e none_ later =
-    scan_other now query view (in_time now view.object) (serves now query view.object) (those_in_time now (held_all views)) refl refl (sym e)
-    ∙ ap (λ (scan : Scan Held). cond (in_time now view.object) (passing (held_of view) scan) scan) (later none_)
-    ∙ passed_or_gone (in_time now view.object) (held_of view) None (those_in_time now (held_all views))
+seen_objects : (now : ℕ) (options : Options) (held : Held) (rest : List Held) (scan : Scan Held) (lives suits fresh : Bool) → scan.objects ≡ rest → (seen now options held rest scan lives suits fresh).objects ≡ cond lives (held ∷ rest) rest
+seen_objects now options held rest scan false suits fresh e = e
+seen_objects now options held rest scan true false fresh e = ap (λ (hs : List Held). held ∷ hs) e
+seen_objects now options held rest scan true true false e = ap (λ (hs : List Held). held ∷ hs) e
+seen_objects now options held rest scan true true true e = refl
 
-pub scan_missed : (now : ℕ) (query : Query) (views : List ObjectView) → find (is_hit now query) views ≡ None → scan_at now query views ≡ record { fresh = None; objects = those_in_time now (held_all views) }
-scan_missed now query [] e = refl
-scan_missed now query (view ∷ views) e = missed_step now query view views (is_hit now query view) refl e (scan_missed now query views)
+-- the scan leaves those in time as they are
+pub scan_objects : (now : ℕ) (query : Query) (views : List ObjectView) → (scan_at now query views).objects ≡ those_in_time now (held_all views)
+scan_objects now query [] = refl
+scan_objects now query (view ∷ views) =
+    ap (λ (scan : Scan Held). scan.objects) (scan-cons now query view views)
+    ∙ seen_objects now query.options (held_of view) (those_in_time now (held_all views)) (scan_at now query views) (in_time now view.object) (matches query view.object) (is_fresh now query.options view.object) (scan_objects now query views)
 
--- The object at this place is the first hit: the scan gives it with the hit counted, and leaves it so at its place.
-abbrev pub FoundAt : ℕ → Query → List ObjectView → ℕ → Type 0
-FoundAt now query views place =
-    (view : ObjectView) × ((d : ObjectView) → get_or views place d ≡ view)
-    × (scan_at now query views ≡ record { fresh = Some (raised view); objects = those_in_time now (held_all (set views place (raised view))) })
+seen_fresh : (now : ℕ) (options : Options) (view : ObjectView) (rest : List Held) (scan : Scan Held) (lives suits fresh : Bool) → (seen now options (held_of view) rest scan lives suits fresh).fresh ≡ cond ((lives && suits) && fresh) (Some view) scan.fresh
+seen_fresh now options view rest scan false suits fresh = refl
+seen_fresh now options view rest scan true false fresh = refl
+seen_fresh now options view rest scan true true false = refl
+seen_fresh now options view rest scan true true true = refl
 
--- an object that is no hit before objects of which one is found
-found_later : (now : ℕ) (query : Query) (view : ObjectView) (views : List ObjectView) (hit : ObjectView) (left : List Held) → is_hit now query view ≡ false → scan_at now query views ≡ record { fresh = Some (raised hit); objects = left } → scan_at now query (view ∷ views) ≡ record { fresh = Some (raised hit); objects = cond (in_time now view.object) (held_of view ∷ left) left }
-found_later now query view views hit left e rest =
-    scan_other now query view (in_time now view.object) (serves now query view.object) (those_in_time now (held_all views)) refl refl e
-    ∙ ap (λ (scan : Scan Held). cond (in_time now view.object) (passing (held_of view) scan) scan) rest
-    ∙ passed_or_gone (in_time now view.object) (held_of view) (Some (raised hit)) left
+-- the fresh object is the first such
+pub scan_fresh : (now : ℕ) (query : Query) (views : List ObjectView) → (scan_at now query views).fresh ≡ find (is_fresh_match now query) views
+scan_fresh now query [] = refl
+scan_fresh now query (view ∷ views) =
+    ap (λ (scan : Scan Held). scan.fresh) (scan-cons now query view views)
+    ∙ seen_fresh now query.options view (those_in_time now (held_all views)) (scan_at now query views) (in_time now view.object) (matches query view.object) (is_fresh now query.options view.object)
+    ∙ ap (λ (later : Option ObjectView). cond (is_fresh_match now query view) (Some view) later) (scan_fresh now query views)
 
-found_step : (now : ℕ) (query : Query) (view : ObjectView) (views : List ObjectView) (place : ℕ) (hit : Bool) → hit ≡ is_hit now query view → cond (not hit) (1 + position_or_len (is_hit now query) views) 0 ≡ place → place < length (view ∷ views) → ((i : ℕ) → position_or_len (is_hit now query) views ≡ i → i < length views → FoundAt now query views i) → FoundAt now query (view ∷ views) place
-found_step now query view views zero true e at_ below later =
-    let lives : in_time now view.object ≡ true = (and_parts _ _ (sym e)).0 in (
-      view,
-      λ d. refl,
-      scan_hit now query view (in_time now view.object) (serves now query view.object) (those_in_time now (held_all views)) refl refl (sym e)
-          ∙ ap (λ (objects : List Held). record { fresh = Some (raised view); objects = objects }) (sym (cond-true _ (held_of (raised view) ∷ those_in_time now (held_all views)) (those_in_time now (held_all views)) lives)),
-    )
-found_step now query view views (suc place) true e at_ below later = cc
-found_step now query view views zero false e at_ below later = absurd (omega arith)
-found_step now query view views (suc place) false e at_ below later =
-    let rest = later place (omega arith) (omega arith) in
-    (rest.0, rest.1, found_later now query view views rest.0 (those_in_time now (held_all (set views place (raised rest.0)))) (sym e) rest.2)
+none_head : (b : Bool) (view : ObjectView) (later : Option ObjectView) → cond b (Some view) later ≡ None → (b ≡ false) × (later ≡ None)
+none_head true view later e = cc
+none_head false view later e = (refl, e)
 
-pub scan_found : (now : ℕ) (query : Query) (views : List ObjectView) (place : ℕ) → position_or_len (is_hit now query) views ≡ place → place < length views → FoundAt now query views place
-scan_found now query [] place at_ below = absurd (omega arith)
-scan_found now query (view ∷ views) place at_ below = found_step now query view views place (is_hit now query view) refl at_ below (λ i. scan_found now query views i)
+seen_grace : (now : ℕ) (options : Options) (view : ObjectView) (rest : List Held) (scan : Scan Held) (lives suits fresh : Bool) → ((lives && suits) && fresh) ≡ false → (seen now options (held_of view) rest scan lives suits fresh).grace ≡ cond ((lives && suits) && is_in_grace now options view.object) (Some view) scan.grace
+seen_grace now options view rest scan false suits fresh e = refl
+seen_grace now options view rest scan true false fresh e = refl
+seen_grace now options view rest scan true true false e = refl
+seen_grace now options view rest scan true true true e = cc
 
-past_the_end : {X : Type 0} (xs : List X) (i : ℕ) → length xs ≤ i → slice_get xs i ≡ None
-past_the_end [] i h = refl
-past_the_end (x ∷ xs) zero h = absurd (omega arith)
-past_the_end (x ∷ xs) (suc i) h = past_the_end xs i (omega arith)
+-- where none is fresh, the object in grace is the first such
+pub scan_grace : (now : ℕ) (query : Query) (views : List ObjectView) → find (is_fresh_match now query) views ≡ None → (scan_at now query views).grace ≡ find (is_grace_match now query) views
+scan_grace now query [] e = refl
+scan_grace now query (view ∷ views) e =
+    let split = none_head (is_fresh_match now query view) view (find (is_fresh_match now query) views) e in
+    ap (λ (scan : Scan Held). scan.grace) (scan-cons now query view views)
+    ∙ seen_grace now query.options view (those_in_time now (held_all views)) (scan_at now query views) (in_time now view.object) (matches query view.object) (is_fresh now query.options view.object) split.0
+    ∙ ap (λ (later : Option ObjectView). cond (is_grace_match now query view) (Some view) later) (scan_grace now query views split.1)
 
--- where the place of a hit is known, by the law's objects
-pub hit_place : (now : ℕ) (query : Query) (views : List ObjectView) (place : ℕ) → position (λ (held : Held). is_hit now query held.view) (held_all views) ≡ Some place → (position_or_len (is_hit now query) views ≡ place) × (place < length views)
-hit_place now query views place e =
-    let first = place_found (nat_lt (position_or_len (is_hit now query) views) (length views)) (position_or_len (is_hit now query) views) place (sym (position-held_all now query views) ∙ e) in
-    let below = ltb-true (position_or_len (is_hit now query) views) (length views) first.0 in
-    (first.1, omega (arith, below, first.1))
+seen_stale : (now : ℕ) (options : Options) (view : ObjectView) (rest : List Held) (scan : Scan Held) (lives suits fresh : Bool) → ((lives && suits) && fresh) ≡ false → (seen now options (held_of view) rest scan lives suits fresh).stale ≡ cond ((lives && suits) && can_confirm view.object) (Some view) scan.stale
+seen_stale now options view rest scan false suits fresh e = refl
+seen_stale now options view rest scan true false fresh e = refl
+seen_stale now options view rest scan true true false e = refl
+seen_stale now options view rest scan true true true e = cc
 
--- where there is none
-pub no_place : (now : ℕ) (query : Query) (views : List ObjectView) → position (λ (held : Held). is_hit now query held.view) (held_all views) ≡ None → find (is_hit now query) views ≡ None
-no_place now query views e =
-    let past = ltb-false (position_or_len (is_hit now query) views) (length views) (place_missed _ _ (sym (position-held_all now query views) ∙ e)) in
-    find_at (is_hit now query) views ∙ past_the_end views (position_or_len (is_hit now query) views) (omega (arith, past))
+-- and so is the one that the backend may confirm
+pub scan_stale : (now : ℕ) (query : Query) (views : List ObjectView) → find (is_fresh_match now query) views ≡ None → (scan_at now query views).stale ≡ find (is_stale_match now query) views
+scan_stale now query [] e = refl
+scan_stale now query (view ∷ views) e =
+    let split = none_head (is_fresh_match now query view) view (find (is_fresh_match now query) views) e in
+    ap (λ (scan : Scan Held). scan.stale) (scan-cons now query view views)
+    ∙ seen_stale now query.options view (those_in_time now (held_all views)) (scan_at now query views) (in_time now view.object) (matches query view.object) (is_fresh now query.options view.object) split.0
+    ∙ ap (λ (later : Option ObjectView). cond (is_stale_match now query view) (Some view) later) (scan_stale now query views split.1)
 
 kept_whole : (b : Bool) (view : ObjectView) (views rest : List ObjectView) → b ≡ true → rest ≡ views → view ∷ views ≡ cond b (view ∷ rest) rest
 kept_whole true view views rest e same = ap (λ (v : List ObjectView). view ∷ v) (sym same)
@@ -132,3 +113,87 @@ filter-all now [] e = refl
 filter-all now (view ∷ views) e =
     let both = and_parts (in_time now view.object) (list_all (λ (v : ObjectView). in_time now v.object) views) e in
     kept_whole (in_time now view.object) view views _ both.0 (sym (filter-all now views both.1))
+
+-- an object with a hit counted, in memory and by the law
+one_counted : (b : Bool) (view : ObjectView) → held_of (cond b (raised view) view) ≡ cond b (record (held_of view) { view = raised view }) (held_of view)
+one_counted true view = refl
+one_counted false view = refl
+
+pub held_all-counted : (number : ℕ) (views : List ObjectView) → held_all (map (counted_in number) views) ≡ counted number (held_all views)
+held_all-counted number [] = refl
+held_all-counted number (view ∷ views) =
+    ap (λ (held : Held). held ∷ held_all (map (counted_in number) views)) (one_counted (view.number == number) view)
+    ∙ ap (λ (rest : List Held). counting number (held_of view) ∷ rest) (held_all-counted number views)
+
+same_time : (now : ℕ) (b : Bool) (held : Held) → in_time now (cond b (record held { view = raised held.view }) held).view.object ≡ in_time now held.view.object
+same_time now true held = refl
+same_time now false held = refl
+
+counted_or_not : (number : ℕ) (held : Held) (lives : Bool) (late early : List Held) → late ≡ counted number early → cond lives (counting number held ∷ late) late ≡ counted number (cond lives (held ∷ early) early)
+counted_or_not number held true late early e = ap (λ (rest : List Held). counting number held ∷ rest) e
+counted_or_not number held false late early e = e
+
+-- a hit changes nothing of an object's time
+pub in_time-counted : (now number : ℕ) (objects : List Held) → those_in_time now (counted number objects) ≡ counted number (those_in_time now objects)
+in_time-counted now number [] = refl
+in_time-counted now number (held ∷ objects) =
+    ap (λ (b : Bool). cond b (counting number held ∷ those_in_time now (counted number objects)) (those_in_time now (counted number objects))) (same_time now (held.view.number == number) held)
+    ∙ counted_or_not number held (in_time now held.view.object) _ _ (in_time-counted now number objects)
+
+or_same : (a later : Bool) → (a || later) ≡ ((a && true) || later)
+or_same true later = refl
+or_same false later = refl
+
+or_none : (a later : Bool) → later ≡ ((a && false) || later)
+or_none true later = refl
+or_none false later = refl
+
+any_or_not : (now stale : ℕ) (view : ObjectView) (lives : Bool) (rest : List Held) (later : Bool) → list_any (λ (held : Held). held.view.number == stale) rest ≡ later → list_any (λ (held : Held). held.view.number == stale) (cond lives (held_of view ∷ rest) rest) ≡ (((view.number == stale) && lives) || later)
+any_or_not now stale view true rest later e = rw e (or_same (view.number == stale) later)
+any_or_not now stale view false rest later e = e ∙ or_none (view.number == stale) later
+
+-- an object in time of this number, in memory and by the law
+pub any-in_time : (now stale : ℕ) (views : List ObjectView) → list_any (λ (held : Held). held.view.number == stale) (those_in_time now (held_all views)) ≡ list_any (λ (view : ObjectView). (view.number == stale) && in_time now view.object) views
+any-in_time now stale [] = refl
+any-in_time now stale (view ∷ views) = any_or_not now stale view (in_time now view.object) _ _ (any-in_time now stale views)
+
+kept_of : (b : Bool) (view : ObjectView) (views : List ObjectView) (rest : List Held) → held_all views ≡ rest → held_all (cond b (view ∷ views) views) ≡ cond b (held_of view ∷ rest) rest
+kept_of true view views rest e = ap (λ (hs : List Held). held_of view ∷ hs) e
+kept_of false view views rest e = e
+
+-- the objects that stay, in memory and by the law
+pub held_all-stays : (stale : Option ℕ) (views : List ObjectView) → held_all (filter (stays stale) views) ≡ without_stale stale (held_all views)
+held_all-stays None [] = refl
+held_all-stays None (view ∷ views) = ap (λ (hs : List Held). held_of view ∷ hs) (held_all-stays None views)
+held_all-stays (Some stale) [] = refl
+held_all-stays (Some stale) (view ∷ views) = kept_of (not (view.number == stale)) view _ _ (held_all-stays (Some stale) views)
+
+none_pending : (b : Bool) (view : ObjectView) (later : Option Held) → option_map_or (λ (held : Held). held.pending) later [] ≡ [] → option_map_or (λ (held : Held). held.pending) (cond b (Some (held_of view)) later) [] ≡ []
+none_pending true view later e = refl
+none_pending false view later e = e
+
+-- no object in memory has bans to be tested on
+pub inherits_none : (stale : Option ℕ) (views : List ObjectView) → inherited stale (held_all views) ≡ []
+inherits_none None views = refl
+inherits_none (Some stale) [] = refl
+inherits_none (Some stale) (view ∷ views) = none_pending (view.number == stale) view _ (inherits_none (Some stale) views)
+
+size_or_not : (b : Bool) (view : ObjectView) (rest : List Held) → sizes_of (cond b (held_of view ∷ rest) rest) ≡ cond b (size_of view.object) 0 + sizes_of rest
+size_or_not true view rest = sum_by-cons (λ (held : Held). size_of held.view.object) (held_of view) rest
+size_or_not false view rest = omega arith
+
+-- the sizes of those that stay
+pub sizes_that_stay : (stale : Option ℕ) (views : List ObjectView) → sizes_staying stale views ≡ sizes_of (without_stale stale (held_all views))
+sizes_that_stay None [] = refl
+sizes_that_stay None (view ∷ views) =
+    omega (arith, sum_by-cons (size_staying None) view views, sum_by-cons (λ (held : Held). size_of held.view.object) (held_of view) (held_all views), sizes_that_stay None views)
+sizes_that_stay (Some stale) [] = refl
+sizes_that_stay (Some stale) (view ∷ views) =
+    omega (arith, sum_by-cons (size_staying (Some stale)) view views, size_or_not (not (view.number == stale)) view (without_stale (Some stale) (held_all views)), sizes_that_stay (Some stale) views)
+
+-- what is found in a list is found in it and another behind it
+pub find-front : {X : Type 0} (p : X → Bool) (xs ys : List X) (x : X) → Some x ≡ find p xs → Some x ≡ find p (xs ++ ys)
+find-front p xs ys x e = ap (λ o. option_or o (find p ys)) e ∙ sym (find-append p xs ys)
+
+pub find-behind : {X : Type 0} (p : X → Bool) (xs ys : List X) (found : Option X) → None ≡ find p xs → found ≡ find p ys → found ≡ find p (xs ++ ys)
+find-behind p xs ys found none_ e = e ∙ ap (λ o. option_or o (find p ys)) none_ ∙ sym (find-append p xs ys)

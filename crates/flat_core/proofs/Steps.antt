@@ -1,22 +1,24 @@
 -- One more entry keeps what the plain cache promises.
-use Rattle.std.proofs.Common.{true, cond, ◌≡◌, ℕ, List, [], ◌∷◌, ◌++◌, ◌+◌, ◌*◌, ◌≤◌, max, length, refl, arith, sym, ap, ◌∙◌, subst, length-append, nat_lt}
-use Rattle.std.proofs.lemmas.Bool.{false≢true, cond-true}
+use Rattle.std.proofs.Common.{true, false, cond, ◌≡◌, ℕ, List, [], ◌∷◌, ◌++◌, ◌+◌, ◌*◌, ◌≤◌, max, length, refl, arith, sym, ap, ◌∙◌, subst, length-append, nat_lt}
+use Rattle.std.specs.Prelude.{Result, Ok, Err, IfOk, OnOk}
+use Rattle.std.proofs.lemmas.Bool.{false≢true, true≢false}
 use Rattle.cache_law.specs.declared.call.Call.{Call}
-use Rattle.cache_law.specs.declared.call.Call.TheVariants.{Begin, Lookup, Pick, Insert, End}
+use Rattle.cache_law.specs.declared.call.Call.TheVariants.{Insert, Drop, End}
 use Rattle.cache_law.specs.declared.call.Reply.{Reply}
 use Rattle.cache_law.specs.declared.call.Entry.{Entry}
 use Rattle.cache_law.specs.declared.cache.Told.{Told}
-use Rattle.cache_law.specs.Object.{in_time, size_of}
-use Rattle.cache_law.specs.State.{State, at_moment, as_seen, reserve, has_round, has_fetch, without_fetch, those_in_time, sizes_of}
+use Rattle.cache_law.specs.declared.state.OpenFetch.{OpenFetch}
+use Rattle.cache_law.specs.State.{State, at_moment, as_seen, reserve, has_round, has_fetch, without_fetch}
 use Rattle.cache_law.specs.Beginning.{Beginning}
 use Rattle.cache_law.specs.Law.{step_of, answered, after, behind, refused, MayAnswer}
-use Rattle.cache_law.specs.History.{bytes_of, next_state, reached, Legal}
+use Rattle.cache_law.specs.History.{HasWaited, bytes_of, next_state, reached, Legal}
 use Rattle.cache_law.specs.Core.{Entered, FitsBehind, entry_of, moment_of, is_kept}
 use Rattle.cache_law.proofs.Growth.{after_grows}
 use Rattle.cache_law.proofs.Histories.{reached-push, bytes_of_all-push, Legal-push}
 use Rattle.cache_law.proofs.Moments.{at_moment-later}
-use Rattle.cache_law.proofs.Reserve.{reserve-after, reserve-inserted, ending_takes, length-without_fetch}
+use Rattle.cache_law.proofs.Reserve.{reserve-after, ending_takes, dropping_takes, length-without_fetch}
 use Rattle.flat_core.specs.declared.answer.Answer.{Answer}
+use Rattle.flat_core.specs.Found.{is_insertion}
 use Rattle.flat_core.specs.Step.{Answers}
 use Rattle.flat_core.specs.Plain.{Sound}
 
@@ -34,6 +36,7 @@ pub record Made : Type 0 where
   pub call : Call
   pub opens : ℕ
   pub sound : Sound beginning entries room used old
+  pub waited : HasWaited (reached beginning entries) caller call
   pub at_ : moment ≡ max old.moment reading
   pub reserves : 64 * opens ≡ reserve (step_of beginning old caller moment call).state
 
@@ -98,7 +101,7 @@ reserve_left made done =
     let least = reserve-after made.beginning made.old made.caller made.moment made.call done.answer.told done.answers.allows in
     omega (arith, least, made.reserves, ap reserve done.answers.leaves)
 
-pub sound_behind : (made : Made) (done : Answered made) (larger : ℕ) → length made.entries + (made.opens + 1) ≤ larger → Sound made.beginning (made.entries ++ entry_with made done.answer.kept ∷ []) larger (made.used + bytes_of made.call) done.new
+pub sound_behind : (made : Made) (done : Answered made) (larger : ℕ) → length made.entries + 1 + length done.new.rounds + length done.new.fetches ≤ larger → Sound made.beginning (made.entries ++ entry_with made done.answer.kept ∷ []) larger (made.used + bytes_of made.call) done.new
 sound_behind made done larger room_ =
     let entry : Entry = entry_with made done.answer.kept in
     let left = reserve_left made done in
@@ -107,7 +110,7 @@ sound_behind made done larger room_ =
       counts = omega (arith, made.sound.counts, bytes_of_all-push made.entries entry);
       within = omega (arith, done.within, left);
       numbers = omega (arith, ap (λ (s : State). s.next) done.answers.leaves, (after_grows made.beginning made.old made.caller made.moment made.call done.answer.told).next, made.sound.numbers, length-append made.entries (entry ∷ []));
-      reserved = omega (arith, left, room_, length-append made.entries (entry ∷ []));
+      reserved = omega (arith, room_, length-append made.entries (entry ∷ []));
     }
 
 pub entered : (made : Made) (done : Answered made) (place : ℕ) → place ≡ length made.entries → Entered made.beginning made.entries (made.entries ++ entry_with made done.answer.kept ∷ []) made.caller made.reading made.call (record { moment = made.moment; place = place; reply = done.answer.told })
@@ -118,6 +121,7 @@ entered made done place last =
       place = last;
       follows = record {
         no_earlier = omega (arith, made.at_, same_moment made);
+        waited = made.waited;
         answer = subst (λ (s : State). MayAnswer s made.call (answered made.beginning.params.room s made.caller made.call).reply done.answer.told) (same_state made) done.answers.allows;
       };
       fits = fits_behind made done.within;
@@ -128,20 +132,30 @@ pub legal_behind : (beginning : Beginning) (old new : List Entry) (caller readin
 legal_behind beginning old new caller reading call told joins legal =
     subst (Legal beginning) (sym joins.joined) (Legal-push beginning old (entry_of caller call told) legal joins.follows joins.fits)
 
--- a call for which memory is kept frees what is reserved for it
-closing_frees : (room : ℕ) (state : State) (caller moment : ℕ) (call : Call) → is_kept state caller call ≡ true → reserve (answered room (at_moment moment state) caller call).state + 64 ≤ reserve state
-closing_frees room state caller moment Begin kept = absurd (false≢true kept)
-closing_frees room state caller moment (Lookup query) kept = absurd (false≢true kept)
-closing_frees room state caller moment (Pick vcl target word) kept = absurd (false≢true kept)
-closing_frees room state caller moment (Insert token object) kept =
-    let here : cond (has_fetch state.fetches caller token) (length (without_fetch token state.fetches)) (length state.fetches) ≡ length (without_fetch token state.fetches) = cond-true _ _ _ kept in
-    let closed = reserve-inserted room (at_moment moment state) caller token object (has_fetch state.fetches caller token) (in_time moment object) (nat_lt room (sizes_of (those_in_time moment state.objects) + size_of object)) in
-    omega (arith, closed, here, length-without_fetch state.fetches caller token kept)
-closing_frees room state caller moment End kept = ending_takes (at_moment moment state) caller (has_round state.rounds caller) refl kept
+-- the end of a round and the drop of a fetch free what is reserved for them
+pub closing_frees : (room : ℕ) (state : State) (caller moment : ℕ) (call : Call) → is_kept state caller call ≡ true → is_insertion state caller call ≡ false → reserve (answered room (at_moment moment state) caller call).state + 64 ≤ reserve state
+closing_frees room state caller moment (Insert token object stale) kept other = absurd (true≢false (sym kept ∙ other))
+closing_frees room state caller moment (Drop token) kept other = dropping_takes (at_moment moment state) caller token (has_fetch state.fetches caller token) refl kept
+closing_frees room state caller moment End kept other = ending_takes (at_moment moment state) caller (has_round state.rounds caller) refl kept
+closing_frees room state caller moment call kept other = absurd (false≢true kept)
 
--- so there is room for its entry
-pub room_kept : (made : Made) → is_kept (before made) made.caller made.call ≡ true → length made.entries + (made.opens + 1) ≤ made.room
-room_kept made kept =
-    let here : is_kept made.old made.caller made.call ≡ true = ap (λ (s : State). is_kept s made.caller made.call) made.sound.reaches ∙ kept in
-    let frees = closing_frees made.beginning.params.room made.old made.caller made.moment made.call here in
-    omega (arith, frees, made.reserves, made.sound.reserved)
+-- a call for which memory is kept by the law is one by what is kept
+pub kept_too : (beginning : Beginning) (entries : List Entry) (room used : ℕ) (state : State) → Sound beginning entries room used state → (caller : ℕ) (call : Call) → is_kept (reached beginning entries) caller call ≡ true → is_kept state caller call ≡ true
+kept_too beginning entries room used state sound caller call kept = ap (λ (s : State). is_kept s caller call) sound.reaches ∙ kept
+
+-- what an answer leaves reserves no more than the law's answer
+pub answer_reserves : (room : ℕ) (old new : State) (caller moment : ℕ) (call : Call) (answer : Answer) → Answers old new moment call (answered room (at_moment moment old) caller call) answer → reserve new ≤ reserve (answered room (at_moment moment old) caller call).state
+answer_reserves room old new caller moment call answer answers =
+    let beginning : Beginning = record { params = record { room = room; history = 0 }; base = old } in
+    let least = reserve-after beginning old caller moment call answer.told answers.allows in
+    omega (arith, least, ap reserve answers.leaves)
+
+-- a fetch that is closed frees what is reserved for it
+pub closed_frees : (fetches : List OpenFetch) (caller token : ℕ) → has_fetch fetches caller token ≡ true → length (without_fetch token fetches) + 1 ≤ length fetches
+closed_frees = length-without_fetch
+
+-- where there was room for the entry and for those that close what the law's answer leaves open, there is for what is open
+pub room_left : {E : Type 0} (room : ℕ) (old new : State) (caller moment : ℕ) (call : Call) (result : Result Answer E) (used capacity closings : ℕ) → IfOk result (Answers old new moment call (answered room (at_moment moment old) caller call)) → 64 * closings ≡ reserve (answered room (at_moment moment old) caller call).state → used + (closings + 1) ≤ capacity → OnOk result (used + 1 + length new.rounds + length new.fetches ≤ capacity)
+room_left room old new caller moment call (Ok answer) used capacity closings answers reserves enough =
+    let least = answer_reserves room old new caller moment call answer answers in omega (arith, least, reserves, enough)
+room_left room old new caller moment call (Err error) used capacity closings answers reserves enough = tt

@@ -1,8 +1,15 @@
 // The cache itself.
-ghost use Rattle.std.specs.Prelude.{◌≡◌, ◌∷◌, ◌++◌, ◌+◌, ◌*◌, ◌^◌, ◌<◌, ◌≤◌, ◌↔◌, [], length, IsTrue};
+ghost use Rattle.std.specs.Prelude.{◌≡◌, ◌∷◌, ◌++◌, ◌+◌, ◌*◌, ◌^◌, ◌<◌, ◌≤◌, ◌↔◌, [], true, length, IsTrue, IfOk, IsOk, OnOk, OnErr};
 ghost use Rattle.std.specs.Vec.{vec_capacity};
+ghost use Rattle.cache_law.specs.State.{at_moment, reserve};
+ghost use Rattle.cache_law.specs.Law.{answered};
+ghost use Rattle.cache_law.specs.Core.{is_kept};
 ghost use Rattle.cache_law.specs.History.{bytes_of};
+ghost use Rattle.flat_core.specs.Found.{FindsFor};
+ghost use Rattle.flat_core.specs.Step.{Answers};
 
+use crate::answer::Answer;
+use crate::finding::Finding;
 use crate::store::Store;
 use cache_law::{Boot, CacheCore, Call, Entry, Params, StepError, Told, entry_bytes};
 use std::alloc::{AllocError, Global};
@@ -56,19 +63,27 @@ impl CacheCore for FlatCore {
         call: Call,
     ) -> Result<Told, StepError> {
         let moment = self.store.moment().max(reading);
-        let place = self.store.find(moment, &call);
-        let open = self.store.open_after(caller, moment, &call, place);
+        let finding = match self.store.find(caller, moment, &call) {
+            Ok(finding) => finding,
+            Err(_) => return Err(StepError::NoMemory),
+        };
+        let open = self.store.open_after(caller, moment, &call, &finding);
         if !fits(self.params.history, self.used, &call, open) {
             return Err(StepError::HistoryFull);
         }
         let open = open as usize;
-        if self.entries.try_reserve(open + 1).is_err() {
-            return Err(StepError::NoMemory);
-        }
-        let answer = match self
-            .store
-            .answer(alloc, self.params.room, caller, moment, &call, place)
-        {
+        let answered = answer_within(
+            alloc,
+            &mut self.entries,
+            &mut self.store,
+            self.params.room,
+            caller,
+            moment,
+            &call,
+            finding,
+            open,
+        );
+        let answer = match answered {
             Ok(answer) => answer,
             Err(_) => return Err(StepError::NoMemory),
         };
@@ -88,6 +103,14 @@ impl CacheCore for FlatCore {
         })
     }
 
+    fn bytes(&self) -> u64 {
+        self.used
+    }
+
+    fn awaits(&self, caller: u32) -> Option<u64> {
+        self.store.awaits(caller)
+    }
+
     fn closed(&self, token: u64) -> bool {
         self.store.closed(token)
     }
@@ -95,6 +118,40 @@ impl CacheCore for FlatCore {
     fn into_history(self) -> Sequence<Entry> {
         Sequence::from_vec(self.entries)
     }
+}
+
+/// Answers the call, which finds so, where there is room for its entry and for those that will close what is open behind
+/// it, so many in number. Without that room an insertion of an open fetch is refused, in the room that was kept for it.
+fn answer_within(
+    alloc: Global,
+    entries: &mut Vec<Entry>,
+    store: &mut Store,
+    room: u64,
+    caller: u32,
+    moment: u64,
+    call: &Call,
+    finding: Option<Finding>,
+    closings: usize,
+) -> Result<Answer, AllocError>
+    requires found { FindsFor (at_moment moment store.old) caller call.now finding }
+    requires numbers { store.old.next + 1 < 2 ^ 64 }
+    requires bound { closings < 2 ^ 63 }
+    requires reserves { 64 * closings ≡ reserve (answered room (at_moment moment store.old) caller call.now).state }
+    requires reserved { length entries.old.items + length store.old.rounds + length store.old.fetches ≤ vec_capacity entries.old }
+    ensures ok { IfOk result (Answers store.old store.new moment call.now (answered room (at_moment moment store.old) caller call.now)) }
+    ensures same { entries.new.items ≡ entries.old.items }
+    ensures left { OnOk result (length entries.new.items + 1 + length store.new.rounds + length store.new.fetches ≤ vec_capacity entries.new) }
+    ensures larger { vec_capacity entries.old ≤ vec_capacity entries.new }
+    ensures err { OnErr result (store.new ≡ store.old) }
+    ensures kept { is_kept store.old caller call.now ≡ true → IsOk result }
+{
+    if entries.try_reserve(closings + 1).is_err() {
+        match store.refuse(caller, moment, call) {
+            Some(answer) => return Ok(answer),
+            None => return Err(AllocError),
+        }
+    }
+    store.answer(alloc, room, caller, moment, call, finding)
 }
 
 /// Whether the limit isn't passed by a history of this many bytes, with the call's entry and what is reserved for so

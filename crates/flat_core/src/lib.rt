@@ -2,11 +2,12 @@
 //!
 //! Contract for the layer above: `FlatCore` is a `CacheCore`, which it makes at the limits and under the
 //! boot that it is given. A step scans the objects, the open rounds and the open fetches, never the
-//! history. The end of an open round and the insertion of an open fetch never want memory.
+//! history. The end of an open round and the insertion and the drop of an open fetch never want memory.
 #![tactic(auto)]
 
 mod answer;
 mod cache;
+mod finding;
 mod lists;
 mod store;
 

@@ -1,15 +1,16 @@
 // The law's tests of the lists that a cache holds, and the changes that it makes to them.
-ghost use Rattle.std.specs.Prelude.{◌≡◌, ◌==◌, ◌+◌, ◌-◌, ◌^◌, ◌∷◌, min, position, length, filter, OnOk, OnErr};
+ghost use Rattle.std.specs.Prelude.{◌≡◌, ◌==◌, ◌&&◌, ◌+◌, ◌-◌, ◌^◌, ◌≤◌, ◌∷◌, ◌++◌, find, Some, None, min, map, length, filter, option_and_then, OnOk, OnErr, if◌then◌else◌};
 ghost use Rattle.std.specs.List.{list_all, list_any};
+ghost use Rattle.std.specs.Option.{option_copied};
+ghost use Rattle.std.specs.VecDeque.{deque_len, deque_capacity};
 ghost use Rattle.cache_law.specs.Object.{in_time};
-ghost use Rattle.cache_law.specs.State.{has_round, has_fetch, is_closed, without_fetch, without_fetches_of, without_round_of, sizes_of};
-ghost use Rattle.flat_core.specs.Kept.{held_all, is_hit};
+ghost use Rattle.cache_law.specs.State.{has_round, has_fetch, is_closed, is_gone, is_open, least_of, least_token, least_with, remembering, those_in_time, told_to_wait, with_wait, without_fetch, without_fetches_of, without_round_of};
+ghost use Rattle.flat_core.specs.Kept.{counted_in, held_all, size_staying, sizes_staying, stays};
 
-use cache_law::{
-    Object, ObjectView, OpenFetch, OpenRound, Query, Shared, is_fresh_at, is_in_time, object_size,
-};
-use std::alloc::AllocError;
+use cache_law::{Object, ObjectView, OpenFetch, OpenRound, Shared, is_in_time, object_size};
+use std::alloc::{AllocError, Global};
 use std::collections::VecDeque;
+use units::{Copied, Sequence, Text};
 
 /// Whether a round of the caller is open.
 pub(crate) fn has_round(rounds: &VecDeque<OpenRound>, caller: u32) -> bool
@@ -29,7 +30,7 @@ pub(crate) fn has_fetch(fetches: &VecDeque<OpenFetch>, caller: u32, token: u64) 
 
 /// Whether a fetch of this number is open.
 fn is_open(fetches: &VecDeque<OpenFetch>, token: u64) -> bool
-    ensures { result ≡ list_any (λ fetch. fetch.token == token) fetches.now.items }
+    ensures { result ≡ is_open fetches.now.items token }
 {
     fetches.iter().any(|fetch| fetch.token == token)
 }
@@ -41,40 +42,185 @@ pub(crate) fn is_closed(fetches: &VecDeque<OpenFetch>, token: u64) -> bool
     !is_open(fetches, token)
 }
 
-/// Whether the object is in time at the moment and serves the query.
-fn is_hit(moment: u64, query: &Query, view: &ObjectView) -> bool
-    ensures { result ≡ is_hit moment query.now view.now }
+/// The least of a token and of another that may be known.
+fn least_of(token: u64, known: Option<u64>) -> u64
+    ensures { result ≡ least_of token known }
 {
-    is_in_time(moment, &view.object)
-        && view.object.key.as_slice() == query.key.as_slice()
-        && is_fresh_at(moment, &view.object)
+    match known {
+        Some(known) => token.min(known),
+        None => token,
+    }
 }
 
-/// The place of the first object that is in time at the moment and serves the query.
-pub(crate) fn place_of(objects: &VecDeque<ObjectView>, moment: u64, query: &Query) -> Option<usize>
-    ensures { result ≡ position (is_hit moment query.now) objects.now.items }
+fn least_with(key: &[Text], known: Option<u64>, fetch: &OpenFetch) -> Option<u64>
+    ensures { result ≡ least_with key.now known fetch.now }
 {
-    objects.iter().position(|view| is_hit(moment, query, view))
+    if fetch.key.as_slice() == key {
+        Some(least_of(fetch.token, known))
+    } else {
+        known
+    }
 }
 
-/// What the objects take of the room beside what is counted already, or the greatest number of 128 bits where that is
-/// less.
-fn sizes_from(start: u128, objects: &[ObjectView]) -> u128
-    ensures { result ≡ min (start + sizes_of (held_all objects.now)) (2 ^ 128 - 1) }
+/// The least token of the open fetches of a key.
+pub(crate) fn least_token(fetches: &VecDeque<OpenFetch>, key: &[Text]) -> Option<u64>
+    ensures { result ≡ least_token key.now fetches.now.items }
+{
+    fetches
+        .iter()
+        .fold(None, |known, fetch| least_with(key, known, fetch))
+}
+
+fn round_among(rounds: &[OpenRound], caller: u32) -> Option<&OpenRound>
+    ensures { option_copied result ≡ find (λ round. round.caller == caller) rounds.now }
+{
+    rounds.iter().find(|round| round.caller == caller)
+}
+
+/// The caller's round in one list, and else in the other.
+fn round_of<'a>(
+    newer: &'a [OpenRound],
+    older: &'a [OpenRound],
+    caller: u32,
+) -> Option<&'a OpenRound>
+    ensures { option_copied result ≡ find (λ round. round.caller == caller) (newer.now ++ older.now) }
+{
+    match round_among(newer, caller) {
+        Some(round) => Some(round),
+        None => round_among(older, caller),
+    }
+}
+
+fn waits_in(round: Option<&OpenRound>) -> Option<u64>
+    ensures { result ≡ option_and_then (λ one. one.waits) (option_copied round.entry) }
+{
+    match round {
+        Some(round) => round.waits,
+        None => None,
+    }
+}
+
+/// The token that the caller's newest lookup in its open round was told to wait for.
+fn told_to_wait(rounds: &VecDeque<OpenRound>, caller: u32) -> Option<u64>
+    ensures { result ≡ told_to_wait rounds.now.items caller }
+{
+    let (newer, older) = rounds.as_slices();
+    let round = round_of(newer, older, caller);
+    waits_in(round)
+}
+
+/// The same, while its fetch is open.
+pub(crate) fn awaits(
+    rounds: &VecDeque<OpenRound>,
+    fetches: &VecDeque<OpenFetch>,
+    caller: u32,
+) -> Option<u64>
+    ensures { result ≡ option_and_then (λ token. if is_open fetches.now.items token then Some token else None) (told_to_wait rounds.now.items caller) }
+{
+    let token = told_to_wait(rounds, caller)?;
+    if is_open(fetches, token) {
+        Some(token)
+    } else {
+        None
+    }
+}
+
+/// The round remembers what its caller was told to wait for.
+fn remembering(caller: u32, token: Option<u64>, round: OpenRound) -> OpenRound
+    ensures { result ≡ remembering caller token round }
+{
+    if round.caller == caller {
+        OpenRound {
+            waits: token,
+            ..round
+        }
+    } else {
+        round
+    }
+}
+
+/// The caller's round remembers what it was told to wait for.
+pub(crate) fn remember(rounds: &mut VecDeque<OpenRound>, caller: u32, token: Option<u64>)
+    ensures { rounds.new.items ≡ with_wait caller token rounds.old.items }
+{
+    for place in 0..rounds.len() {
+        rounds[place] = remembering(caller, token, rounds[place]);
+    }
+}
+
+/// Counts a hit of the object if it has this number.
+fn count_in(view: &mut ObjectView, number: u64)
+    ensures { view.new ≡ counted_in number view.old }
+{
+    if view.number == number {
+        view.hits = view.hits.saturating_add(1);
+    }
+}
+
+/// Counts a hit of the object of this number.
+pub(crate) fn count_hit(objects: &mut VecDeque<ObjectView>, number: u64)
+    ensures { objects.new.items ≡ map (counted_in number) objects.old.items }
+{
+    for place in 0..objects.len() {
+        count_in(&mut objects[place], number);
+    }
+}
+
+/// Whether the object stays where one takes the place of the stale one.
+fn stays(stale: Option<u64>, view: &ObjectView) -> bool
+    ensures { result ≡ stays stale view.now }
+{
+    match stale {
+        Some(stale) => view.number != stale,
+        None => true,
+    }
+}
+
+fn size_staying(stale: Option<u64>, view: &ObjectView) -> u128
+    ensures { result ≡ min (size_staying stale view.now) (2 ^ 128 - 1) }
+{
+    if stays(stale, view) {
+        object_size(&view.object)
+    } else {
+        0
+    }
+}
+
+/// What the objects but the stale one take of the room beside what is counted already, or the greatest number of 128
+/// bits where that is less.
+fn sizes_from(start: u128, stale: Option<u64>, objects: &[ObjectView]) -> u128
+    ensures { result ≡ min (start + sizes_staying stale objects.now) (2 ^ 128 - 1) }
 {
     let mut total = start;
     for view in objects {
-        total = total.saturating_add(object_size(&view.object));
+        total = total.saturating_add(size_staying(stale, view));
     }
     total
 }
 
-/// What the objects take of the room, or the greatest number of 128 bits where that is less.
-pub(crate) fn sizes_of(objects: &VecDeque<ObjectView>) -> u128
-    ensures { result ≡ min (sizes_of (held_all objects.now.items)) (2 ^ 128 - 1) }
+/// What the objects but the stale one take of the room, or the greatest number of 128 bits where that is less.
+pub(crate) fn sizes_without(objects: &VecDeque<ObjectView>, stale: Option<u64>) -> u128
+    ensures { result ≡ min (sizes_staying stale objects.now.items) (2 ^ 128 - 1) }
 {
     let (newer, older) = objects.as_slices();
-    sizes_from(sizes_from(0, newer), older)
+    sizes_from(sizes_from(0, stale, newer), stale, older)
+}
+
+/// Whether an object in time has the number.
+fn has_number(objects: &VecDeque<ObjectView>, moment: u64, number: u64) -> bool
+    ensures { result ≡ list_any (λ view. (view.number == number) && in_time moment view.object) objects.now.items }
+{
+    objects.iter().any(|view| view.number == number && is_in_time(moment, &view.object))
+}
+
+/// Whether a stale object is named that isn't in time, or isn't there.
+pub(crate) fn is_gone(objects: &VecDeque<ObjectView>, moment: u64, stale: Option<u64>) -> bool
+    ensures { result ≡ is_gone stale (those_in_time moment (held_all objects.now.items)) }
+{
+    match stale {
+        Some(stale) => !has_number(objects, moment, stale),
+        None => false,
+    }
 }
 
 fn are_in_time(objects: &VecDeque<ObjectView>, moment: u64) -> bool
@@ -92,13 +238,23 @@ pub(crate) fn keep_in_time(objects: &mut VecDeque<ObjectView>, moment: u64)
     }
 }
 
-/// Puts the object before the others, under the number of its fetch.
+/// Drops the stale object.
+fn drop_stale(objects: &mut VecDeque<ObjectView>, stale: Option<u64>)
+    ensures items { objects.new.items ≡ filter (stays stale) objects.old.items }
+    ensures len { deque_len objects.new ≤ deque_len objects.old }
+    ensures capacity { deque_capacity objects.new ≡ deque_capacity objects.old }
+{
+    objects.retain(|view| stays(stale, view));
+}
+
+/// Puts the object before the others, under the number of its fetch and in the stale one's place.
 pub(crate) fn put_first(
     objects: &mut VecDeque<ObjectView>,
     token: u64,
     object: &Shared<Object>,
+    stale: Option<u64>,
 ) -> Result<(), AllocError>
-    ensures ok { OnOk result (objects.new.items ≡ record { number = token; hits = 0; object = object.now } ∷ objects.old.items) }
+    ensures ok { OnOk result (objects.new.items ≡ record { number = token; hits = 0; object = object.now } ∷ filter (stays stale) objects.old.items) }
     ensures err { OnErr result (objects.new.items ≡ objects.old.items) }
 {
     let view = ObjectView {
@@ -106,7 +262,25 @@ pub(crate) fn put_first(
         hits: 0,
         object: object.copy()?,
     };
-    objects.push_front(view)?;
+    objects.try_reserve(1)?;
+    drop_stale(objects, stale);
+    objects.push_front_reserved(view);
+    Ok(())
+}
+
+/// Opens a fetch of the key.
+pub(crate) fn open_fetch(
+    alloc: Global,
+    fetches: &mut VecDeque<OpenFetch>,
+    token: u64,
+    caller: u32,
+    key: &Sequence<Text>,
+) -> Result<(), AllocError>
+    ensures ok { OnOk result (fetches.new.items ≡ record { token = token; caller = caller; key = key.now } ∷ fetches.old.items) }
+    ensures err { OnErr result (fetches.new.items ≡ fetches.old.items) }
+{
+    let key = key.copied(alloc)?;
+    fetches.push_front(OpenFetch { token, caller, key })?;
     Ok(())
 }
 

@@ -1,20 +1,23 @@
 // What the plain cache holds, and how each call changes it.
-ghost use Rattle.std.specs.Prelude.{◌≡◌, ℕ, ◌+◌, ◌*◌, ◌<◌, ◌^◌, true, length, if◌then◌else◌, Some, IfOk, OnOk, OnErr, IsOk, ◌≤◌, slice_index_or, slice_set};
-ghost use Rattle.cache_law.specs.declared.object.ObjectView.{ObjectView as Stood};
-ghost use Rattle.cache_law.specs.declared.call.Call.TheVariants.{Begin as BeginCall, Lookup as LookupCall, Pick as PickCall, Insert as InsertCall, End as EndCall};
-ghost use Rattle.cache_law.specs.declared.call.Reply.TheVariants.{Began, Hit, Picked};
-ghost use Rattle.cache_law.specs.State.{at_moment, reserve, has_round, has_fetch, is_closed, without_fetch, without_fetches_of, without_round_of};
+ghost use Rattle.std.specs.Prelude.{◌≡◌, ℕ, ◌+◌, ◌*◌, ◌<◌, ◌^◌, true, false, Option, length, if◌then◌else◌, Some, None, IfOk, IfSome, OnErr, OnSome, IfNone, IsOk, ◌≤◌};
+ghost use Rattle.cache_law.specs.declared.object.Object.{Object as Made};
+ghost use Rattle.cache_law.specs.declared.call.Call.TheVariants.{Begin as BeginCall, Draw as DrawCall, Lookup as LookupCall, Pick as PickCall, Insert as InsertCall, Drop as DropCall, End as EndCall};
+ghost use Rattle.cache_law.specs.declared.call.Reply.TheVariants.{Began, Grace, Picked};
+ghost use Rattle.cache_law.specs.State.{at_moment, awaits, reserve, has_round, has_fetch, is_closed, is_gone, those_in_time, without_fetch, without_fetches_of, without_round_of};
 ghost use Rattle.cache_law.specs.Beginning.{base_of};
 ghost use Rattle.cache_law.specs.Lookup.{raised};
-ghost use Rattle.cache_law.specs.Law.{answered, begun, looked_up, leaving, inserted, ended};
+ghost use Rattle.cache_law.specs.Law.{answered, begun, drawn, dropped, leaving, inserted, ended};
 ghost use Rattle.cache_law.specs.Core.{is_kept};
-ghost use Rattle.flat_core.specs.Kept.{place_for};
+ghost use Rattle.flat_core.specs.declared.finding.Finding.TheVariants as findings;
+ghost use Rattle.flat_core.specs.Found.{is_insertion, opens_more, told_so, FindsFor};
 ghost use Rattle.flat_core.specs.Step.{Answers};
 
 use crate::answer::Answer;
+use crate::finding::{Finding, opens_fetch, seek};
 use crate::lists::{
-    close_fetch, close_fetches_of, close_round_of, count_fetches_without, count_rounds_without,
-    count_without, has_fetch, has_round, is_closed, keep_in_time, place_of, put_first, sizes_of,
+    awaits, close_fetch, close_fetches_of, close_round_of, count_fetches_without, count_hit,
+    count_rounds_without, count_without, has_fetch, has_round, is_closed, is_gone, keep_in_time,
+    open_fetch, put_first, remember, sizes_without,
 };
 use cache_law::{
     Boot, Call, Object, ObjectView, OpenFetch, OpenRound, Query, Reply, Shared, Vcl, is_in_time,
@@ -51,6 +54,9 @@ impl Model for Store {
       moment = s.moment;
       next = s.next;
       active = s.active;
+      others = [];
+      counters = [];
+      health = [];
       bans = [];
       objects = held_all s.objects.items;
       fetches = s.fetches.items;
@@ -64,6 +70,7 @@ impl Store {
     {
         let active = Vcl {
             number: BOOT_VCL,
+            name: Text::of(alloc, b"boot")?,
             text: boot.text.copy()?,
             backends: boot.backends.copied(alloc)?,
         };
@@ -84,20 +91,44 @@ impl Store {
         is_closed(&self.fetches, token)
     }
 
+    /// The token that the caller's newest lookup was told to wait for, while it isn't closed.
+    pub fn awaits(&self, caller: u32) -> Option<u64>
+        ensures { result ≡ awaits self.now caller }
+    {
+        awaits(&self.rounds, &self.fetches, caller)
+    }
+
     pub fn moment(&self) -> u64
         ensures { result ≡ self.now.moment }
     {
         self.moment
     }
 
-    /// The place of the object that the call is answered with.
-    pub fn find(&self, moment: u64, call: &Call) -> Option<usize>
-        ensures { result ≡ place_for self.now moment call.now }
+    /// What a call of the caller finds: a lookup in its open round finds something, and no other call does.
+    pub fn find(&self, caller: u32, moment: u64, call: &Call) -> Result<Option<Finding>, AllocError>
+        ensures found { IfOk result (λ finding. FindsFor (at_moment moment self.now) caller call.now finding) }
+        ensures kept { is_kept self.now caller call.now ≡ true → IsOk result }
     {
         match call {
-            Call::Lookup(query) => place_of(&self.objects, moment, query),
-            Call::Begin | Call::Pick { .. } | Call::Insert { .. } | Call::End => None,
+            Call::Lookup(query) => self.find_for(caller, moment, query),
+            Call::Begin | Call::Draw | Call::Pick { .. } => Ok(None),
+            Call::Insert { .. } | Call::Drop { .. } | Call::End => Ok(None),
         }
+    }
+
+    fn find_for(
+        &self,
+        caller: u32,
+        moment: u64,
+        query: &Query,
+    ) -> Result<Option<Finding>, AllocError>
+        ensures { IfOk result (λ finding. FindsFor (at_moment moment self.now) caller (LookupCall query.now) finding) }
+    {
+        if !has_round(&self.rounds, caller) {
+            return Ok(None);
+        }
+        let finding = seek(&self.objects, &self.fetches, moment, query)?;
+        Ok(Some(finding))
     }
 
     /// How many rounds and fetches are open.
@@ -108,30 +139,57 @@ impl Store {
         self.rounds.len() as u128 + self.fetches.len() as u128
     }
 
-    /// How many rounds and fetches are open behind the law's answer to the call, which finds its object here.
-    pub fn open_after(&self, caller: u32, moment: u64, call: &Call, place: Option<usize>) -> u128
-        requires { place ≡ place_for self.now moment call.now }
+    /// How many rounds and fetches are open behind the law's answer to the call, which finds so.
+    pub fn open_after(
+        &self,
+        caller: u32,
+        moment: u64,
+        call: &Call,
+        finding: &Option<Finding>,
+    ) -> u128
+        requires { FindsFor (at_moment moment self.now) caller call.now finding.now }
         ensures reserve { (room : ℕ) → 64 * result ≡ reserve (answered room (at_moment moment self.now) caller call.now).state }
         ensures bound { result ≤ 2 ^ 65 }
     {
         match call {
-            Call::Begin => {
-                if has_round(&self.rounds, caller) {
-                    self.open()
-                } else {
-                    self.open() + 1
-                }
-            }
-            Call::Lookup(_) => {
-                if has_round(&self.rounds, caller) && place.is_none() {
-                    self.open() + 1
-                } else {
-                    self.open()
-                }
-            }
+            Call::Begin => self.open_with_round(caller),
+            Call::Draw => self.open(),
+            Call::Lookup(_) => self.open_with(finding),
             Call::Pick { .. } => self.open(),
-            Call::Insert { token, .. } => self.open_without_fetch(caller, *token),
+            Call::Insert { token, stale, .. } => {
+                self.open_without_inserted(caller, moment, *token, *stale)
+            }
+            Call::Drop { token } => self.open_without_fetch(caller, *token),
             Call::End => self.open_without_round(caller),
+        }
+    }
+
+    /// What is open once the caller has a round.
+    fn open_with_round(&self, caller: u32) -> u128
+        ensures value { result ≡ length self.now.rounds + length self.now.fetches + (if has_round self.now.rounds caller then 0 else 1) }
+        ensures bound { result ≤ 2 ^ 65 }
+    {
+        if has_round(&self.rounds, caller) {
+            self.open()
+        } else {
+            self.open() + 1
+        }
+    }
+
+    /// What is open behind a lookup that found so.
+    fn open_with(&self, finding: &Option<Finding>) -> u128
+        ensures value { result ≡ length self.now.rounds + length self.now.fetches + (if opens_more finding.now then 1 else 0) }
+        ensures bound { result ≤ 2 ^ 65 }
+    {
+        match finding {
+            Some(found) => {
+                if opens_fetch(found) {
+                    self.open() + 1
+                } else {
+                    self.open()
+                }
+            }
+            None => self.open(),
         }
     }
 
@@ -145,6 +203,23 @@ impl Store {
         }
         let others = count_without(&self.fetches, token);
         self.rounds.len() as u128 + others as u128
+    }
+
+    /// What is open behind an insertion: a stale object that is gone leaves the fetch open.
+    fn open_without_inserted(
+        &self,
+        caller: u32,
+        moment: u64,
+        token: u64,
+        stale: Option<u64>,
+    ) -> u128
+        ensures value { result ≡ length self.now.rounds + (if is_gone stale (those_in_time moment self.now.objects) then length self.now.fetches else (if has_fetch self.now.fetches caller token then length (without_fetch token self.now.fetches) else length self.now.fetches)) }
+        ensures bound { result < 2 ^ 65 }
+    {
+        if is_gone(&self.objects, moment, stale) {
+            return self.open();
+        }
+        self.open_without_fetch(caller, token)
     }
 
     /// What is open once the caller's round and its fetches are closed, if it has a round.
@@ -162,8 +237,7 @@ impl Store {
         rounds as u128 + fetches as u128
     }
 
-    /// Answers the call, which finds its object here, and leaves what is kept behind it. Where memory is wanting,
-    /// all is as before.
+    /// Answers the call, which finds so, and leaves what is kept behind it. Where memory is wanting, all is as before.
     pub fn answer(
         &mut self,
         alloc: Global,
@@ -171,9 +245,9 @@ impl Store {
         caller: u32,
         moment: u64,
         call: &Call,
-        place: Option<usize>,
+        finding: Option<Finding>,
     ) -> Result<Answer, AllocError>
-        requires found { place ≡ place_for self.old moment call.now }
+        requires found { FindsFor (at_moment moment self.old) caller call.now finding }
         requires numbers { self.old.next + 1 < 2 ^ 64 }
         ensures ok { IfOk result (Answers self.old self.new moment call.now (answered room (at_moment moment self.old) caller call.now)) }
         ensures err { OnErr result (self.new ≡ self.old) }
@@ -181,11 +255,49 @@ impl Store {
     {
         match call {
             Call::Begin => self.begin(alloc, caller, moment),
-            Call::Lookup(query) => self.lookup(alloc, caller, moment, query, place),
+            Call::Draw => Ok(self.draw(caller, moment)),
+            Call::Lookup(query) => self.lookup(alloc, caller, moment, query, finding),
             Call::Pick { target, .. } => self.pick(alloc, moment, target),
-            Call::Insert { token, object } => Ok(self.insert(room, caller, moment, *token, object)),
+            Call::Insert {
+                token,
+                object,
+                stale,
+            } => Ok(self.insert(room, caller, moment, *token, object, *stale)),
+            Call::Drop { token } => Ok(self.drop_fetch(caller, moment, *token)),
             Call::End => Ok(self.end(caller, moment)),
         }
+    }
+
+    /// Refuses the insertion of an open fetch for want of memory, which closes the fetch. Of another call nothing is
+    /// said.
+    pub fn refuse(&mut self, caller: u32, moment: u64, call: &Call) -> Option<Answer>
+        ensures refused { (room : ℕ) → IfSome result (Answers self.old self.new moment call.now (answered room (at_moment moment self.old) caller call.now)) }
+        ensures less { OnSome result (length self.new.rounds + length self.new.fetches + 1 ≤ length self.old.rounds + length self.old.fetches) }
+        ensures other { IfNone result (self.new ≡ self.old) }
+        ensures kept { IfNone result (is_insertion self.old caller call.now ≡ false) }
+    {
+        match call {
+            Call::Insert { token, .. } => self.refuse_insertion(caller, moment, *token),
+            Call::Begin | Call::Draw | Call::Lookup(_) | Call::Pick { .. } => None,
+            Call::Drop { .. } | Call::End => None,
+        }
+    }
+
+    fn refuse_insertion(&mut self, caller: u32, moment: u64, number: u64) -> Option<Answer>
+        ensures refused { (room : ℕ) (object : Made) (stale : Option ℕ) → IfSome result (Answers self.old self.new moment (InsertCall number object stale) (inserted room (at_moment moment self.old) caller number object stale)) }
+        ensures less { OnSome result (length self.new.rounds + length self.new.fetches + 1 ≤ length self.old.rounds + length self.old.fetches) }
+        ensures other { IfNone result (self.new ≡ self.old) }
+        ensures kept { IfNone result (has_fetch self.old.fetches caller number ≡ false) }
+    {
+        if !has_fetch(&self.fetches, caller, number) {
+            return None;
+        }
+        self.moment = moment;
+        close_fetch(&mut self.fetches, number);
+        Some(Answer {
+            told: Reply::Refused,
+            kept: Reply::Refused,
+        })
     }
 
     fn begin(&mut self, alloc: Global, caller: u32, moment: u64) -> Result<Answer, AllocError>
@@ -204,6 +316,7 @@ impl Store {
         let round = OpenRound {
             caller,
             vcl: self.active.number,
+            waits: None,
         };
         self.rounds.push_front(round)?;
         self.next += 1;
@@ -211,44 +324,186 @@ impl Store {
         Ok(answer)
     }
 
+    fn draw(&mut self, caller: u32, moment: u64) -> Answer
+        requires { self.old.next + 1 < 2 ^ 64 }
+        ensures { Answers self.old self.new moment DrawCall (drawn (at_moment moment self.old) caller) result }
+    {
+        self.moment = moment;
+        if !has_round(&self.rounds, caller) {
+            return Answer {
+                told: Reply::NoRound,
+                kept: Reply::NoRound,
+            };
+        }
+        let number = self.next;
+        self.next += 1;
+        Answer {
+            told: Reply::Drawn(number),
+            kept: Reply::Drawn(number),
+        }
+    }
+
     fn lookup(
         &mut self,
         alloc: Global,
         caller: u32,
         moment: u64,
-        query: &Shared<Query>,
-        place: Option<usize>,
+        query: &Query,
+        finding: Option<Finding>,
     ) -> Result<Answer, AllocError>
-        requires found { place ≡ place_for self.old moment (LookupCall query.now) }
+        requires found { FindsFor (at_moment moment self.old) caller (LookupCall query.now) finding }
         requires numbers { self.old.next + 1 < 2 ^ 64 }
-        ensures ok { IfOk result (Answers self.old self.new moment (LookupCall query.now) (looked_up (at_moment moment self.old) caller query.now)) }
+        ensures ok { IfOk result (Answers self.old self.new moment (LookupCall query.now) (told_so (at_moment moment self.old) caller query.now.key finding)) }
         ensures err { OnErr result (self.new ≡ self.old) }
     {
-        if !has_round(&self.rounds, caller) {
-            self.moment = moment;
-            return Ok(Answer {
-                told: Reply::NoRound,
-                kept: Reply::NoRound,
-            });
+        match finding {
+            Some(Finding::Hit(view)) => self.give(alloc, caller, moment, query, &view),
+            Some(Finding::GraceAlone(view)) => self.give_stale(alloc, caller, moment, query, &view),
+            Some(Finding::Grace(view)) => self.give_and_fetch(alloc, caller, moment, query, &view),
+            Some(Finding::HitMiss) => self.fetch_marked(alloc, caller, moment, query),
+            Some(Finding::Miss(stale)) => self.miss(alloc, caller, moment, query, stale),
+            Some(Finding::HitPass) => Ok(self.pass(caller, moment, query)),
+            Some(Finding::Wait(token)) => Ok(self.wait(caller, moment, query, token)),
+            None => Ok(self.look_not(moment, query)),
         }
-        match place {
-            Some(place) => {
-                let answer = hit_at(alloc, &mut self.objects, place)?;
-                self.moment = moment;
-                Ok(answer)
-            }
-            None => {
-                let token = self.next;
-                let key = query.key.copied(alloc)?;
-                self.fetches.push_front(OpenFetch { token, caller, key })?;
-                self.next += 1;
-                self.moment = moment;
-                Ok(Answer {
-                    told: Reply::Miss { token },
-                    kept: Reply::Miss { token },
-                })
-            }
+    }
+
+    /// Without an open round.
+    fn look_not(&mut self, moment: u64, query: &Query) -> Answer
+        ensures { (caller : ℕ) → Answers self.old self.new moment (LookupCall query.now) (told_so (at_moment moment self.old) caller query.now.key None) result }
+    {
+        self.moment = moment;
+        Answer {
+            told: Reply::NoRound,
+            kept: Reply::NoRound,
         }
+    }
+
+    fn pass(&mut self, caller: u32, moment: u64, query: &Query) -> Answer
+        ensures { Answers self.old self.new moment (LookupCall query.now) (told_so (at_moment moment self.old) caller query.now.key (Some findings.HitPass)) result }
+    {
+        remember(&mut self.rounds, caller, None);
+        self.moment = moment;
+        Answer {
+            told: Reply::HitPass,
+            kept: Reply::HitPass,
+        }
+    }
+
+    fn wait(&mut self, caller: u32, moment: u64, query: &Query, token: u64) -> Answer
+        ensures { Answers self.old self.new moment (LookupCall query.now) (told_so (at_moment moment self.old) caller query.now.key (Some (findings.Wait token))) result }
+    {
+        remember(&mut self.rounds, caller, Some(token));
+        self.moment = moment;
+        Answer {
+            told: Reply::Wait(token),
+            kept: Reply::Wait(token),
+        }
+    }
+
+    /// Gives an object that is fresh.
+    fn give(
+        &mut self,
+        alloc: Global,
+        caller: u32,
+        moment: u64,
+        query: &Query,
+        view: &ObjectView,
+    ) -> Result<Answer, AllocError>
+        ensures ok { IfOk result (Answers self.old self.new moment (LookupCall query.now) (told_so (at_moment moment self.old) caller query.now.key (Some (findings.Hit view.now)))) }
+        ensures err { OnErr result (self.new ≡ self.old) }
+    {
+        let answer = Answer::twice(alloc, Reply::Hit(raised(view)?))?;
+        count_hit(&mut self.objects, view.number);
+        remember(&mut self.rounds, caller, None);
+        self.moment = moment;
+        Ok(answer)
+    }
+
+    /// Gives an object in grace whose key has an open fetch.
+    fn give_stale(
+        &mut self,
+        alloc: Global,
+        caller: u32,
+        moment: u64,
+        query: &Query,
+        view: &ObjectView,
+    ) -> Result<Answer, AllocError>
+        ensures ok { IfOk result (Answers self.old self.new moment (LookupCall query.now) (told_so (at_moment moment self.old) caller query.now.key (Some (findings.GraceAlone view.now)))) }
+        ensures err { OnErr result (self.new ≡ self.old) }
+    {
+        let answer = Answer::twice(alloc, graced(view, None)?)?;
+        count_hit(&mut self.objects, view.number);
+        remember(&mut self.rounds, caller, None);
+        self.moment = moment;
+        Ok(answer)
+    }
+
+    /// Gives an object in grace, and opens a fetch of its key.
+    fn give_and_fetch(
+        &mut self,
+        alloc: Global,
+        caller: u32,
+        moment: u64,
+        query: &Query,
+        view: &ObjectView,
+    ) -> Result<Answer, AllocError>
+        requires { self.old.next + 1 < 2 ^ 64 }
+        ensures ok { IfOk result (Answers self.old self.new moment (LookupCall query.now) (told_so (at_moment moment self.old) caller query.now.key (Some (findings.Grace view.now)))) }
+        ensures err { OnErr result (self.new ≡ self.old) }
+    {
+        let token = self.next;
+        let answer = Answer::twice(alloc, graced(view, Some(token))?)?;
+        open_fetch(alloc, &mut self.fetches, token, caller, &query.key)?;
+        self.next += 1;
+        count_hit(&mut self.objects, view.number);
+        remember(&mut self.rounds, caller, None);
+        self.moment = moment;
+        Ok(answer)
+    }
+
+    /// Opens a fetch of a key that is marked so.
+    fn fetch_marked(
+        &mut self,
+        alloc: Global,
+        caller: u32,
+        moment: u64,
+        query: &Query,
+    ) -> Result<Answer, AllocError>
+        requires { self.old.next + 1 < 2 ^ 64 }
+        ensures ok { IfOk result (Answers self.old self.new moment (LookupCall query.now) (told_so (at_moment moment self.old) caller query.now.key (Some findings.HitMiss))) }
+        ensures err { OnErr result (self.new ≡ self.old) }
+    {
+        let token = self.next;
+        open_fetch(alloc, &mut self.fetches, token, caller, &query.key)?;
+        self.next += 1;
+        remember(&mut self.rounds, caller, None);
+        self.moment = moment;
+        Ok(Answer {
+            told: Reply::HitMiss { token },
+            kept: Reply::HitMiss { token },
+        })
+    }
+
+    fn miss(
+        &mut self,
+        alloc: Global,
+        caller: u32,
+        moment: u64,
+        query: &Query,
+        stale: Option<ObjectView>,
+    ) -> Result<Answer, AllocError>
+        requires { self.old.next + 1 < 2 ^ 64 }
+        ensures ok { IfOk result (Answers self.old self.new moment (LookupCall query.now) (told_so (at_moment moment self.old) caller query.now.key (Some (findings.Miss stale)))) }
+        ensures err { OnErr result (self.new ≡ self.old) }
+    {
+        let token = self.next;
+        let answer = Answer::twice(alloc, Reply::Miss { token, stale })?;
+        open_fetch(alloc, &mut self.fetches, token, caller, &query.key)?;
+        self.next += 1;
+        remember(&mut self.rounds, caller, None);
+        self.moment = moment;
+        Ok(answer)
     }
 
     /// So far a target is the name of one backend.
@@ -269,14 +524,21 @@ impl Store {
         moment: u64,
         token: u64,
         object: &Shared<Object>,
+        stale: Option<u64>,
     ) -> Answer
-        ensures { Answers self.old self.new moment (InsertCall token object.now) (inserted room (at_moment moment self.old) caller token object.now) result }
+        ensures { Answers self.old self.new moment (InsertCall token object.now stale) (inserted room (at_moment moment self.old) caller token object.now stale) result }
     {
         self.moment = moment;
         if !has_fetch(&self.fetches, caller, token) {
             return Answer {
                 told: Reply::NotOpen,
                 kept: Reply::NotOpen,
+            };
+        }
+        if is_gone(&self.objects, moment, stale) {
+            return Answer {
+                told: Reply::StaleGone,
+                kept: Reply::StaleGone,
             };
         }
         close_fetch(&mut self.fetches, token);
@@ -287,13 +549,14 @@ impl Store {
             };
         }
         keep_in_time(&mut self.objects, moment);
-        if sizes_of(&self.objects).saturating_add(object_size(object)) > u128::from(room) {
+        let others = sizes_without(&self.objects, stale);
+        if others.saturating_add(object_size(object)) > u128::from(room) {
             return Answer {
                 told: Reply::NoRoom,
                 kept: Reply::NoRoom,
             };
         }
-        if put_first(&mut self.objects, token, object).is_err() {
+        if put_first(&mut self.objects, token, object, stale).is_err() {
             return Answer {
                 told: Reply::Refused,
                 kept: Reply::Refused,
@@ -302,6 +565,23 @@ impl Store {
         Answer {
             told: Reply::Stored(token),
             kept: Reply::Stored(token),
+        }
+    }
+
+    fn drop_fetch(&mut self, caller: u32, moment: u64, number: u64) -> Answer
+        ensures { Answers self.old self.new moment (DropCall number) (dropped (at_moment moment self.old) caller number) result }
+    {
+        self.moment = moment;
+        if !has_fetch(&self.fetches, caller, number) {
+            return Answer {
+                told: Reply::NotOpen,
+                kept: Reply::NotOpen,
+            };
+        }
+        close_fetch(&mut self.fetches, number);
+        Answer {
+            told: Reply::Dropped,
+            kept: Reply::Dropped,
         }
     }
 
@@ -334,24 +614,6 @@ fn began(number: u64, vcl: &Vcl) -> Result<Reply, AllocError>
     })
 }
 
-/// Counts a hit of the object at this place, and answers with it.
-fn hit_at(
-    alloc: Global,
-    objects: &mut VecDeque<ObjectView>,
-    place: usize,
-) -> Result<Answer, AllocError>
-    requires { place < length objects.old.items }
-    ensures told { IfOk result (λ answer. (d : Stood) → answer.told ≡ Hit (raised (slice_index_or objects.old.items place d))) }
-    ensures twice { IfOk result (λ answer. answer.kept ≡ answer.told) }
-    ensures counted { OnOk result ((d : Stood) → objects.new.items ≡ slice_set objects.old.items place (raised (slice_index_or objects.old.items place d))) }
-    ensures err { OnErr result (objects.new.items ≡ objects.old.items) }
-{
-    let answer = Answer::twice(alloc, Reply::Hit(raised(&objects[place])?))?;
-    let view = &mut objects[place];
-    view.hits = view.hits.saturating_add(1);
-    Ok(answer)
-}
-
 /// The view with one more hit, of the same object.
 fn raised(view: &ObjectView) -> Result<ObjectView, AllocError>
     ensures { IfOk result (λ copy. copy ≡ raised view.now) }
@@ -360,5 +622,14 @@ fn raised(view: &ObjectView) -> Result<ObjectView, AllocError>
         number: view.number,
         hits: view.hits.saturating_add(1),
         object: view.object.copy()?,
+    })
+}
+
+fn graced(view: &ObjectView, token: Option<u64>) -> Result<Reply, AllocError>
+    ensures { IfOk result (λ reply. reply ≡ Grace (raised view.now) token) }
+{
+    Ok(Reply::Grace {
+        object: raised(view)?,
+        token,
     })
 }

@@ -1,9 +1,10 @@
-use Rattle.std.proofs.Common.{rules, ◌≡◌, ◌+◌, ◌*◌, ◌≤◌, ◌++◌, ◌∷◌, [], ◌<◌, arith, length, refl}
+use Rattle.std.proofs.Common.{rules, ◌≡◌, ◌+◌, ◌*◌, ◌≤◌, ◌++◌, ◌∷◌, [], arith, length, refl}
 use Rattle.std.specs.Prelude.{IsTrue}
+use Rattle.std.proofs.lemmas.Bool.{false≢true}
 use Rattle.std.specs.Vec.{vec_capacity}
 use Rattle.cache_law.specs.Beginning.{beginning_of}
 use Rattle.cache_law.specs.History.{bytes_of}
-use Rattle.flat_core.proofs.Steps.{Made, Answered, within_limit, room_kept, sound_behind, entered, legal_behind}
+use Rattle.flat_core.proofs.Steps.{Made, Answered, within_limit, kept_too, sound_behind, entered, legal_behind}
 use Rattle.flat_core.proofs.cache.FlatCoreCacheCore.step.Goals as goal
 
 pub returns-then-not-fits-clause-full : goal.returns-then-not-fits-clause-full
@@ -20,30 +21,19 @@ returns-then-not-fits-clause-full c =
       call = c.args.call;
       opens = c.open_after-open.result;
       sound = c.self.invariant;
+      waited = rw (← c.self.view_is) at c.requires.waited;
       at_ = search rules;
       reserves = c.open_after-open.ensures.reserve c.self.inside.params.room;
     } in
     rw (← c.self.view_is) (λ full fits. let within = within_limit made fits in let yes_ : IsTrue c.fits.result = c.fits.ensures.1 within in search rules)
 
-pub returns-then-is_err-clause-kept : goal.returns-then-is_err-clause-kept
-returns-then-is_err-clause-kept c =
-    let made : Made = record {
-      beginning = beginning_of c.self.inside.params c.self.inside.boot;
-      entries = c.self.inside.entries.items;
-      room = vec_capacity c.self.inside.entries;
-      used = c.self.inside.used;
-      old = c.self.inside.store;
-      caller = c.args.caller;
-      reading = c.args.reading;
-      moment = c.max-moment.result;
-      call = c.args.call;
-      opens = c.open_after-open.result;
-      sound = c.self.invariant;
-      at_ = search rules;
-      reserves = c.open_after-open.ensures.reserve c.self.inside.params.room;
-    } in
-    let full : vec_capacity c.self.inside.entries < length c.self.inside.entries.items + (c.open_after-open.result + 1) = search rules in
-    rw (← c.self.view_is) (λ kept no_memory. let room = room_kept made kept in omega (arith, full, room))
+pub returns-in-Err-clause-kept : goal.returns-in-Err-clause-kept
+returns-in-Err-clause-kept c =
+    rw (← c.self.view_is) (λ kept no_memory. absurd (false≢true (c.in-Err.ensures.kept (kept_too _ _ _ _ _ c.self.invariant c.args.caller c.args.call kept))))
+
+pub returns-in-Err-answered-clause-kept : goal.returns-in-Err-answered-clause-kept
+returns-in-Err-answered-clause-kept c =
+    rw (← c.self.view_is) (λ kept no_memory. absurd (false≢true (c.in-Err-answered.ensures.kept (kept_too _ _ _ _ _ c.self.invariant c.args.caller c.args.call kept))))
 
 pub invariant_of-self-2 : goal.invariant_of-self-2
 invariant_of-self-2 c =
@@ -59,14 +49,15 @@ invariant_of-self-2 c =
       call = c.args.call;
       opens = c.open_after-open.result;
       sound = c.self.invariant;
+      waited = rw (← c.self.view_is) at c.requires.waited;
       at_ = search rules;
       reserves = c.open_after-open.ensures.reserve c.self.inside.params.room;
     } in
     let within : made.used + bytes_of made.call + 64 * made.opens ≤ made.beginning.params.history = search rules in
-    let done : Answered made = record { new = c.answer.new.self; answer = c.in-Ok.answer; answers = search rules; within = within } in
+    let done : Answered made = record { new = c.answer_within-answered.new.store; answer = c.in-Ok-answered.answer; answers = c.in-Ok-answered.ensures.ok; within = within } in
     let bytes : c.entry_bytes.result ≡ bytes_of c.args.call = omega (arith, within) in
-    let items : c.push_within_room.new.entries.items ≡ c.self.inside.entries.items ++ record { caller = c.args.caller; moment = c.max-moment.result; call = c.args.call; reply = c.in-Ok.answer.kept } ∷ [] = search rules in
-    let room : length c.self.inside.entries.items + (c.open_after-open.result + 1) ≤ vec_capacity c.push_within_room.new.entries = search rules in
+    let items : c.push_within_room.new.entries.items ≡ c.self.inside.entries.items ++ record { caller = c.args.caller; moment = c.max-moment.result; call = c.args.call; reply = c.in-Ok-answered.answer.kept } ∷ [] = search rules in
+    let room : length c.self.inside.entries.items + 1 + length done.new.rounds + length done.new.fetches ≤ vec_capacity c.push_within_room.new.entries = search rules in
     rw (items, bytes) (sound_behind made done (vec_capacity c.push_within_room.new.entries) room)
 
 pub returns-clause-told : goal.returns-clause-told
@@ -83,13 +74,14 @@ returns-clause-told c =
       call = c.args.call;
       opens = c.open_after-open.result;
       sound = c.self.invariant;
+      waited = rw (← c.self.view_is) at c.requires.waited;
       at_ = search rules;
       reserves = c.open_after-open.ensures.reserve c.self.inside.params.room;
     } in
     let within : made.used + bytes_of made.call + 64 * made.opens ≤ made.beginning.params.history = search rules in
-    let done : Answered made = record { new = c.answer.new.self; answer = c.in-Ok.answer; answers = search rules; within = within } in
+    let done : Answered made = record { new = c.answer_within-answered.new.store; answer = c.in-Ok-answered.answer; answers = c.in-Ok-answered.ensures.ok; within = within } in
     let bytes : c.entry_bytes.result ≡ bytes_of c.args.call = omega (arith, within) in
-    let items : c.push_within_room.new.entries.items ≡ c.self.inside.entries.items ++ record { caller = c.args.caller; moment = c.max-moment.result; call = c.args.call; reply = c.in-Ok.answer.kept } ∷ [] = search rules in
+    let items : c.push_within_room.new.entries.items ≡ c.self.inside.entries.items ++ record { caller = c.args.caller; moment = c.max-moment.result; call = c.args.call; reply = c.in-Ok-answered.answer.kept } ∷ [] = search rules in
     rw (← c.self.view_is, items) (entered made done c.len-place.result (search rules))
 
 pub returns-clause-legal : goal.returns-clause-legal
@@ -106,11 +98,12 @@ returns-clause-legal c =
       call = c.args.call;
       opens = c.open_after-open.result;
       sound = c.self.invariant;
+      waited = rw (← c.self.view_is) at c.requires.waited;
       at_ = search rules;
       reserves = c.open_after-open.ensures.reserve c.self.inside.params.room;
     } in
     let within : made.used + bytes_of made.call + 64 * made.opens ≤ made.beginning.params.history = search rules in
-    let done : Answered made = record { new = c.answer.new.self; answer = c.in-Ok.answer; answers = search rules; within = within } in
+    let done : Answered made = record { new = c.answer_within-answered.new.store; answer = c.in-Ok-answered.answer; answers = c.in-Ok-answered.ensures.ok; within = within } in
     let bytes : c.entry_bytes.result ≡ bytes_of c.args.call = omega (arith, within) in
-    let items : c.push_within_room.new.entries.items ≡ c.self.inside.entries.items ++ record { caller = c.args.caller; moment = c.max-moment.result; call = c.args.call; reply = c.in-Ok.answer.kept } ∷ [] = search rules in
+    let items : c.push_within_room.new.entries.items ≡ c.self.inside.entries.items ++ record { caller = c.args.caller; moment = c.max-moment.result; call = c.args.call; reply = c.in-Ok-answered.answer.kept } ∷ [] = search rules in
     rw (← c.self.view_is, items) (legal_behind _ _ _ _ _ _ _ (entered made done _ refl))

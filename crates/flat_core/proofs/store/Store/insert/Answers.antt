@@ -1,15 +1,18 @@
 use Rattle.std.proofs.Common.{rules, refl, arith, ◌≡◌, ◌^◌, ◌-◌, min}
 use Rattle.cache_law.specs.Object.{size_of}
 use Rattle.flat_core.specs.contracts.store.Store.{the_view}
-use Rattle.flat_core.proofs.Replies.{Insertion, inserts_not, too_late, no_room, refuses, stores}
+use Rattle.flat_core.proofs.Replies.{Insertion, inserts_not, stale_gone, too_late, no_room, refuses_late, stores}
 use Rattle.flat_core.proofs.store.Store.insert.Goals as goal
 
 pub returns-then-not-has_fetch : goal.returns-then-not-has_fetch
-returns-then-not-has_fetch c = rw (← c.self.view_is) (inserts_not _ _ _ _ _ _ _ (search rules) refl refl)
+returns-then-not-has_fetch c = rw (← c.self.view_is) (inserts_not _ _ _ _ _ _ _ _ (search rules) refl refl)
+
+pub returns-then-is_gone : goal.returns-then-is_gone
+returns-then-is_gone c = rw (← c.self.view_is) (stale_gone _ _ _ _ _ _ _ _ (search rules) (search rules) refl refl)
 
 pub returns-then-not-is_in_time : goal.returns-then-not-is_in_time
 returns-then-not-is_in_time c =
-    rw (← c.self.view_is) (too_late _ _ _ _ _ _ _ _ (search rules) (search rules) (search rules) refl refl)
+    rw (← c.self.view_is) (too_late _ _ _ _ _ _ _ _ _ (search rules) (search rules) (search rules) (search rules) refl refl)
 
 pub returns-then-saturating_add-from : goal.returns-then-saturating_add-from
 returns-then-saturating_add-from c =
@@ -22,14 +25,16 @@ returns-then-saturating_add-from c =
       caller = c.args.caller;
       token = c.args.token;
       object = c.args.object.now;
+      stale = c.args.stale;
       fetches = c.close_fetch.new.fetches.items;
       kept = refl;
       opened = search rules;
+      here = search rules;
       thinned = search rules;
       closed = search rules;
     } in
     let size : c.object_size.result ≡ min (size_of c.args.object.now) (2 ^ 128 - 1) = rw c.deref-2.ensures at c.object_size.ensures in
-    rw (← c.self.view_is) (no_room made _ (search rules) (omega (arith, size, c.sizes_of.ensures)) refl refl)
+    rw (← c.self.view_is) (no_room made _ (search rules) (omega (arith, size, c.sizes_without-others.ensures)) refl refl)
 
 pub returns-then-is_err : goal.returns-then-is_err
 returns-then-is_err c =
@@ -42,14 +47,16 @@ returns-then-is_err c =
       caller = c.args.caller;
       token = c.args.token;
       object = c.args.object.now;
+      stale = c.args.stale;
       fetches = c.close_fetch.new.fetches.items;
       kept = refl;
       opened = search rules;
+      here = search rules;
       thinned = search rules;
       closed = search rules;
     } in
     let same : c.put_first.new.objects.items ≡ c.keep_in_time.new.objects.items = search rules in
-    rw (← c.self.view_is, same) (refuses made _ refl refl)
+    rw (← c.self.view_is, same) (refuses_late made _ refl refl)
 
 pub returns : goal.returns
 returns c =
@@ -62,11 +69,13 @@ returns c =
       caller = c.args.caller;
       token = c.args.token;
       object = c.args.object.now;
+      stale = c.args.stale;
       fetches = c.close_fetch.new.fetches.items;
       kept = refl;
       opened = search rules;
+      here = search rules;
       thinned = search rules;
       closed = search rules;
     } in
     let size : c.object_size.result ≡ min (size_of c.args.object.now) (2 ^ 128 - 1) = rw c.deref-2.ensures at c.object_size.ensures in
-    rw (← c.self.view_is) (stores made c.put_first.new.objects.items _ (search rules) (omega (arith, size, c.sizes_of.ensures)) (search rules) refl refl)
+    rw (← c.self.view_is) (stores made c.put_first.new.objects.items _ (search rules) (omega (arith, size, c.sizes_without-others.ensures)) (search rules) refl refl)

@@ -1,21 +1,27 @@
-use Rattle.std.proofs.Common.{rules, true, false, ap, sym}
-use Rattle.cache_law.specs.State.{State}
-use Rattle.flat_core.proofs.Reserves.{lookup_reserve, insert_reserve}
+use Rattle.std.proofs.Common.{ap, sym, ◌∙◌}
+use Rattle.cache_law.specs.State.{State, at_moment, reserve}
+use Rattle.cache_law.specs.Law.{Step}
+use Rattle.flat_core.proofs.Reserves.{begin_reserve, draw_reserve, lookup_reserve, insert_reserve, drop_reserve}
 use Rattle.flat_core.proofs.store.Store.open_after.Goals as goal
-use Rattle.flat_core.proofs.store.Store.open_after.Goals.{else-has_round-2-via-then-has_round-2+else-is_none, else-has_round-2-via-else-has_round-2}
 
-pub returns-then-is_none-clause-reserve : goal.returns-then-is_none-clause-reserve
-returns-then-is_none-clause-reserve c room =
-    rw (c.in-Lookup.is, c.open-then-is_none.ensures.value) (lookup_reserve room c.args.self.now c.self.inside.objects.items c.args.moment c.args.caller c.in-Lookup.field-0 c.args.place true (ap (λ (s : State). s.objects) (sym c.self.view_is)) (rw c.in-Lookup.is at c.requires) (search rules))
+pub returns-in-Begin-clause-reserve : goal.returns-in-Begin-clause-reserve
+returns-in-Begin-clause-reserve c room =
+    rw (c.in-Begin.is, c.open_with_round.ensures.value) (begin_reserve (at_moment c.args.moment c.args.self.now) c.args.caller)
 
-pub returns-else-has_round-2-clause-reserve : goal.returns-else-has_round-2-clause-reserve
-returns-else-has_round-2-clause-reserve c room =
-    rw (c.in-Lookup.is, c.open-else-has_round-2.ensures.value) (lookup_reserve room c.args.self.now c.self.inside.objects.items c.args.moment c.args.caller c.in-Lookup.field-0 c.args.place false (ap (λ (s : State). s.objects) (sym c.self.view_is)) (rw c.in-Lookup.is at c.requires)
-    (elim c.else-has_round-2.branch [
-      | else-has_round-2-via-then-has_round-2+else-is_none w ↦ search rules
-      | else-has_round-2-via-else-has_round-2 w ↦ search rules
-    ]))
+pub returns-in-Draw-clause-reserve : goal.returns-in-Draw-clause-reserve
+returns-in-Draw-clause-reserve c room =
+    rw (c.in-Draw.is, c.open.ensures.value) (draw_reserve (at_moment c.args.moment c.args.self.now) c.args.caller)
+
+pub returns-in-Lookup-clause-reserve : goal.returns-in-Lookup-clause-reserve
+returns-in-Lookup-clause-reserve c room =
+    rw (c.in-Lookup.is, c.open_with.ensures.value)
+    (lookup_reserve (at_moment c.args.moment c.args.self.now) c.args.caller c.in-Lookup.field-0.key c.args.finding.now
+    ∙ ap (λ (step : Step). reserve step.state) (sym (rw c.in-Lookup.is at c.requires)))
 
 pub returns-in-Insert-clause-reserve : goal.returns-in-Insert-clause-reserve
 returns-in-Insert-clause-reserve c room =
-    rw (c.in-Insert.is, c.open_without_fetch.ensures.value) (insert_reserve room c.args.self.now c.args.moment c.args.caller c.in-Insert.token c.in-Insert.object)
+    rw (c.in-Insert.is, c.open_without_inserted.ensures.value) (insert_reserve room (at_moment c.args.moment c.args.self.now) c.args.caller c.in-Insert.token c.in-Insert.object c.in-Insert.stale)
+
+pub returns-in-Drop-clause-reserve : goal.returns-in-Drop-clause-reserve
+returns-in-Drop-clause-reserve c room =
+    rw (c.in-Drop.is, c.open_without_fetch.ensures.value) (drop_reserve (at_moment c.args.moment c.args.self.now) c.args.caller c.in-Drop.token)
