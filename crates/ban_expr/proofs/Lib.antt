@@ -1,0 +1,4 @@
+pub mod Joined
+pub mod Sayings
+pub mod Checks
+pub mod Ones

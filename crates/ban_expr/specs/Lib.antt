@@ -1,0 +1,4 @@
+pub mod Fields
+pub mod Operators
+pub mod Reading
+pub mod Plans

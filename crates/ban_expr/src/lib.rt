@@ -1,0 +1,22 @@
+//! Bans as operators write them: how words are read as a ban, and when a ban matches.
+//!
+//! Contract for the layer above: `read` answers the one ban that its words say by `specs/Reading.antt`, or what is wrong
+//! with the first condition that is none; `test` answers what the law of the cache says of a ban's conditions
+//! (`specs/Bans.antt` of `cache_law`).
+#![tactic(auto)]
+
+mod clauses;
+mod error;
+mod laws;
+mod matching;
+mod operators;
+mod plans;
+mod reading;
+mod subjects;
+#[cfg(test)]
+mod tests;
+
+pub use error::BanError;
+pub use laws::one_ban;
+pub use matching::{object_only, test};
+pub use reading::{MOST_CONDITIONS, read};
