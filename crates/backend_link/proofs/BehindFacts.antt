@@ -15,10 +15,10 @@ use Rattle.wire.specs.Flow.{Flow}
 use Rattle.wire.proofs.Flowing.{Moves-trans}
 use Rattle.backend_link.specs.Replies.{interim_limit, body_limit, is_interim, is_passed, Behind, HasFinal, IsRefused, FinalAt, BehindInterim, HasFramed, HasNoFraming, ReplyAt}
 
-head_within : (text : List ℕ) (head : ResponseHead) (count : ℕ) → HasResponse text head count → count ≤ length text
+pub head_within : (text : List ℕ) (head : ResponseHead) (count : ℕ) → HasResponse text head count → count ≤ length text
 head_within text head count has = omega (arith, has.counted, simp length-append at (ap length has.reads.1))
 
-behind_longer : (k : ℕ) (input rest more : List ℕ) → Behind k input rest → Behind k (input ++ more) (rest ++ more)
+pub behind_longer : (k : ℕ) (input rest more : List ℕ) → Behind k input rest → Behind k (input ++ more) (rest ++ more)
 behind_longer zero input rest more behind = ap (λ (l : List ℕ). l ++ more) behind
 behind_longer (suc k) input rest more behind = (
   behind.0 ++ more,

@@ -1,2 +1,5 @@
 mod BehindFacts
 mod ConversedFacts
+mod SaidHeads
+mod SaidBodies
+mod SaidFacts

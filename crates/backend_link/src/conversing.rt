@@ -5,6 +5,7 @@ ghost use Rattle.wire.specs.Flow.{Moves, MovesPart};
 ghost use Rattle.message_reader.specs.Inputs.{Hears};
 ghost use Rattle.backend_link.specs.Exchanges.{Conversed, answer_of, exchange_of, asks_head};
 ghost use Rattle.backend_link.specs.Replies.{BehindInterim, ReplyAt};
+ghost use Rattle.backend_link.specs.Said.{SaidBy};
 
 use crate::replies::read_reply;
 use http_heads::{BackendRequest, Exchange, ResponseHead, print_request};
@@ -96,12 +97,14 @@ fn receive<L: Link>(
 }
 
 /// Sends a request over a link and reads its reply. The answer is a reply, the faults 2 to 7 of `Exchange`, or want of
-/// memory.
+/// memory. Where no call failed and memory was there, it is the answer that the link's bytes say.
 pub fn converse<L: Link>(alloc: Global, link: &mut L, request: &BackendRequest) -> Exchange
     ensures told { Conversed request.now (L.flow link.old) (L.flow link.new) result }
     ensures writes { result ≡ Exchange.Fault 2 → Rose (L.write_faults link.old) (L.write_faults link.new) }
     ensures reads { result ≡ Exchange.Fault 3 → Rose (L.read_faults link.old) (L.read_faults link.new) }
     ensures dials { result ≢ Exchange.Fault 1 }
+    ensures complete { ¬ (Rose (L.write_faults link.old) (L.write_faults link.new)) → ¬ (Rose (L.read_faults link.old) (L.read_faults link.new))
+        → result ≢ Exchange.NoMemory → SaidBy request.now (L.flow link.old) result }
     ensures later_writes { L.write_faults link.old ≤ L.write_faults link.new }
     ensures later_reads { L.read_faults link.old ≤ L.read_faults link.new }
     ensures peer { L.peer link.new ≡ L.peer link.old }

@@ -1,7 +1,8 @@
 // One exchange with a backend: a dial, a conversation, and the link handed back.
-ghost use Rattle.std.specs.Prelude.{◌≡◌};
+ghost use Rattle.std.specs.Prelude.{◌≡◌, ◌≢◌};
 ghost use Rattle.wire.specs.Causes.{Rose};
 ghost use Rattle.backend_link.specs.Exchanges.{Exchanged};
+ghost use Rattle.backend_link.specs.Said.{IsSaid};
 
 use crate::converse;
 use http_heads::{Backend, BackendRequest, Exchange};
@@ -9,6 +10,7 @@ use std::alloc::Global;
 use wire::{DialError, Dialer};
 
 /// Sends a request to a backend over a link of its own, and reads its reply. The link is handed back in every case.
+/// Where no call failed and memory was there, the answer is the one that the link's bytes say.
 pub fn exchange<D: Dialer>(
     alloc: Global,
     dialer: &mut D,
@@ -19,6 +21,9 @@ pub fn exchange<D: Dialer>(
     ensures dials { result ≡ Exchange.Fault 1 → Rose (D.dial_faults dialer.old) (D.dial_faults dialer.new) }
     ensures writes { result ≡ Exchange.Fault 2 → Rose (D.write_faults dialer.old) (D.write_faults dialer.new) }
     ensures reads { result ≡ Exchange.Fault 3 → Rose (D.read_faults dialer.old) (D.read_faults dialer.new) }
+    ensures complete { ¬ (Rose (D.dial_faults dialer.old) (D.dial_faults dialer.new)) → ¬ (Rose (D.write_faults dialer.old) (D.write_faults dialer.new))
+        → ¬ (Rose (D.read_faults dialer.old) (D.read_faults dialer.new)) → result ≢ Exchange.NoMemory
+        → IsSaid D.Link.flow backend.now request.now (D.talks dialer.old) (D.talks dialer.new) result }
 {
     let mut link = match dialer.dial(&backend.host, &backend.port) {
         Ok(link) => link,

@@ -7,9 +7,11 @@
 
 mod conversing;
 mod dialing;
+mod laws;
 mod replies;
 #[cfg(test)]
 mod tests;
 
 pub use conversing::converse;
 pub use dialing::exchange;
+pub use laws::one_answer;

@@ -1,6 +1,7 @@
 -- What was sent and what came.
 use Rattle.std.proofs.Common.{◌++◌, List, ℕ, lit<, sym, ◌∙◌, ap}
 use Rattle.backend_link.proofs.ConversedFacts.{quiet, cut_short, conversed, only_read_fails, no_lower_fault}
+use Rattle.backend_link.proofs.SaidFacts.{said}
 use Rattle.backend_link.proofs.conversing.converse.Goals as goal
 
 pub returns-in-Err-clause-told : goal.returns-in-Err-clause-told
@@ -27,3 +28,8 @@ returns-clause-reads g c is = rw (← c.send.ensures.other) (c.receive.ensures.f
 
 pub returns-clause-dials : goal.returns-clause-dials
 returns-clause-dials g c is = no_lower_fault c.receive.result 1 (lit< tt) (sym c.answered.ensures ∙ is)
+
+pub returns-clause-complete : goal.returns-clause-complete
+returns-clause-complete g c = λ writes reads memory.
+    said c.args.request.now (g.L.Link.flow c.args.link.now) (g.L.Link.flow c.receive.new.link) c.answered.result (returns-clause-told g c)
+    (λ is. writes (returns-clause-writes g c is)) (λ is. reads (returns-clause-reads g c is)) memory
