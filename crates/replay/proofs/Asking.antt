@@ -1,24 +1,29 @@
 -- What the answer to a call does to a scene.
-use Rattle.std.proofs.Common.{◌≡◌, inr, ℕ, true, List, [], ◌∷◌, ◌+◌, ◌≤◌, Some, refl, sym, ◌∙◌, ap, subst, arith}
+use Rattle.std.proofs.Common.{◌≡◌, ◌⊎◌, inr, ℕ, true, List, [], ◌∷◌, ◌+◌, ◌≤◌, Some, None, refl, sym, ◌∙◌, ap, subst, arith}
 use Rattle.cache_law.specs.declared.call.Call.{Call}
+use Rattle.cache_law.specs.declared.call.Reply.{Reply}
+use Rattle.cache_law.specs.declared.call.Reply.TheVariants.{Wait}
 use Rattle.cache_law.specs.declared.call.Entry.{Entry}
 use Rattle.cache_law.specs.declared.cache.Told.{Told as Answer}
 use Rattle.cache_law.specs.Beginning.{Beginning}
 use Rattle.cache_law.specs.Core.{Entered, FitsBehind, entry_of, moment_of}
 use Rattle.cache_law.specs.History.{reached, next_state, bytes_of, bytes_of_all}
-use Rattle.cache_law.specs.State.{State, at_moment}
+use Rattle.cache_law.specs.Law.{wait_in}
+use Rattle.cache_law.specs.State.{State, at_moment, told_to_wait}
 use Rattle.cache_law.proofs.Histories.{reached-push, bytes_of_all-push}
 use Rattle.replay.specs.declared.policy.Request.{Request}
 use Rattle.replay.specs.declared.policy.Given.{Given}
 use Rattle.replay.specs.declared.policy.Given.TheVariants.{Told}
 use Rattle.replay.specs.declared.policy.Want.{Want}
 use Rattle.replay.specs.declared.policy.Want.TheVariants.{Ask}
-use Rattle.replay.specs.Policy.{IsDue, answers}
+use Rattle.replay.specs.Policy.{IsDue, answers, ends_wait}
+use Rattle.replay.specs.Waits.{KeepsOthers, wait_of}
 use Rattle.replay.specs.Scene.{Scene, Round, calls, gave}
 use Rattle.replay.specs.Endings.{WantsTooMuch}
 use Rattle.replay.specs.Went.{Went, Leads, CanLead, HasTurn, IsAt, IsInStep, Met, spare}
 use Rattle.replay.proofs.Replies.{lawful_reply, entered_moment}
 use Rattle.replay.proofs.Runs.{went-one}
+use Rattle.replay.proofs.Telling.{others_kept, own_told}
 
 -- the round that was given more goes on to what it wants then
 pub leads_on : {P : Type 0} (wants : Request → List Given → Want → Type 0) (stands : P → Request → List Given → Type 0) (old new : P) (client : ℕ) (before want : Want) (round : Round) (given : Given) → Leads wants stands old client before round → ((request : Request) (givens : List Given) → stands old request givens → stands new request (given ∷ givens)) → ((request : Request) (givens : List Given) → stands old request givens → wants request (given ∷ givens) want) → Leads wants stands new client want (gave round given)
@@ -54,6 +59,10 @@ too_much wants stands policy beginning old new client moment call scene in_step 
           (subst (λ (es : List Entry). FitsBehind beginning es turn.round.request.client scene.moment call) same fits)));
     }
 
+waits_by : (reply : Reply) (token : ℕ) → wait_in reply ≡ Some token → reply ≡ Wait token
+waits_by (Wait one) token e = cc
+waits_by reply token e = absurd (cc)
+
 module _ (beginning : Beginning) (old new : List Entry) (client moment : ℕ) (call : Call) (told : Answer) (in_step : IsInStep beginning old moment) (entered : Entered beginning old new client moment call told) where
   -- the answer's moment is the session's
   pub told_moment : told.moment ≡ moment
@@ -77,6 +86,19 @@ module _ (beginning : Beginning) (old new : List Entry) (client moment : ℕ) (c
       let limit : after.params.history ≡ beginning.params.history = ap (λ (b : Beginning). b.params.history) same in
       let within = entered.fits.within in
       omega arith
+
+  -- what others were told stays
+  pub others_as_told : (after : Beginning) → after ≡ beginning → KeepsOthers beginning old after new client
+  others_as_told after same other apart =
+      ap (λ (b : Beginning). wait_of b new other) same
+      ∙ (ap (λ (s : State). told_to_wait s.rounds other) reached_new ∙ others_kept beginning (reached beginning old) (entry_of client call told) other apart)
+
+  -- and the client itself is told to wait by the reply alone
+  pub own_as_told : (after : Beginning) → after ≡ beginning → (wait_of beginning old client ≡ None) ⊎ (ends_wait call ≡ true) → (token : ℕ) → wait_of after new client ≡ Some token → Told told.moment told.reply ≡ Told told.moment (Wait token)
+  own_as_told after same how token waits =
+      let is : wait_of beginning new client ≡ wait_in told.reply = ap (λ (s : State). told_to_wait s.rounds client) reached_new ∙ own_told beginning (reached beginning old) (entry_of client call told) how entered.follows.answer in
+      let here : wait_in told.reply ≡ Some token = sym is ∙ (ap (λ (b : Beginning). wait_of b new client) (sym same) ∙ waits) in
+      ap (λ (r : Reply). Told told.moment r) (waits_by told.reply token here)
 
   pub told_answers : answers (Ask call) (Told told.moment told.reply) ≡ true
   told_answers = lawful_reply beginning.params.room (at_moment told.moment (reached beginning old)) client call told.reply entered.follows.answer

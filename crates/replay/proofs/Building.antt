@@ -1,7 +1,11 @@
 -- Lines and the events that they stand for, one after another.
-use Rattle.std.proofs.Common.{◌≡◌, ℕ, List, [], ◌∷◌, ◌++◌, ◌+◌, ◌<◌, ◌≤◌, length, take, drop, get_or, refl, sym, ◌∙◌, ap, subst}
+use Rattle.std.proofs.Common.{◌≡◌, ◌↔◌, Bool, false, IsTrue, ℕ, List, [], ◌∷◌, ◌++◌, ◌+◌, ◌<◌, ◌≤◌, length, take, drop, get_or, refl, sym, ◌∙◌, ap, subst}
 use Rattle.std.proofs.lemmas.List.{take-append-drop, take_more, take_all, drop_more}
+use Rattle.http_heads.specs.declared.exchange.Exchange.{Exchange as What}
+use Rattle.http_heads.specs.declared.exchange.Exchange.TheVariants as exchanges
 use Rattle.http_heads.specs.declared.message.RequestHead.{RequestHead}
+use Rattle.replies.specs.Replies.{IsReplyTo}
+use Rattle.replies.proofs.Once.{exchange_once}
 use Rattle.http_heads.specs.declared.message.ResponseHead.{ResponseHead}
 use Rattle.session_text.specs.declared.session.Line.TheVariants as lines
 use Rattle.session_text.specs.declared.session.NumberedLine.{NumberedLine}
@@ -11,9 +15,9 @@ use Rattle.replay.specs.declared.policy.Message.TheVariants.{Whole, Unreadable}
 use Rattle.replay.specs.declared.event.Event.{Event}
 use Rattle.replay.specs.declared.event.Event.TheVariants as events
 use Rattle.replay.specs.declared.event.NumberedEvent.{NumberedEvent}
-use Rattle.replay.specs.Whole.{HasWholeReply, IsTheWholeRequest}
+use Rattle.replay.specs.Whole.{IsTheWholeRequest}
 use Rattle.replay.specs.Forms.{IsPageRequest, IsPageReply}
-use Rattle.replay.specs.Build.{StandsFor, IsMessage, IsBuiltAs, IsNotBuilt}
+use Rattle.replay.specs.Build.{HasPage, StandsFor, IsMessage, IsBuiltAs, IsNotBuilt}
 
 built_push : (lines : List NumberedLine) (events : List NumberedEvent) (line : NumberedLine) (event : NumberedEvent) → IsBuiltAs lines events → event.number ≡ line.number → StandsFor line.line event.event → IsBuiltAs (lines ++ line ∷ []) (events ++ event ∷ [])
 built_push [] [] line event are number stands = (number, stands, tt)
@@ -44,7 +48,24 @@ not_a_page text head body the other (Whole found more) is = other (subst (λ (h 
 not_a_page text head body the other Unreadable none = none head body the.0
 
 -- a reply's line stands for a reply alone
-pub no_reply : (fetch : ℕ) (text : List ℕ) → ((head : ResponseHead) (body : List ℕ) → HasWholeReply text head body → IsPageReply head → ⊥) → (event : Event) → StandsFor (lines.Reply fetch text) event → ⊥
+pub no_reply : (fetch : ℕ) (text : List ℕ) → (HasPage text → ⊥) → (event : Event) → StandsFor (lines.Reply fetch text) event → ⊥
 no_reply fetch text none (events.Moment moment) stands = stands
 no_reply fetch text none (events.Request request) stands = stands
-no_reply fetch text none (events.Reply number head body) stands = none head body stands.1 stands.2
+no_reply fetch text none (events.Reply number heard) stands = none stands.2
+
+reply_same : (text : List ℕ) (head other : ResponseHead) (body more : List ℕ) → IsReplyTo false text (exchanges.Reply head body) → IsReplyTo false text (exchanges.Reply other more) → other ≡ head
+reply_same text head other body more p q = let same = exchange_once false text (exchanges.Reply head body) (exchanges.Reply other more) p q in cc
+
+-- a reply's bytes have a page exactly where its head is one's, and a fault's have none
+pub page_of_reply : (text : List ℕ) (exchange : What) (head : ResponseHead) (body : List ℕ) (said : Bool) → exchange ≡ exchanges.Reply head body → IsReplyTo false text exchange → IsTrue said ↔ IsPageReply head → IsTrue said ↔ HasPage text
+page_of_reply text exchange head body said is reads page =
+    let reply : IsReplyTo false text (exchanges.Reply head body) = subst (λ (e : What). IsReplyTo false text e) is reads in (
+      λ yes_. (head, body, reply, page.0 yes_),
+      λ has. page.1 (subst (λ (h : ResponseHead). IsPageReply h) (reply_same text head has.0 body has.1 reply has.2) has.3),
+    )
+
+pub no_page : (text : List ℕ) (exchange : What) → IsReplyTo false text exchange → ((head : ResponseHead) (body : List ℕ) → exchange ≡ exchanges.Reply head body → ⊥) → IsTrue false ↔ HasPage text
+no_page text exchange reads none = (
+  λ yes_. absurd (cc),
+  λ has. absurd (none has.0 has.1 (exchange_once false text exchange (exchanges.Reply has.0 has.1) reads has.2)),
+)

@@ -3,8 +3,7 @@ use Rattle.std.proofs.Common.{◌≡◌, ℕ, Bool, false, List, [], ◌∷◌, 
 use Rattle.std.proofs.lemmas.List.{append-nil}
 use Rattle.std.specs.Prelude.{find, position, remove, get_or}
 use Rattle.std.specs.List.{list_any}
-use Rattle.http_heads.specs.declared.message.ResponseHead.{ResponseHead}
-use Rattle.http_heads.specs.declared.exchange.Exchange.TheVariants as exchanges
+use Rattle.http_heads.specs.declared.exchange.Exchange.{Exchange as What}
 use Rattle.cache_law.specs.declared.call.Entry.{Entry}
 use Rattle.cache_law.specs.Beginning.{Beginning}
 use Rattle.cache_law.specs.History.{reached}
@@ -15,10 +14,11 @@ use Rattle.replay.specs.declared.policy.Given.TheVariants.{Came, Closed}
 use Rattle.replay.specs.declared.policy.Want.{Want}
 use Rattle.replay.specs.declared.event.Event.{Event}
 use Rattle.replay.specs.declared.event.Event.TheVariants as events
+use Rattle.replay.specs.declared.event.Heard.{Heard}
 use Rattle.replay.specs.declared.rounds.Pending.{Pending}
 use Rattle.replay.specs.declared.rounds.Kept.{Kept}
 use Rattle.replay.specs.declared.rounds.Break.{Break}
-use Rattle.replay.specs.Scene.{Scene, Waiting, Parked, AtRest, hears, wakes, begun, gave, with_running, is_under_way, waits_for, without_first, is_free, without_free}
+use Rattle.replay.specs.Scene.{IsHeardAs, Scene, Waiting, Parked, AtRest, hears, wakes, begun, gave, with_running, is_under_way, waits_for, without_first, is_free, without_free}
 use Rattle.replay.specs.Pieces.{Pieces, Takes}
 use Rattle.replay.specs.Went.{Went, Leads, HasTurn, IsPending, IsParked, AllAlike, Stage, Change, IsStage, IsSet, Meets, NobodyRuns, ComesTo}
 use Rattle.replay.proofs.Alike.{alike-any, Found, found, not_found}
@@ -64,9 +64,9 @@ module _ {P : Type 0} (wants : Request → List Given → Want → Type 0) (stan
   nobody_free state kept parked are at = not_found (IsParked wants stands) (λ (k : Kept P). is_closed state.fetches k.token) (is_free state) (parked_free state) kept parked are at
 
 -- the scene in which a round has its reply
-abbrev pub replied : Scene → ℕ → ResponseHead → List ℕ → Waiting → Scene
-replied scene number head body one = record scene {
-  running = Some (gave one.round (Came (record { moment = scene.moment; exchange = exchanges.Reply head body })));
+abbrev pub replied : Scene → ℕ → What → Waiting → Scene
+replied scene number exchange one = record scene {
+  running = Some (gave one.round (Came (record { moment = scene.moment; exchange = exchange })));
   waiting = without_first number scene.waiting;
 }
 
@@ -83,11 +83,11 @@ module _ (wants : Request → List Given → Want → Type 0) (beginning : Begin
       (λ next text at. subst (λ (s : Scene). Went wants beginning s [] h0 h1 (λ t more. H t (text ++ more))) (sym at.0) (subst (λ (x : List ℕ). Went wants beginning (with_running scene (begun request)) [] h0 h1 (λ t more. H t (x ++ more))) (sym at.1) went))
 
   -- a reply that a round waits for
-  pub reply_heard : (scene : Scene) (number : ℕ) (head : ResponseHead) (body : List ℕ) (one : Waiting) (h0 h1 : List Entry) (H : Scene → List ℕ → Type 0) → AtRest scene → find (waits_for number) scene.waiting ≡ Some one → Went wants beginning (replied scene number head body one) [] h0 h1 H → Went wants beginning scene (events.Reply number head body ∷ []) h0 h1 H
-  reply_heard scene number head body one h0 h1 H rests is went =
-      went-then wants beginning scene (events.Reply number head body ∷ []) [] h0 h0 h1 (λ next text. (next ≡ replied scene number head body one) × (text ≡ [])) H
-      (went-one wants beginning scene (replied scene number head body one) (hears (events.Reply number head body)) h0 h0 _ (one, rests, is, refl) (sym (append-nil h0)) (refl, refl))
-      (λ next text at. subst (λ (s : Scene). Went wants beginning s [] h0 h1 (λ t more. H t (text ++ more))) (sym at.0) (subst (λ (x : List ℕ). Went wants beginning (replied scene number head body one) [] h0 h1 (λ t more. H t (x ++ more))) (sym at.1) went))
+  pub reply_heard : (scene : Scene) (number : ℕ) (heard : Heard) (exchange : What) (one : Waiting) (h0 h1 : List Entry) (H : Scene → List ℕ → Type 0) → AtRest scene → find (waits_for number) scene.waiting ≡ Some one → IsHeardAs one.to_head heard exchange → Went wants beginning (replied scene number exchange one) [] h0 h1 H → Went wants beginning scene (events.Reply number heard ∷ []) h0 h1 H
+  reply_heard scene number heard exchange one h0 h1 H rests is heard_as went =
+      went-then wants beginning scene (events.Reply number heard ∷ []) [] h0 h0 h1 (λ next text. (next ≡ replied scene number exchange one) × (text ≡ [])) H
+      (went-one wants beginning scene (replied scene number exchange one) (hears (events.Reply number heard)) h0 h0 _ (one, rests, is, exchange, heard_as, refl) (sym (append-nil h0)) (refl, refl))
+      (λ next text at. subst (λ (s : Scene). Went wants beginning s [] h0 h1 (λ t more. H t (text ++ more))) (sym at.0) (subst (λ (x : List ℕ). Went wants beginning (replied scene number exchange one) [] h0 h1 (λ t more. H t (x ++ more))) (sym at.1) went))
 
   -- a round that wakes
   pub round_wakes : (scene : Scene) (one : Parked) (h0 h1 : List Entry) (H : Scene → List ℕ → Type 0) → NobodyRuns scene → find (is_free scene.state) scene.parked ≡ Some one → Went wants beginning (woken scene one) [] h0 h1 H → Went wants beginning scene [] h0 h1 H
@@ -169,25 +169,25 @@ module _ {P : Type 0} (wants : Request → List Given → Want → Type 0) (stan
       found_free wants stands scene.state stage.parked scene.parked place one is.parked_are (subst (λ (s : State). position (λ (k : Kept P). is_closed s.fetches k.token) stage.parked ≡ Some place) (sym is.at.state_is) at) one_is
 
   -- the stage behind a reply that was heard
-  pub reply_stage : (beginning : Beginning) (stage : Stage P) (scene : Scene) (number : ℕ) (head : ResponseHead) (body : List ℕ) (place : ℕ) (kept : Pending P) (it : FoundWaiting wants stands stage.waiting scene.waiting number place kept) (others : List (Pending P)) → others ≡ remove stage.waiting place → IsStage wants stands beginning stage scene → IsStage wants stands beginning (record stage { waiting = others }) (replied scene number head body it.one)
-  reply_stage beginning stage scene number head body place kept it others is set =
+  pub reply_stage : (beginning : Beginning) (stage : Stage P) (scene : Scene) (number : ℕ) (exchange : What) (place : ℕ) (kept : Pending P) (it : FoundWaiting wants stands stage.waiting scene.waiting number place kept) (others : List (Pending P)) → others ≡ remove stage.waiting place → IsStage wants stands beginning stage scene → IsStage wants stands beginning (record stage { waiting = others }) (replied scene number exchange it.one)
+  reply_stage beginning stage scene number exchange place kept it others is set =
       record {
-        at = at_like beginning stage.history stage.moment scene (replied scene number head body it.one) set.at refl refl;
+        at = at_like beginning stage.history stage.moment scene (replied scene number exchange it.one) set.at refl refl;
         waiting_are = subst (λ (ps : List (Pending P)). AllAlike (IsPending wants stands) ps (without_first number scene.waiting)) (sym is) it.others;
         parked_are = set.parked_are;
       }
 
   -- the round that has its reply
-  pub reply_turn : (scene : Scene) (number : ℕ) (head : ResponseHead) (body : List ℕ) (moment : ℕ) (pending : List (Pending P)) (place : ℕ) (kept : Pending P) (it : FoundWaiting wants stands pending scene.waiting number place kept) (after : P) (want : Want) → moment ≡ scene.moment
-      → ((request : Request) (givens : List Given) → stands kept.policy request givens → stands after request (Came (record { moment = moment; exchange = exchanges.Reply head body }) ∷ givens))
-      → ((request : Request) (givens : List Given) → stands kept.policy request givens → wants request (Came (record { moment = moment; exchange = exchanges.Reply head body }) ∷ givens) want)
-      → HasTurn wants stands after kept.client want (replied scene number head body it.one)
-  reply_turn scene number head body moment pending place kept it after want same stands_on wanted =
+  pub reply_turn : (scene : Scene) (number : ℕ) (exchange : What) (moment : ℕ) (pending : List (Pending P)) (place : ℕ) (kept : Pending P) (it : FoundWaiting wants stands pending scene.waiting number place kept) (after : P) (want : Want) → moment ≡ scene.moment
+      → ((request : Request) (givens : List Given) → stands kept.policy request givens → stands after request (Came (record { moment = moment; exchange = exchange }) ∷ givens))
+      → ((request : Request) (givens : List Given) → stands kept.policy request givens → wants request (Came (record { moment = moment; exchange = exchange }) ∷ givens) want)
+      → HasTurn wants stands after kept.client want (replied scene number exchange it.one)
+  reply_turn scene number exchange moment pending place kept it after want same stands_on wanted =
       record {
-        round = gave it.one.round (Came (record { moment = scene.moment; exchange = exchanges.Reply head body }));
+        round = gave it.one.round (Came (record { moment = scene.moment; exchange = exchange }));
         turn = refl;
-        leads = subst (λ (m : ℕ). Leads wants stands after kept.client want (gave it.one.round (Came (record { moment = m; exchange = exchanges.Reply head body })))) same
-            (leads_on wants stands kept.policy after kept.client _ want it.one.round (Came (record { moment = moment; exchange = exchanges.Reply head body })) it.is_same.leads stands_on wanted);
+        leads = subst (λ (m : ℕ). Leads wants stands after kept.client want (gave it.one.round (Came (record { moment = m; exchange = exchange })))) same
+            (leads_on wants stands kept.policy after kept.client _ want it.one.round (Came (record { moment = moment; exchange = exchange })) it.is_same.leads stands_on wanted);
       }
 
   -- the stage behind a round that woke

@@ -1,6 +1,9 @@
+pub mod Heards
 pub mod Runs
 pub mod Taking
 pub mod Replies
+mod Telling
+mod Resting
 pub mod Asking
 pub mod Sending
 pub mod Alike

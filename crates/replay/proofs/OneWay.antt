@@ -8,7 +8,7 @@ use Rattle.cache_law.specs.declared.call.Entry.{Entry}
 use Rattle.cache_law.specs.declared.call.Reply.{Reply}
 use Rattle.cache_law.specs.declared.call.Reply.TheVariants.{Refused}
 use Rattle.cache_law.specs.State.{State, at_moment}
-use Rattle.cache_law.specs.declared.call.Call.TheVariants.{Begin, Lookup, Pick, Insert, End}
+use Rattle.cache_law.specs.declared.call.Call.TheVariants.{Insert}
 use Rattle.cache_law.specs.Beginning.{Beginning}
 use Rattle.cache_law.specs.Law.{step_of, MayAnswer}
 use Rattle.cache_law.specs.Core.{FitsBehind}
@@ -71,12 +71,9 @@ lawful_on beginning before entry more is = record { legal = legal_on beginning b
 
 -- what may be answered, but for Refused, is the law's answer
 told : (state : State) (call : Call) (law answer : Reply) → MayAnswer state call law answer → answer ≢ Refused → answer ≡ law
-told state Begin law answer may other = may
-told state (Lookup query) law answer may other = may
-told state (Pick vcl target word) law answer may other = may
-told state (Insert token object) law answer (inl same) other = same
-told state (Insert token object) law answer (inr refused) other = absurd (other refused.0)
-told state End law answer may other = may
+told state (Insert token object stale) law answer (inl same) other = same
+told state (Insert token object stale) law answer (inr refused) other = absurd (other refused.0)
+told state call law answer may other = may
 
 same_entry : (entry other : Entry) → other.caller ≡ entry.caller → other.moment ≡ entry.moment → other.call ≡ entry.call → other.reply ≡ entry.reply → other ≡ entry
 same_entry entry other who when what reply =
@@ -166,7 +163,7 @@ ended wants beginning script history before now (Some NoMemory) own e = absurd o
 not_heard : (scene new : Scene) (event : Event) → IsIdle scene event → Hears scene event new → ⊥
 not_heard scene new (events.Moment moment) idle heard = idle
 not_heard scene new (events.Request request) idle heard = let free = heard.1 in cc
-not_heard scene new (events.Reply number head body) idle heard = let found = heard.2 in cc
+not_heard scene new (events.Reply number bytes) idle heard = let found = heard.2 in cc
 
 same_idle : (played others : List NumberedEvent) (idle other : NumberedEvent) (rest more : List NumberedEvent) → others ++ other ∷ more ≡ played ++ idle ∷ rest → events_in others ≡ events_in played → other ≡ idle
 same_idle [] [] idle other rest more split same = cc
@@ -183,7 +180,7 @@ module _ (wants : Request → List Given → Want → Type 0) (one_want : HasOne
     stuck_full : (scene : Scene) (left : List Event) (history : List Entry) → WantsTooMuch wants beginning history scene → IsStuck wants one_want beginning Sure on one_entry scene left history
     stuck_full scene left history full (hears (events.Moment moment)) new others more next split sure = let turn = full.runs.turn in let none = next.0.nobody_runs in absurd (cc)
     stuck_full scene left history full (hears (events.Request request)) new others more next split sure = let turn = full.runs.turn in let none = next.0.nobody_runs in absurd (cc)
-    stuck_full scene left history full (hears (events.Reply number head body)) new others more next split sure = let turn = full.runs.turn in let none = next.1.nobody_runs in absurd (cc)
+    stuck_full scene left history full (hears (events.Reply number heard)) new others more next split sure = let turn = full.runs.turn in let none = next.1.nobody_runs in absurd (cc)
     stuck_full scene left history full (calls entry) new others more next split sure =
         let same = same_round wants one_want beginning scene full.round next.0 (Ask full.call) (Ask entry.call) full.runs next.1 in
         let call : entry.call ≡ full.call = cc in

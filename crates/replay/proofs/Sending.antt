@@ -1,6 +1,8 @@
 -- What a line that is taken does to a scene.
 use Rattle.std.proofs.Common.{ℕ, List, [], ◌∷◌, ◌++◌, None, refl, sym}
 use Rattle.std.proofs.lemmas.List.{append-nil}
+use Rattle.http_heads.specs.declared.exchange.BackendRequest.{BackendRequest}
+use Rattle.backend_link.specs.Exchanges.{asks_head, sent_text}
 use Rattle.cache_law.specs.declared.call.Entry.{Entry}
 use Rattle.cache_law.specs.Beginning.{Beginning}
 use Rattle.replay.specs.declared.policy.Request.{Request}
@@ -20,9 +22,9 @@ module _ {P : Type 0} (wants : Request → List Given → Want → Type 0) (stan
       (turn.round, record { turn = turn.turn; wanted = turn.leads.wanted }, sym turn.leads.client_is, refl) (sym (append-nil history)) h
 
   -- the exchange that was wanted began
-  pub exchanged : (number : ℕ) (backend request : List ℕ) (turn : HasTurn wants stands policy client (Exchange number backend request) scene) (H : Scene → List ℕ → Type 0) → H (record scene { running = None; waiting = scene.waiting ++ record { number = number; round = turn.round } ∷ [] }) (fetch_line number backend request) → Went wants beginning scene [] history history H
+  pub exchanged : (number : ℕ) (backend : List ℕ) (request : BackendRequest) (turn : HasTurn wants stands policy client (Exchange number backend request) scene) (H : Scene → List ℕ → Type 0) → H (record scene { running = None; waiting = scene.waiting ++ record { number = number; to_head = asks_head request; round = turn.round } ∷ [] }) (fetch_line number backend (sent_text request)) → Went wants beginning scene [] history history H
   exchanged number backend request turn H h =
-      went-one wants beginning scene (record scene { running = None; waiting = scene.waiting ++ record { number = number; round = turn.round } ∷ [] }) (fetches number backend request) history history H
+      went-one wants beginning scene (record scene { running = None; waiting = scene.waiting ++ record { number = number; to_head = asks_head request; round = turn.round } ∷ [] }) (fetches number backend request) history history H
       (turn.round, record { turn = turn.turn; wanted = turn.leads.wanted }, refl) (sym (append-nil history)) h
 
   -- the round that wanted a token closed is parked

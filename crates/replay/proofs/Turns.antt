@@ -2,6 +2,8 @@
 use Rattle.std.proofs.Common.{◌≡◌, ℕ, List, [], ◌∷◌, ◌++◌, Result, Ok, Err, refl, sym, ◌∙◌, subst, arith}
 use Rattle.std.proofs.lemmas.List.{append-nil}
 use Rattle.std.specs.Prelude.{OnOk, IfErr}
+use Rattle.http_heads.specs.declared.exchange.BackendRequest.{BackendRequest}
+use Rattle.backend_link.specs.Exchanges.{asks_head, sent_text}
 use Rattle.cache_law.specs.declared.call.Entry.{Entry}
 use Rattle.cache_law.specs.Beginning.{Beginning}
 use Rattle.replay.specs.declared.policy.Request.{Request}
@@ -94,16 +96,16 @@ module _ {P : Type 0} (wants : Request → List Given → Want → Type 0) (stan
         (λ next more b. Breaks-behind wants beginning h2 one two three broken next text more f.takes b) (met s f.is_stage.at (turn_at policy want asked s is f.has_turn)))
 
     -- the exchange that was wanted
-    pub exchange_rests : (scene : Scene) (h0 h1 : List Entry) (one two three : Pieces) (one_more : Pending P) (want : Want) (backend request : List ℕ) (waiting' : List (Pending P)) (result : Result (Unit {0}) Break) → one_more.client ≡ client → want ≡ Exchange one_more.number backend request
-        → Tells two three (fetch_line one_more.number backend request) result → OnOk result (waiting' ≡ waiting ++ one_more ∷ [])
+    pub exchange_rests : (scene : Scene) (h0 h1 : List Entry) (one two three : Pieces) (one_more : Pending P) (want : Want) (backend : List ℕ) (request : BackendRequest) (waiting' : List (Pending P)) (result : Result (Unit {0}) Break) → one_more.client ≡ client → one_more.to_head ≡ asks_head request → want ≡ Exchange one_more.number backend request
+        → Tells two three (fetch_line one_more.number backend (sent_text request)) result → OnOk result (waiting' ≡ waiting ++ one_more ∷ [])
         → Went wants beginning scene [] h0 h1 (SoFar (stage_at moment waiting parked h1) one_more.policy want one two)
         → (before : Stage P) → Went wants beginning scene [] h0 h1 (ComesTo wants stands beginning NobodyRuns (record { before = before; after = stage_at moment waiting' parked h1; old = one; new = three }) result)
-    exchange_rests scene h0 h1 one two three one_more want backend request waiting' (Ok u) mine is told more so before =
+    exchange_rests scene h0 h1 one two three one_more want backend request waiting' (Ok u) mine asks is told more so before =
         went-then wants beginning scene [] [] h0 h1 h1 (SoFar (stage_at moment waiting parked h1) one_more.policy want one two) _ so
         (λ s text f.
         let turn = turn_at one_more.policy want (Exchange one_more.number backend request) s is f.has_turn in
-        let waits : Waiting = record { number = one_more.number; round = turn.round } in
-        let is_one : IsPending wants stands one_more waits = record { number_is = refl; backend = backend; request = request; leads = subst (λ (n : ℕ). Leads wants stands one_more.policy n (Exchange one_more.number backend request) turn.round) (sym mine) turn.leads } in
+        let waits : Waiting = record { number = one_more.number; to_head = asks_head request; round = turn.round } in
+        let is_one : IsPending wants stands one_more waits = record { number_is = refl; to_head_is = asks; backend = backend; request = request; leads = subst (λ (n : ℕ). Leads wants stands one_more.policy n (Exchange one_more.number backend request) turn.round) (sym mine) turn.leads } in
         exchanged wants stands beginning one_more.policy client s h1 one_more.number backend request turn _ (
           refl,
           record {
@@ -111,17 +113,17 @@ module _ {P : Type 0} (wants : Request → List Given → Want → Type 0) (stan
             waiting_are = subst (λ (ps : List (Pending P)). AllAlike (IsPending wants stands) ps (s.waiting ++ waits ∷ [])) (sym more) (alike-push (IsPending wants stands) waiting s.waiting one_more waits f.is_stage.waiting_are is_one);
             parked_are = f.is_stage.parked_are;
           },
-          Takes-then one two three text (fetch_line one_more.number backend request) f.takes told,
+          Takes-then one two three text (fetch_line one_more.number backend (sent_text request)) f.takes told,
         ))
-    exchange_rests scene h0 h1 one two three one_more want backend request waiting' (Err WriteFault) mine is told more so before =
+    exchange_rests scene h0 h1 one two three one_more want backend request waiting' (Err WriteFault) mine asks is told more so before =
         went-then wants beginning scene [] [] h0 h1 h1 (SoFar (stage_at moment waiting parked h1) one_more.policy want one two) _ so
         (λ s text f.
         exchanged wants stands beginning one_more.policy client s h1 one_more.number backend request (turn_at one_more.policy want (Exchange one_more.number backend request) s is f.has_turn) _
-        (LosesEnd-behind one two three.held text (fetch_line one_more.number backend request) f.takes told))
-    exchange_rests scene h0 h1 one two three one_more want backend request waiting' (Err NoMemory) mine is told more so before =
+        (LosesEnd-behind one two three.held text (fetch_line one_more.number backend (sent_text request)) f.takes told))
+    exchange_rests scene h0 h1 one two three one_more want backend request waiting' (Err NoMemory) mine asks is told more so before =
         went-then wants beginning scene [] [] h0 h1 h1 (SoFar (stage_at moment waiting parked h1) one_more.policy want one two) _ so
         (λ s text f. went-still wants beginning s h1 h1 _ refl (Takes-then one two three text [] f.takes told))
-    exchange_rests scene h0 h1 one two three one_more want backend request waiting' (Err HistoryFull) mine is told more so before = absurd told
+    exchange_rests scene h0 h1 one two three one_more want backend request waiting' (Err HistoryFull) mine asks is told more so before = absurd told
 
     -- the token that was wanted closed
     pub park_rests : (scene : Scene) (h0 h1 : List Entry) (one two : Pieces) (one_more : Kept P) (want : Want) (parked' : List (Kept P)) (result : Result (Unit {0}) Break) → one_more.client ≡ client → want ≡ Await one_more.token

@@ -1,5 +1,5 @@
 -- Two ways through one session are one, as far as both go.
-use Rattle.std.proofs.Common.{◌≡◌, ◌⊎◌, inl, inr, ℕ, List, [], ◌∷◌, ◌++◌, Some, None, refl, sym, ◌∙◌, ap, subst, append_assoc}
+use Rattle.std.proofs.Common.{◌≡◌, ◌⊎◌, inl, inr, ℕ, Bool, List, [], ◌∷◌, ◌++◌, Some, None, refl, sym, ◌∙◌, ap, subst, append_assoc}
 use Rattle.std.proofs.lemmas.List.{append-nil, append_cancel_left}
 use Rattle.std.specs.Prelude.{find}
 use Rattle.std.specs.List.{flat_map}
@@ -13,10 +13,13 @@ use Rattle.replay.specs.declared.event.Event.{Event}
 use Rattle.replay.specs.declared.event.Event.TheVariants as events
 use Rattle.replay.specs.Policy.{HasOneWant}
 use Rattle.replay.proofs.Runs.{flat_map-append}
-use Rattle.http_heads.specs.declared.exchange.Exchange.TheVariants as exchanges
+use Rattle.http_heads.specs.declared.exchange.BackendRequest.{BackendRequest}
+use Rattle.http_heads.specs.declared.exchange.Exchange.{Exchange as What}
+use Rattle.backend_link.specs.Exchanges.{asks_head}
+use Rattle.replay.proofs.Heards.{heard_once}
 use Rattle.cache_law.specs.Beginning.{Beginning}
 use Rattle.cache_law.specs.History.{next_state}
-use Rattle.replay.specs.Scene.{Scene, Round, Waiting, Parked, Move, hears, calls, fetches, sends, parks, wakes, ends, events_of, entries_of, AtRest, Hears, Next, Path, Runs, gave, with_running, without_first, is_free, without_free}
+use Rattle.replay.specs.Scene.{IsHeardAs, Scene, Round, Waiting, Parked, Move, hears, calls, fetches, sends, parks, wakes, ends, events_of, entries_of, AtRest, Hears, Next, Path, Runs, gave, with_running, without_first, is_free, without_free}
 
 -- what makes a move: a line, a token that is closed, or what the round whose turn it is wants
 data Cause : Type 0 where
@@ -48,7 +51,7 @@ who_moves : (wants : Request → List Given → Want → Type 0) (beginning : Be
 unfolding cause_of
 who_moves wants beginning old new (hears (events.Moment moment)) next = inl (refl, next.0)
 who_moves wants beginning old new (hears (events.Request request)) next = inl (refl, next.0)
-who_moves wants beginning old new (hears (events.Reply number head body)) next = inl (refl, next.1)
+who_moves wants beginning old new (hears (events.Reply number heard)) next = inl (refl, next.1)
 who_moves wants beginning old new (calls entry) next = inr (inr (Ask entry.call, refl, record { round = next.0; runs = next.1 }))
 who_moves wants beginning old new (fetches number backend request) next = inr (inr (Exchange number backend request, refl, record { round = next.0; runs = next.1 }))
 who_moves wants beginning old new (sends client response) next = inr (inr (Respond response, refl, record { round = next.0; runs = next.1 }))
@@ -99,10 +102,12 @@ module _ (wants : Request → List Given → Want → Type 0) (one_want : HasOne
   hears_one : (old a b : Scene) (event : Event) → Hears old event a → Hears old event b → b ≡ a
   hears_one old a b (events.Moment moment) p q = q.1 ∙ sym p.1
   hears_one old a b (events.Request request) p q = q.2 ∙ sym p.2
-  hears_one old a b (events.Reply number head body) p q =
+  hears_one old a b (events.Reply number heard) p q =
       let found : Some q.0 ≡ Some p.0 = sym q.2 ∙ p.2 in
       let same : q.0 ≡ p.0 = cc in
-      q.3 ∙ (ap (λ (one : Waiting). record old { running = Some (gave one.round (Came (record { moment = old.moment; exchange = exchanges.Reply head body }))); waiting = without_first number old.waiting }) same ∙ sym p.3)
+      let came : p.3 ≡ q.3 = heard_once p.0.to_head heard p.3 q.3 p.4 (subst (λ (one : Waiting). IsHeardAs one.to_head heard q.3) same q.4) in
+      let new : Waiting → What → Scene = λ one exchange. record old { running = Some (gave one.round (Came (record { moment = old.moment; exchange = exchange }))); waiting = without_first number old.waiting } in
+      q.5 ∙ (ap (λ (one : Waiting). new one q.3) same ∙ (ap (λ (exchange : What). new p.0 exchange) (sym came) ∙ sym p.5))
 
   -- One move is possible: which events are left, and what is entered, says which.
   module _ (Sure : List Entry → List Entry → Type 0)
@@ -124,7 +129,8 @@ module _ (wants : Request → List Given → Want → Type 0) (one_want : HasOne
         let n : other ≡ number = cc in
         let c : name ≡ backend = cc in
         let r : text ≡ request = cc in
-        (cc, q.2 ∙ (ap (λ (x : Round). record old { running = None; waiting = old.waiting ++ record { number = other; round = x } ∷ [] }) round.0 ∙ (ap (λ (x : ℕ). record old { running = None; waiting = old.waiting ++ record { number = x; round = p.0 } ∷ [] }) n ∙ sym p.2)))
+        let waits : ℕ → Bool → Round → Scene = λ x h y. record old { running = None; waiting = old.waiting ++ record { number = x; to_head = h; round = y } ∷ [] } in
+        (cc, q.2 ∙ (ap (waits other (asks_head text)) round.0 ∙ (ap (λ (x : ℕ). waits x (asks_head text) p.0) n ∙ (ap (λ (x : BackendRequest). waits number (asks_head x) p.0) r ∙ sym p.2))))
     same_move before old a b (sends client response) (sends other text) es fs xs ys is p q split s t =
         let round = same_round old p.0 q.0 _ _ p.1 q.1 in
         let c : other ≡ client = q.2 ∙ (ap (λ (x : Round). x.request.client) round.0 ∙ sym p.2) in

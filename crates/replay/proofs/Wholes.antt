@@ -2,10 +2,9 @@
 use Rattle.std.proofs.Common.{◌≡◌, ◌≢◌, inl, inr, ℕ, ◌-◌, ◌≤◌, List, length, take, drop, Option, Some, None, Result, Ok, Err, IfOk, MatchOption, sym, ◌∙◌, ap, subst, arith}
 use Rattle.std.proofs.lemmas.List.{take_all, length-drop}
 use Rattle.http_heads.specs.declared.message.RequestHead.{RequestHead}
-use Rattle.http_heads.specs.declared.message.ResponseHead.{ResponseHead}
 use Rattle.http_heads.specs.declared.message.HeadError.{HeadError}
 use Rattle.http_heads.specs.declared.message.HeadError.TheVariants.{NoMemory}
-use Rattle.http_heads.specs.Heads.{HasRequest, HasResponse, LacksRequest, LacksResponse, AnswersRequest, AnswersResponse, GivesUnlessNoMemory}
+use Rattle.http_heads.specs.Heads.{HasRequest, LacksRequest, AnswersRequest, GivesUnlessNoMemory}
 use Rattle.http_heads.specs.declared.fields.Field.{Field}
 use Rattle.http_bodies.specs.declared.framing.Kind.{Kind}
 use Rattle.http_bodies.specs.declared.framing.Kind.TheVariants as kinds
@@ -14,7 +13,7 @@ use Rattle.http_bodies.specs.declared.framing.BodyError.{BodyError}
 use Rattle.http_bodies.specs.Framings.{Frames}
 use Rattle.http_bodies.specs.Bodies.{BeginsWith}
 use Rattle.std.specs.declared.alloc.AllocError.{AllocError}
-use Rattle.replay.specs.Whole.{HasFramedBody, LacksWholeRequest, LacksWholeReply, IsTheRequest, IsTheResponse, IsTheWholeRequest, IsTheWholeReply}
+use Rattle.replay.specs.Whole.{HasFramedBody, LacksWholeRequest, IsTheRequest, IsTheWholeRequest}
 
 not_none : (A : Type 0) (value : A) → GivesUnlessNoMemory {T = Option A} (Ok None) (Some value) → ⊥
 not_none A value (inl e) = cc
@@ -36,20 +35,9 @@ the_request text (Some x) answer gives =
 pub no_request : (text : List ℕ) (error : HeadError) → error ≢ NoMemory → ((head : RequestHead) (count : ℕ) → HasRequest text head count → GivesUnlessNoMemory {T = Option (RequestHead × ℕ)} (Err error) (Some (head, count))) → LacksRequest text
 no_request text error other gives = λ head count has. not_error (RequestHead × ℕ) (head, count) error other (gives head count has)
 
-pub the_response : (text : List ℕ) (found : Option (ResponseHead × ℕ)) → AnswersResponse text (Ok found) → ((head : ResponseHead) (count : ℕ) → HasResponse text head count → GivesUnlessNoMemory (Ok found) (Some (head, count))) → MatchOption found (LacksResponse text) (λ x. IsTheResponse text x.0 x.1)
-the_response text None answer gives = λ head count has. not_none (ResponseHead × ℕ) (head, count) (gives head count has)
-the_response text (Some x) answer gives =
-    (answer.0, λ head count has. let same = the_same (ResponseHead × ℕ) x (head, count) (gives head count has) in (ap (λ (y : ResponseHead × ℕ). y.0) same, ap (λ (y : ResponseHead × ℕ). y.1) same))
-
-pub no_response : (text : List ℕ) (error : HeadError) → error ≢ NoMemory → ((head : ResponseHead) (count : ℕ) → HasResponse text head count → GivesUnlessNoMemory {T = Option (ResponseHead × ℕ)} (Err error) (Some (head, count))) → LacksResponse text
-no_response text error other gives = λ head count has. not_error (ResponseHead × ℕ) (head, count) error other (gives head count has)
-
 -- without a head there is no message
 pub headless_request : (text : List ℕ) → LacksRequest text → LacksWholeRequest text
 headless_request text lacks head body whole = lacks head whole.count whole.head_is
-
-pub headless_reply : (text : List ℕ) → LacksResponse text → LacksWholeReply text
-headless_reply text lacks head body whole = lacks head whole.count whole.head_is
 
 -- a head with a body is the message, and without one there is none
 pub whole_request : (text rest body : List ℕ) (head : RequestHead) (count : ℕ) → IsTheRequest text head count → rest ≡ drop count text → HasFramedBody kinds.Request 1048576 head.fields rest body → IsTheWholeRequest text head body
@@ -64,19 +52,6 @@ bodiless_request text rest head count the behind none other more whole =
     none more
     (subst (λ (t : List ℕ). HasFramedBody kinds.Request 1048576 head.fields t more) (ap (λ (k : ℕ). drop k text) same.1 ∙ sym behind)
     (subst (λ (h : RequestHead). HasFramedBody kinds.Request 1048576 h.fields (drop whole.count text) more) same.0 whole.body_is))
-
-pub whole_reply : (text rest body : List ℕ) (head : ResponseHead) (count : ℕ) → IsTheResponse text head count → rest ≡ drop count text → HasFramedBody kinds.Reply 8388608 head.fields rest body → IsTheWholeReply text head body
-whole_reply text rest body head count the behind framed = (
-  record { count = count; head_is = the.0; body_is = subst (λ (t : List ℕ). HasFramedBody kinds.Reply 8388608 head.fields t body) behind framed },
-  λ other more whole. (the.1 other whole.count whole.head_is).0,
-)
-
-pub bodiless_reply : (text rest : List ℕ) (head : ResponseHead) (count : ℕ) → IsTheResponse text head count → rest ≡ drop count text → ((body : List ℕ) → HasFramedBody kinds.Reply 8388608 head.fields rest body → ⊥) → LacksWholeReply text
-bodiless_reply text rest head count the behind none other more whole =
-    let same = the.1 other whole.count whole.head_is in
-    none more
-    (subst (λ (t : List ℕ). HasFramedBody kinds.Reply 8388608 head.fields t more) (ap (λ (k : ℕ). drop k text) same.1 ∙ sym behind)
-    (subst (λ (h : ResponseHead). HasFramedBody kinds.Reply 8388608 h.fields (drop whole.count text) more) same.0 whole.body_is))
 
 -- the rest of a text behind a place
 pub rest_behind : (text : List ℕ) (count : ℕ) → take (length text - count) (drop count text) ≡ drop count text

@@ -1,6 +1,9 @@
 -- Which events the lines of a session stand for, as far as that is built.
-use Rattle.std.specs.Prelude.{◌≡◌, ℕ, List, [], ◌∷◌, ◌++◌}
+use Rattle.std.specs.Prelude.{◌≡◌, ℕ, List, [], ◌∷◌, ◌++◌, false}
+use Rattle.http_heads.specs.declared.exchange.Exchange.TheVariants as exchanges
 use Rattle.http_heads.specs.declared.message.RequestHead.{RequestHead}
+use Rattle.http_heads.specs.declared.message.ResponseHead.{ResponseHead}
+use Rattle.replies.specs.Replies.{IsReplyTo}
 use Rattle.session_text.specs.declared.session.Line.{Line}
 use Rattle.session_text.specs.declared.session.Line.TheVariants as lines
 use Rattle.session_text.specs.declared.session.NumberedLine.{NumberedLine}
@@ -9,11 +12,12 @@ use Rattle.replay.specs.declared.policy.Message.{Message}
 use Rattle.replay.specs.declared.policy.Message.TheVariants.{Whole, Unreadable}
 use Rattle.replay.specs.declared.event.Event.{Event}
 use Rattle.replay.specs.declared.event.Event.TheVariants as events
+use Rattle.replay.specs.declared.event.Heard.TheVariants.{Bytes}
 use Rattle.replay.specs.declared.event.NumberedEvent.{NumberedEvent}
 use Rattle.replay.specs.declared.event.Script.{Script}
 use Rattle.replay.specs.declared.script.BuildError.{BuildError}
 use Rattle.replay.specs.declared.script.BuildError.TheVariants.{NotBuilt, NoMemory}
-use Rattle.replay.specs.Whole.{HasWholeRequest, HasWholeReply}
+use Rattle.replay.specs.Whole.{HasWholeRequest}
 use Rattle.replay.specs.Forms.{IsPageRequest, IsPageReply}
 
 -- the text's first message is a request for a page with this head and body; or no whole request stands at its front
@@ -21,11 +25,15 @@ abbrev pub IsMessage : List ℕ → Message → Type 0
 IsMessage text (Whole head body) = HasWholeRequest text head body × IsPageRequest head
 IsMessage text Unreadable = (head : RequestHead) (body : List ℕ) → HasWholeRequest text head body → ⊥
 
--- the line stands for the event: a moment; a request of client 1; or a whole reply with a page
+-- the bytes are a whole reply with a page, for a request that wasn't HEAD
+abbrev pub HasPage : List ℕ → Type 0
+HasPage bytes = (head : ResponseHead) × (body : List ℕ) × IsReplyTo false bytes (exchanges.Reply head body) × IsPageReply head
+
+-- the line stands for the event: a moment; a request of client 1; or the bytes of a whole reply with a page
 abbrev pub StandsFor : Line → Event → Type 0
 StandsFor (lines.At moment) (events.Moment same) = moment ≡ same
 StandsFor (lines.Req client text) (events.Request request) = (client ≡ 1) × (request.client ≡ 1) × IsMessage text request.message
-StandsFor (lines.Reply fetch text) (events.Reply number head body) = (number ≡ fetch) × HasWholeReply text head body × IsPageReply head
+StandsFor (lines.Reply fetch text) (events.Reply number heard) = (number ≡ fetch) × (heard ≡ Bytes text) × HasPage text
 StandsFor line event = ⊥
 
 -- line by line, with the same numbers

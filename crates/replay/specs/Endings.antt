@@ -16,7 +16,7 @@ use Rattle.replay.specs.Scene.{Round, Scene, Runs, is_under_way, waits_for}
 abbrev pub IsIdle : Scene → Event → Type 0
 IsIdle scene (events.Moment moment) = ⊥
 IsIdle scene (events.Request request) = is_under_way request.client scene ≡ true
-IsIdle scene (events.Reply number head body) = find (waits_for number) scene.waiting ≡ None
+IsIdle scene (events.Reply number heard) = find (waits_for number) scene.waiting ≡ None
 
 -- the round that runs wants a call that doesn't fit the history
 pub record WantsTooMuch (wants : Request → List Given → Want → Type 0) (beginning : Beginning) (entries : List Entry) (scene : Scene) : Type 0 where

@@ -1,5 +1,5 @@
 -- The policy that plain GET requests are led by: look the page up, else fetch it, store it and deliver it.
-use Rattle.std.specs.Prelude.{◌≡◌, ℕ, Option, Some, None, List, [], ◌∷◌, ◌++◌, pos, min, codes}
+use Rattle.std.specs.Prelude.{◌≡◌, ℕ, false, Option, Some, None, List, [], ◌∷◌, ◌++◌, pos, min, codes}
 use Rattle.std.proofs.Common.{sym, ◌∙◌}
 use Rattle.std.specs.Fmt.{decimal}
 use Rattle.http_heads.specs.declared.fields.Field.{Field}
@@ -10,16 +10,20 @@ use Rattle.http_heads.specs.declared.exchange.Exchange.TheVariants as exchanges
 use Rattle.http_heads.specs.Fields.{without}
 use Rattle.http_bodies.specs.Framings.{length_name, coding_name}
 use Rattle.cache_law.specs.declared.object.Object.{Object}
+use Rattle.cache_law.specs.declared.object.Object.TheVariants.{Ordinary, HitForMiss, HitForPass}
+use Rattle.cache_law.specs.declared.object.Response.{Response}
+use Rattle.cache_law.specs.declared.call.Options.{Options}
 use Rattle.cache_law.specs.declared.call.RequestView.{RequestView}
+use Rattle.cache_law.specs.declared.call.Query.{Query}
 use Rattle.cache_law.specs.declared.call.Call.TheVariants.{Begin, Lookup, Pick, Insert, End}
-use Rattle.cache_law.specs.declared.call.Reply.TheVariants.{Began, NoRound, Hit, Miss, Picked, Stored, NotOpen, NotInTime, NoRoom, Refused, Ended}
+use Rattle.cache_law.specs.declared.call.Reply.TheVariants.{Began, NoRound, Drawn, Hit, HitMiss, HitPass, Grace, Wait, Miss, Picked, Stored, NotOpen, StaleGone, NotInTime, NoRoom, Refused, Dropped, Ended}
 use Rattle.replay.specs.declared.policy.Request.{Request}
 use Rattle.replay.specs.declared.policy.Message.{Message}
 use Rattle.replay.specs.declared.policy.Message.TheVariants.{Whole, Unreadable}
 use Rattle.replay.specs.declared.policy.Given.{Given}
 use Rattle.replay.specs.declared.policy.Given.TheVariants.{Start, Told, Came, Sent, Closed}
 use Rattle.replay.specs.declared.policy.Want.{Want}
-use Rattle.replay.specs.declared.policy.Want.TheVariants.{Ask, Exchange, Respond, Done}
+use Rattle.replay.specs.declared.policy.Want.TheVariants.{Ask, Exchange, Respond, Await, Done}
 use Rattle.replay.specs.Policy.{HasOneWant}
 use Rattle.replay.specs.Forms.{host_of}
 use Rattle.replay.specs.Messages.{field_of, bad_request, backend_request, delivered, age_of}
@@ -48,19 +52,24 @@ abbrev pub kept_fields : List Field → List Field
 kept_fields fields = without coding_name (without length_name fields)
 
 -- what a reply that came at a moment makes of a request: fresh for 120 seconds, without grace
-abbrev pub fetched : RequestHead → ℕ → ResponseHead → List ℕ → Object
+abbrev pub fetched : RequestHead → ℕ → ResponseHead → List ℕ → Response
 fetched head moment reply body =
     record {
-      key = key_of head;
-      status = reply.status;
-      reason = reply.reason;
-      fields = kept_fields reply.fields;
-      body = body;
       timing = record { origin = pos (min moment last_moment); ttl = pos 120000; grace = pos 0; keep = pos 0 };
+      content = record {
+        key = key_of head;
+        vary = [];
+        varies_always = false;
+        status = reply.status;
+        reason = reply.reason;
+        fields = kept_fields reply.fields;
+        body = body;
+        xkeys = [];
+      };
     }
 
--- what came of an exchange as an object: a reply alone makes one
-abbrev pub made_of : RequestHead → ℕ → What → Option Object
+-- what came of an exchange: a reply alone makes an object
+abbrev pub made_of : RequestHead → ℕ → What → Option Response
 made_of head moment (exchanges.Reply reply body) = Some (fetched head moment reply body)
 made_of head moment (exchanges.Fault number) = None
 made_of head moment exchanges.NoMemory = None
@@ -78,49 +87,71 @@ vcl_in (given ∷ before) = vcl_in before
 
 abbrev pub token_in : List Given → ℕ
 token_in [] = 0
-token_in (Told moment (Miss token) ∷ before) = token
+token_in (Told moment (Miss token stale) ∷ before) = token
 token_in (given ∷ before) = token_in before
 
-abbrev pub object_in : RequestHead → List Given → Option Object
-object_in head [] = None
-object_in head (Came got ∷ before) = made_of head got.moment got.exchange
-object_in head (given ∷ before) = object_in head before
+abbrev pub response_in : RequestHead → List Given → Option Response
+response_in head [] = None
+response_in head (Came got ∷ before) = made_of head got.moment got.exchange
+response_in head (given ∷ before) = response_in head before
 
 -- the response with what was fetched, whether it was stored or not
-abbrev pub fetch_response : List Given → ℕ → Option Object → Want
+abbrev pub fetch_response : List Given → ℕ → Option Response → Want
 fetch_response before moment None = Done
-fetch_response before moment (Some object) = Respond (delivered object (decimal (number_in before)) (age_of object moment))
+fetch_response before moment (Some response) = Respond (delivered response (decimal (number_in before)) (age_of response moment))
+
+-- the response with an object that was found; a marker is never stored by this policy
+abbrev pub hit_response : ℕ → ℕ → ℕ → Object → Want
+hit_response round number moment (Ordinary response) =
+    Respond (delivered response (decimal round ++ codes " " ++ decimal number) (age_of response moment))
+hit_response round number moment (HitForMiss marker) = Done
+hit_response round number moment (HitForPass marker) = Done
 
 -- what was fetched is handed over
-abbrev pub insertion : ℕ → Option Object → Want
+abbrev pub insertion : ℕ → Option Response → Want
 insertion token None = Done
-insertion token (Some object) = Ask (Insert token object)
+insertion token (Some response) = Ask (Insert token (Ordinary response) None)
+
+-- a lookup by an object's own numbers
+abbrev pub plain : Options
+plain = record { always_miss = false; ignore_busy = false; ignore_vary = false; ttl = None; grace = None }
+
+-- what a visit looks up
+abbrev pub query_of : ℕ → RequestHead → Query
+query_of client head = record { key = key_of head; request = view_of client head; options = plain }
 
 -- What a visit with this head wants after the newest given, `before` being the givens before it, newest first. What
 -- can't be answered to its calls ends it.
 abbrev pub page_want : ℕ → RequestHead → Given → List Given → Want
 page_want client head Start before = Ask Begin
-page_want client head (Told moment (Began number vcl text)) before = Ask (Lookup (record { key = key_of head; request = view_of client head }))
-page_want client head (Told moment (Hit view)) before =
-    Respond (delivered view.object (decimal (number_in before) ++ codes " " ++ decimal view.number) (age_of view.object moment))
-page_want client head (Told moment (Miss token)) before = Ask (Pick (vcl_in before) (codes "default") 0)
+page_want client head (Told moment (Began number vcl text)) before = Ask (Lookup (query_of client head))
+page_want client head (Told moment (Hit view)) before = hit_response (number_in before) view.number moment view.object
+page_want client head (Told moment (Wait token)) before = Await token
+page_want client head (Told moment (Miss token stale)) before = Ask (Pick (vcl_in before) (codes "default") 0)
 page_want client head (Told moment (Picked (Some name))) before =
     Exchange (token_in before) name (backend_request head.url (request_fields client head) (token_in before))
 page_want client head (Came got) before = insertion (token_in before) (made_of head got.moment got.exchange)
-page_want client head (Told moment (Stored number)) before = fetch_response before moment (object_in head before)
-page_want client head (Told moment NotOpen) before = fetch_response before moment (object_in head before)
-page_want client head (Told moment NotInTime) before = fetch_response before moment (object_in head before)
-page_want client head (Told moment NoRoom) before = fetch_response before moment (object_in head before)
-page_want client head (Told moment Refused) before = fetch_response before moment (object_in head before)
+page_want client head (Told moment (Stored number)) before = fetch_response before moment (response_in head before)
+page_want client head (Told moment NotOpen) before = fetch_response before moment (response_in head before)
+page_want client head (Told moment NotInTime) before = fetch_response before moment (response_in head before)
+page_want client head (Told moment NoRoom) before = fetch_response before moment (response_in head before)
+page_want client head (Told moment Refused) before = fetch_response before moment (response_in head before)
 page_want client head Sent before = Ask End
-page_want client head Closed before = Ask End
+page_want client head Closed before = Ask (Lookup (query_of client head))
 page_want client head (Told moment Ended) before = Done
 page_want client head (Told moment NoRound) before = Done
 page_want client head (Told moment (Picked None)) before = Done
+page_want client head (Told moment (Drawn number)) before = Done
+page_want client head (Told moment (HitMiss token)) before = Done
+page_want client head (Told moment HitPass) before = Done
+page_want client head (Told moment (Grace view token)) before = Done
+page_want client head (Told moment StaleGone) before = Done
+page_want client head (Told moment Dropped) before = Done
 
 -- a request that is no message gets the answer for such a one, with no call made
 abbrev pub refusal_want : Given → Want
 refusal_want Start = Respond bad_request
+refusal_want (Told moment (Wait token)) = Await token
 refusal_want (Told moment reply) = Done
 refusal_want (Came got) = Done
 refusal_want Sent = Done

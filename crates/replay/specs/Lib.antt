@@ -10,4 +10,5 @@ pub mod Build
 pub mod Laws
 pub mod Pieces
 pub mod Went
+pub mod Waits
 pub mod Replayed

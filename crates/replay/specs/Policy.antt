@@ -3,9 +3,9 @@ use Rattle.std.specs.Prelude.{◌≡◌, ◌⊎◌, Bool, true, false, List, []}
 use Rattle.http_heads.specs.declared.exchange.Exchange.{Exchange as What}
 use Rattle.http_heads.specs.declared.exchange.Exchange.TheVariants as exchanges
 use Rattle.cache_law.specs.declared.call.Call.{Call}
-use Rattle.cache_law.specs.declared.call.Call.TheVariants.{Begin, Lookup, Pick, Insert, End}
+use Rattle.cache_law.specs.declared.call.Call.TheVariants.{Begin, Draw, Lookup, Pick, Insert, Drop, End}
 use Rattle.cache_law.specs.declared.call.Reply.{Reply}
-use Rattle.cache_law.specs.declared.call.Reply.TheVariants.{Began, NoRound, Hit, Miss, Picked, Stored, NotOpen, NotInTime, NoRoom, Refused, Ended}
+use Rattle.cache_law.specs.declared.call.Reply.TheVariants.{Began, NoRound, Drawn, Hit, HitMiss, HitPass, Grace, Wait, Miss, Picked, Stored, NotOpen, StaleGone, NotInTime, NoRoom, Refused, Dropped, Ended}
 use Rattle.replay.specs.declared.policy.Request.{Request}
 use Rattle.replay.specs.declared.policy.Given.{Given}
 use Rattle.replay.specs.declared.policy.Given.TheVariants.{Start, Told, Came, Sent, Closed}
@@ -16,9 +16,16 @@ abbrev pub is_response : Want → Bool
 is_response (Respond text) = true
 is_response want = false
 
-abbrev pub is_call : Want → Bool
-is_call (Ask call) = true
-is_call want = false
+-- a call behind which a client isn't told to wait any more, unless it is told so anew
+abbrev pub ends_wait : Call → Bool
+ends_wait (Lookup query) = true
+ends_wait End = true
+ends_wait call = false
+
+-- the call of a round that woke
+abbrev pub goes_on : Want → Bool
+goes_on (Ask call) = ends_wait call
+goes_on want = false
 
 -- after the same givens a round wants the same
 abbrev pub HasOneWant : (Request → List Given → Want → Type 0) → Type 0
@@ -28,15 +35,24 @@ HasOneWant wants = (request : Request) (givens : List Given) (one other : Want) 
 abbrev pub is_reply_to : Call → Reply → Bool
 is_reply_to Begin (Began number vcl text) = true
 is_reply_to Begin NoRound = true
+is_reply_to Draw (Drawn number) = true
+is_reply_to Draw NoRound = true
 is_reply_to (Lookup query) (Hit view) = true
-is_reply_to (Lookup query) (Miss token) = true
+is_reply_to (Lookup query) (HitMiss token) = true
+is_reply_to (Lookup query) HitPass = true
+is_reply_to (Lookup query) (Grace view token) = true
+is_reply_to (Lookup query) (Wait token) = true
+is_reply_to (Lookup query) (Miss token stale) = true
 is_reply_to (Lookup query) NoRound = true
 is_reply_to (Pick vcl target word) (Picked name) = true
-is_reply_to (Insert token object) (Stored number) = true
-is_reply_to (Insert token object) NotOpen = true
-is_reply_to (Insert token object) NotInTime = true
-is_reply_to (Insert token object) NoRoom = true
-is_reply_to (Insert token object) Refused = true
+is_reply_to (Insert token object stale) (Stored number) = true
+is_reply_to (Insert token object stale) NotOpen = true
+is_reply_to (Insert token object stale) StaleGone = true
+is_reply_to (Insert token object stale) NotInTime = true
+is_reply_to (Insert token object stale) NoRoom = true
+is_reply_to (Insert token object stale) Refused = true
+is_reply_to (Drop token) Dropped = true
+is_reply_to (Drop token) NotOpen = true
 is_reply_to End Ended = true
 is_reply_to End NoRound = true
 is_reply_to call reply = false

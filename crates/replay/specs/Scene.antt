@@ -3,7 +3,11 @@ use Rattle.std.specs.Prelude.{◌≡◌, ℕ, Bool, false, Option, Some, None, L
 use Rattle.std.specs.List.{list_any, position_or_len, flat_map}
 use Rattle.std.specs.Fmt.{decimal}
 use Rattle.units.specs.Quoted.{quote_of}
+use Rattle.http_heads.specs.declared.exchange.BackendRequest.{BackendRequest}
+use Rattle.http_heads.specs.declared.exchange.Exchange.{Exchange as What}
 use Rattle.http_heads.specs.declared.exchange.Exchange.TheVariants as exchanges
+use Rattle.backend_link.specs.Exchanges.{asks_head, sent_text}
+use Rattle.replies.specs.Replies.{IsReplyTo}
 use Rattle.cache_law.specs.declared.call.Entry.{Entry}
 use Rattle.cache_law.specs.State.{State, is_closed}
 use Rattle.cache_law.specs.Beginning.{Beginning}
@@ -15,15 +19,18 @@ use Rattle.replay.specs.declared.policy.Want.{Want}
 use Rattle.replay.specs.declared.policy.Want.TheVariants.{Ask, Exchange, Respond, Await, Done}
 use Rattle.replay.specs.declared.event.Event.{Event}
 use Rattle.replay.specs.declared.event.Event.TheVariants as events
+use Rattle.replay.specs.declared.event.Heard.{Heard}
+use Rattle.replay.specs.declared.event.Heard.TheVariants.{Bytes, Fault}
 
 -- a request under way, and what its round was given, newest first
 pub record Round : Type 0 where
   pub request : Request
   pub givens : List Given
 
--- a round that waits for the reply to the fetch of this number
+-- a round that waits for the reply to the fetch of this number, whose request was HEAD or not
 pub record Waiting : Type 0 where
   pub number : ℕ
+  pub to_head : Bool
   pub round : Round
 
 -- a round that waits until the fetch of this number is closed
@@ -84,7 +91,7 @@ pub record AtRest (scene : Scene) : Type 0 where
 pub data Move : Type 0 where
   hears : Event → Move
   calls : Entry → Move
-  fetches : ℕ → List ℕ → List ℕ → Move
+  fetches : ℕ → List ℕ → BackendRequest → Move
   sends : ℕ → List ℕ → Move
   parks : ℕ → Move
   wakes : Move
@@ -120,7 +127,7 @@ response_line client response = codes "resp " ++ decimal client ++ codes " " ++ 
 abbrev pub text_of : Move → List ℕ
 text_of (hears event) = []
 text_of (calls entry) = []
-text_of (fetches number backend request) = fetch_line number backend request
+text_of (fetches number backend request) = fetch_line number backend (sent_text request)
 text_of (sends client response) = response_line client response
 text_of (parks token) = []
 text_of wakes = []
@@ -135,17 +142,25 @@ pub record Runs (wants : Request → List Given → Want → Type 0) (scene : Sc
 abbrev pub with_running : Scene → Round → Scene
 with_running scene round = record scene { running = Some round }
 
+-- What an exchange comes to that is heard so: its bytes and their end are read by whether the request was HEAD; a fault is
+-- as a read that fails.
+abbrev pub IsHeardAs : Bool → Heard → What → Type 0
+IsHeardAs to_head (Bytes bytes) exchange = IsReplyTo to_head bytes exchange
+IsHeardAs to_head Fault exchange = exchange ≡ exchanges.Fault 3
+
 -- A line is heard when the schedule is at rest. A moment never goes back. A request begins a round of a client that has
--- none under way; a reply goes to the first round that waits for it.
+-- none under way; a reply is read as it is heard, and goes to the first round that waits
+-- for it.
 abbrev pub Hears : Scene → Event → Scene → Type 0
 Hears old (events.Moment moment) new =
     AtRest old × (new ≡ record old { moment = max old.moment moment })
 Hears old (events.Request request) new =
     AtRest old × (is_under_way request.client old ≡ false) × (new ≡ with_running old (begun request))
-Hears old (events.Reply number head body) new =
+Hears old (events.Reply number heard) new =
     (one : Waiting) × AtRest old × (find (waits_for number) old.waiting ≡ Some one)
+    × (exchange : What) × IsHeardAs one.to_head heard exchange
     × (new ≡ record old {
-      running = Some (gave one.round (Came (record { moment = old.moment; exchange = exchanges.Reply head body })));
+      running = Some (gave one.round (Came (record { moment = old.moment; exchange = exchange })));
       waiting = without_first number old.waiting;
     })
 
@@ -159,7 +174,7 @@ Next wants beginning old (calls entry) new =
     × (new ≡ record old { state = next_state beginning old.state entry; running = Some (gave round (Told entry.moment entry.reply)) })
 Next wants beginning old (fetches number backend request) new =
     (round : Round) × Runs wants old round (Exchange number backend request)
-    × (new ≡ record old { running = None; waiting = old.waiting ++ record { number = number; round = round } ∷ [] })
+    × (new ≡ record old { running = None; waiting = old.waiting ++ record { number = number; to_head = asks_head request; round = round } ∷ [] })
 Next wants beginning old (sends client response) new =
     (round : Round) × Runs wants old round (Respond response) × (client ≡ round.request.client)
     × (new ≡ with_running old (gave round Sent))

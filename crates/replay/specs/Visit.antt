@@ -6,14 +6,14 @@ use Rattle.replay.specs.declared.policy.Given.{Given}
 use Rattle.replay.specs.declared.visit.Visit.{Visit}
 use Rattle.replay.specs.declared.fixed.Turn.{Turn}
 use Rattle.replay.specs.declared.fixed.Turn.TheVariants as turns
-use Rattle.replay.specs.FixedPolicy.{number_in, vcl_in, token_in, object_in}
+use Rattle.replay.specs.FixedPolicy.{number_in, vcl_in, token_in, response_in}
 
 -- the visit has kept the numbers and what was fetched
 pub record Keeps (visit : Visit) (givens : List Given) : Type 0 where
   pub number_is : visit.number ≡ number_in givens
   pub vcl_is : visit.vcl ≡ vcl_in givens
   pub token_is : visit.token ≡ token_in givens
-  pub object_is : visit.object ≡ object_in visit.head givens
+  pub response_is : visit.response ≡ response_in visit.head givens
 
 -- it is the visit of this client with this head; a page is asked for whatever the body
 pub record IsVisitOf (visit : Visit) (request : Request) : Type 0 where

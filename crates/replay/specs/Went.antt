@@ -1,5 +1,6 @@
 -- How far a part of a session has come, as the functions that play it tell.
 use Rattle.std.specs.Prelude.{◌≡◌, ℕ, Option, None, Some, List, [], ◌∷◌, ◌++◌, ◌≤◌, ◌-◌, map, Result, Ok, Err}
+use Rattle.http_heads.specs.declared.exchange.BackendRequest.{BackendRequest}
 use Rattle.cache_law.specs.declared.call.Entry.{Entry}
 use Rattle.cache_law.specs.Beginning.{Beginning}
 use Rattle.cache_law.specs.History.{Legal, reached, bytes_of_all}
@@ -52,8 +53,9 @@ pub record HasTurn {P : Type 0} (wants : Request → List Given → Want → Typ
 -- a kept round is one that waits for a reply
 pub record IsPending {P : Type 0} (wants : Request → List Given → Want → Type 0) (stands : P → Request → List Given → Type 0) (kept : Pending P) (one : Waiting) : Type 0 where
   pub number_is : kept.number ≡ one.number
+  pub to_head_is : kept.to_head ≡ one.to_head
   pub backend : List ℕ
-  pub request : List ℕ
+  pub request : BackendRequest
   pub leads : Leads wants stands kept.policy kept.client (Exchange kept.number backend request) one.round
 
 -- a kept round is one that is parked

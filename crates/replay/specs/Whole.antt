@@ -2,8 +2,7 @@
 use Rattle.std.specs.Prelude.{◌≡◌, ℕ, ◌≤◌, List, length, drop}
 use Rattle.http_heads.specs.declared.fields.Field.{Field}
 use Rattle.http_heads.specs.declared.message.RequestHead.{RequestHead}
-use Rattle.http_heads.specs.declared.message.ResponseHead.{ResponseHead}
-use Rattle.http_heads.specs.Heads.{HasRequest, HasResponse}
+use Rattle.http_heads.specs.Heads.{HasRequest}
 use Rattle.http_bodies.specs.declared.framing.Kind.{Kind}
 use Rattle.http_bodies.specs.declared.framing.Kind.TheVariants as kinds
 use Rattle.http_bodies.specs.declared.framing.Framing.{Framing}
@@ -24,33 +23,16 @@ pub record HasWholeRequest (text : List ℕ) (head : RequestHead) (body : List �
   pub head_is : HasRequest text head count
   pub body_is : HasFramedBody kinds.Request 1048576 head.fields (drop count text) body
 
--- the text begins with a whole reply with this head and body, of at most 8,388,608 bytes
-pub record HasWholeReply (text : List ℕ) (head : ResponseHead) (body : List ℕ) : Type 0 where
-  pub count : ℕ
-  pub head_is : HasResponse text head count
-  pub body_is : HasFramedBody kinds.Reply 8388608 head.fields (drop count text) body
-
 -- no whole message stands there
 abbrev pub LacksWholeRequest : List ℕ → Type 0
 LacksWholeRequest text = (head : RequestHead) (body : List ℕ) → ¬ (HasWholeRequest text head body)
-
-abbrev pub LacksWholeReply : List ℕ → Type 0
-LacksWholeReply text = (head : ResponseHead) (body : List ℕ) → ¬ (HasWholeReply text head body)
 
 -- this head stands there, and no other
 abbrev pub IsTheRequest : List ℕ → RequestHead → ℕ → Type 0
 IsTheRequest text head count =
     HasRequest text head count × ((other : RequestHead) (taken : ℕ) → HasRequest text other taken → (other ≡ head) × (taken ≡ count))
 
-abbrev pub IsTheResponse : List ℕ → ResponseHead → ℕ → Type 0
-IsTheResponse text head count =
-    HasResponse text head count × ((other : ResponseHead) (taken : ℕ) → HasResponse text other taken → (other ≡ head) × (taken ≡ count))
-
 -- this whole message stands there, and none with another head
 abbrev pub IsTheWholeRequest : List ℕ → RequestHead → List ℕ → Type 0
 IsTheWholeRequest text head body =
     HasWholeRequest text head body × ((other : RequestHead) (more : List ℕ) → HasWholeRequest text other more → other ≡ head)
-
-abbrev pub IsTheWholeReply : List ℕ → ResponseHead → List ℕ → Type 0
-IsTheWholeReply text head body =
-    HasWholeReply text head body × ((other : ResponseHead) (more : List ℕ) → HasWholeReply text other more → other ≡ head)

@@ -1,6 +1,5 @@
 // What a session tells the schedule.
 use crate::Request;
-use http_heads::ResponseHead;
 use std::alloc::{AllocError, Global};
 use units::{Copied, Sequence, Text};
 
@@ -11,12 +10,17 @@ pub enum Event {
     Moment(u64),
     /// A client sends a request.
     Request(Request),
-    /// The exchange of this fetch gets a reply with this head and body.
-    Reply {
-        fetch: u64,
-        head: ResponseHead,
-        body: Text,
-    },
+    /// The exchange of this fetch is over.
+    Reply { fetch: u64, heard: Heard },
+}
+
+/// How an exchange is over.
+#[derive(Drop)]
+pub enum Heard {
+    /// These bytes came, and their end.
+    Bytes(Text),
+    /// A read failed.
+    Fault,
 }
 
 /// An event, and the number of its line.
@@ -31,11 +35,19 @@ impl Copied for Event {
         match self {
             Event::Moment(moment) => Ok(Event::Moment(*moment)),
             Event::Request(request) => Ok(Event::Request(request.copied(alloc)?)),
-            Event::Reply { fetch, head, body } => Ok(Event::Reply {
+            Event::Reply { fetch, heard } => Ok(Event::Reply {
                 fetch: *fetch,
-                head: head.copied(alloc)?,
-                body: body.copy()?,
+                heard: heard.copied(alloc)?,
             }),
+        }
+    }
+}
+
+impl Copied for Heard {
+    fn copied(&self, alloc: Global) -> Result<Self, AllocError> {
+        match self {
+            Heard::Bytes(bytes) => Ok(Heard::Bytes(bytes.copy()?)),
+            Heard::Fault => Ok(Heard::Fault),
         }
     }
 }

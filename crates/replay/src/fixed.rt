@@ -5,7 +5,7 @@ ghost use Rattle.replay.specs.FixedPolicy.{refusal_want};
 use crate::messages::write_bad_request;
 use crate::visit::Visit;
 use crate::{Given, Message, Policy, Request, Want};
-use cache_law::Call;
+use cache_law::{Call, Reply};
 use std::alloc::{AllocError, Global};
 
 /// A client's turn, from what it sent on.
@@ -23,6 +23,10 @@ fn refuse(alloc: Global, given: Given) -> Result<Want, AllocError>
 {
     match given {
         Given::Start => Ok(Want::Respond(write_bad_request(alloc)?)),
+        Given::Told {
+            reply: Reply::Wait(token),
+            ..
+        } => Ok(Want::Await(token)),
         Given::Told { .. } | Given::Came(_) | Given::Sent => Ok(Want::Done),
         Given::Closed => Ok(Want::Ask(Call::End)),
     }

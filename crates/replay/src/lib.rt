@@ -6,6 +6,7 @@
 #![tactic(auto)]
 
 mod event;
+mod exchanges;
 mod fixed;
 mod forms;
 mod laws;
@@ -21,7 +22,7 @@ mod visit;
 mod waking;
 mod whole;
 
-pub use event::{Event, NumberedEvent, Script};
+pub use event::{Event, Heard, NumberedEvent, Script};
 pub use fixed::Turn;
 pub use laws::{one_ending, one_history, one_text};
 pub use policy::{Given, Message, Policy, Request, Want};

@@ -3,8 +3,8 @@ ghost use Rattle.std.specs.Prelude.{◌≡◌, ◌++◌, ◌∷◌, [], codes, I
 ghost use Rattle.std.specs.Fmt.{decimal};
 ghost use Rattle.replay.specs.Messages.{field_of, bad_request, backend_request, delivered, delivery_fields_of, age_of};
 
-use cache_law::Object;
-use http_heads::{Field, Fields, RequestHead, ResponseHead, print_request, print_response};
+use cache_law::{Content, Response};
+use http_heads::{BackendRequest, Field, Fields, RequestHead, ResponseHead, print_response};
 use std::alloc::{AllocError, Global};
 use units::{Copied, Text, write_number};
 
@@ -51,13 +51,13 @@ fn add_number(alloc: Global, fields: Fields, number: u64) -> Result<Fields, Allo
 
 /// What the backend is sent for a page with these fields, under the fetch's number.
 #[tactic(auto, unfolding(crate::specs::Messages::backend_request))]
-pub(crate) fn write_backend_request(
+pub(crate) fn make_backend_request(
     alloc: Global,
     url: &Text,
     fields: Fields,
     number: u64,
-) -> Result<Text, AllocError>
-    ensures { IfOk result (λ text. text ≡ backend_request url.now fields number) }
+) -> Result<BackendRequest, AllocError>
+    ensures { IfOk result (λ request. request ≡ backend_request url.now fields number) }
 {
     let head = RequestHead {
         method: Text::of(alloc, b"GET")?,
@@ -65,14 +65,15 @@ pub(crate) fn write_backend_request(
         version: 11,
         fields: add_number(alloc, fields, number)?,
     };
-    print_request(alloc, &head)
+    let body = Text::of(alloc, b"")?;
+    Ok(BackendRequest { head, body })
 }
 
-/// An object's age at a moment, in whole seconds.
-pub(crate) fn age_at(object: &Object, moment: u64) -> u64
-    ensures { result ≡ age_of object.now moment }
+/// A response's age at a moment, in whole seconds.
+pub(crate) fn age_at(response: &Response, moment: u64) -> u64
+    ensures { result ≡ age_of response.now moment }
 {
-    let passed = i128::from(moment) - i128::from(object.timing.origin);
+    let passed = i128::from(moment) - i128::from(response.timing.origin);
     if passed < 0 {
         0
     } else {
@@ -80,43 +81,44 @@ pub(crate) fn age_at(object: &Object, moment: u64) -> u64
     }
 }
 
-// The fields of a response with an object.
+// The fields of a response that is delivered.
 fn delivery_fields(
     alloc: Global,
-    object: &Object,
+    content: &Content,
     numbers: &[u8],
     age: u64,
 ) -> Result<Fields, AllocError>
-    ensures { IfOk result (λ fields. fields ≡ delivery_fields_of object.now numbers.now age) }
+    ensures { IfOk result (λ fields. fields ≡ delivery_fields_of content.now numbers.now age) }
 {
     let age = write_number(alloc, age)?;
-    let len = write_number(alloc, object.body.bytes().len() as u64)?;
-    let mut fields = object.fields.copied(alloc)?.into_vec();
+    let len = write_number(alloc, content.body.bytes().len() as u64)?;
+    let mut fields = content.fields.copied(alloc)?.into_vec();
     fields.push(make_field(alloc, b"X-Varnish", numbers)?)?;
     fields.push(make_field(alloc, b"Age", age.bytes())?)?;
     fields.push(make_field(alloc, b"Content-Length", len.bytes())?)?;
     Ok(Fields::from_vec(fields))
 }
 
-/// The response with an object.
+/// The response as it is delivered.
 #[tactic(auto, unfolding(crate::specs::Messages::delivered))]
 pub(crate) fn deliver(
     alloc: Global,
-    object: &Object,
+    response: &Response,
     numbers: &[u8],
     age: u64,
 ) -> Result<Text, AllocError>
-    ensures { IfOk result (λ text. text ≡ delivered object.now numbers.now age) }
+    ensures { IfOk result (λ text. text ≡ delivered response.now numbers.now age) }
 {
+    let content: &Content = &response.content;
     let head = ResponseHead {
         version: 11,
-        status: object.status,
-        reason: object.reason.copy()?,
-        fields: delivery_fields(alloc, object, numbers, age)?,
+        status: content.status,
+        reason: content.reason.copy()?,
+        fields: delivery_fields(alloc, content, numbers, age)?,
     };
     let printed = print_response(alloc, &head)?;
     let mut out = Vec::new(alloc);
     out.extend_from_slice(printed.bytes())?;
-    out.extend_from_slice(object.body.bytes())?;
+    out.extend_from_slice(content.body.bytes())?;
     Text::from_vec(out)
 }

@@ -1,12 +1,13 @@
 // What a round wants next, after what it was given.
-ghost use Rattle.std.specs.Prelude.{◌≡◌, List, [], ◌∷◌, IfOk, OnOk, false, true};
+ghost use Rattle.std.specs.Prelude.{◌≡◌, List, [], ◌∷◌, ℕ, IfOk, OnOk, false, true};
+ghost use Rattle.cache_law.specs.declared.call.Reply.TheVariants.{Wait as Waits};
 ghost use Rattle.replay.specs.declared.policy.Request.{Request as Asked};
 ghost use Rattle.replay.specs.declared.policy.Given.{Given as Gift};
 ghost use Rattle.replay.specs.declared.policy.Want.{Want as Wish};
-ghost use Rattle.replay.specs.Policy.{HasOneWant, IsDue, is_call, is_response};
+ghost use Rattle.replay.specs.Policy.{HasOneWant, IsDue, goes_on, is_response};
 
 use cache_law::{Call, Reply};
-use http_heads::{Got, RequestHead};
+use http_heads::{BackendRequest, Got, RequestHead};
 use std::alloc::{AllocError, Global};
 use units::{Copied, Text};
 
@@ -71,7 +72,7 @@ pub enum Want {
     Exchange {
         number: u64,
         backend: Text,
-        request: Text,
+        request: BackendRequest,
     },
     /// That the client gets these bytes.
     Respond(Text),
@@ -95,8 +96,8 @@ pub trait Policy: Drop {
     fn start(alloc: Global, request: Request) -> Result<Self, AllocError>
         ensures { IfOk result (λ round. stands round request []) };
 
-    /// The next want, where what is given answers the last one. A response is never followed by another at once, and
-    /// a wait is always followed by a call.
+    /// The next want, where what is given answers the last one. A response is never followed by another at once. A
+    /// round that is told to wait for a fetch waits for it, and goes on with a lookup or ends.
     fn resume(
         &mut self,
         alloc: Global,
@@ -107,7 +108,8 @@ pub trait Policy: Drop {
         ensures stands { OnOk result ((request : Asked) (givens : List Gift) → stands self.old request givens → stands self.new request (given ∷ givens)) }
         ensures wanted { IfOk result (λ want. (request : Asked) (givens : List Gift) → stands self.old request givens → wants request (given ∷ givens) want) }
         ensures calm { given ≡ Given.Sent → IfOk result (λ want. is_response want ≡ false) }
-        ensures calls { given ≡ Given.Closed → IfOk result (λ want. is_call want ≡ true) };
+        ensures waits { (moment token : ℕ) → given ≡ Given.Told moment (Waits token) → IfOk result (λ want. want ≡ Wish.Await token) }
+        ensures calls { given ≡ Given.Closed → IfOk result (λ want. goes_on want ≡ true) };
 
     /// After the same givens a round wants the same.
     ghost one_want: { HasOneWant wants };

@@ -1,17 +1,21 @@
 // One round in turn, over one cache and one sink.
-ghost use Rattle.std.specs.Prelude.{◌≡◌, ◌++◌, ◌∷◌, ◌+◌, ◌≤◌, [], ℕ, List, IfOk, OnOk, OnErr, IfErr, IsErrOf, MatchResult, false};
+ghost use Rattle.std.specs.Prelude.{◌≡◌, ◌⊎◌, None, Some, ◌++◌, ◌∷◌, ◌+◌, ◌≤◌, [], ℕ, List, IfOk, OnOk, OnErr, IfErr, IsErrOf, MatchResult, false, true};
+ghost use Rattle.backend_link.specs.Exchanges.{asks_head, sent_text};
 ghost use Rattle.cache_law.specs.Beginning.{Beginning};
 ghost use Rattle.cache_law.specs.declared.call.Entry.{Entry as HistoryEntry};
-ghost use Rattle.replay.specs.Policy.{is_response};
+ghost use Rattle.cache_law.specs.History.{HasWaited, reached};
+ghost use Rattle.replay.specs.Policy.{ends_wait, is_response};
 ghost use Rattle.replay.specs.declared.policy.Want.TheVariants as wants;
 ghost use Rattle.replay.specs.Scene.{Scene, fetch_line};
 ghost use Rattle.replay.specs.Pieces.{Pieces, Tells, UsesSink, pieces};
+ghost use Rattle.replay.specs.Waits.{IsSettled, KeepsOthers, RunsAlone, wait_of};
 ghost use Rattle.replay.specs.Went.{CanLead, ComesTo, HasTurn, IsAt, IsInStep, IsSet, IsStage, Keeps, KeepsCore, Meets, NobodyRuns, Went, change_of, spare, stage_of};
 
 use crate::lines::{write_fetch_line, write_response_line};
 use crate::pieces::take_line;
 use crate::{Given, Policy, Want};
 use cache_law::{CacheCore, Call, StepError};
+use http_heads::BackendRequest;
 use std::alloc::Global;
 use units::Text;
 use wire::Sink;
@@ -21,6 +25,8 @@ use wire::Sink;
 pub(crate) struct Pending<P> {
     pub(crate) number: u64,
     pub(crate) client: u32,
+    /// Whether the request to the backend was HEAD.
+    pub(crate) to_head: bool,
     pub(crate) policy: P,
 }
 
@@ -63,6 +69,7 @@ pub(crate) fn ask<C: CacheCore, P: Policy>(
 ) -> Result<Want, Break>
     requires in_step { IsInStep (C.beginning core.old) (C.history core.old) moment }
     requires can { CanLead P.wants P.stands policy.old client (wants.Ask call) }
+    requires waited { HasWaited (reached (C.beginning core.old) (C.history core.old)) client call }
     ensures asked { (kept : Pieces) (scene : Scene) → IsAt (C.beginning core.old) (C.history core.old) moment scene → HasTurn P.wants P.stands policy.old client (wants.Ask call) scene →
         Went P.wants (C.beginning core.old) scene [] (C.history core.old) (C.history core.new) (Meets P.wants P.stands (C.beginning core.old) (C.history core.new) moment policy.new client kept kept result scene) }
     ensures can { IfOk result (CanLead P.wants P.stands policy.new client) }
@@ -70,6 +77,9 @@ pub(crate) fn ask<C: CacheCore, P: Policy>(
     ensures in_step { IsInStep (C.beginning core.new) (C.history core.new) moment }
     ensures spent { OnOk result (spare (C.beginning core.new) (C.history core.new) + 64 ≤ spare (C.beginning core.old) (C.history core.old)) }
     ensures no_fault { IsErrOf result Break.WriteFault → ⊥ }
+    ensures others { KeepsOthers (C.beginning core.old) (C.history core.old) (C.beginning core.new) (C.history core.new) client }
+    ensures own { (wait_of (C.beginning core.old) (C.history core.old) client ≡ None) ⊎ (ends_wait call ≡ true) →
+        IfOk result (λ want. (token : ℕ) → wait_of (C.beginning core.new) (C.history core.new) client ≡ Some token → want ≡ wants.Await token) }
 {
     let told = match core.step(alloc, client, moment, call) {
         Ok(told) => told,
@@ -117,6 +127,12 @@ fn respond<P: Policy, K: Sink>(
     }
 }
 
+fn asks_for_head(request: &BackendRequest) -> bool
+    ensures { result ≡ asks_head request.now }
+{
+    request.head.method.bytes() == b"HEAD".as_slice()
+}
+
 /// Begins the exchange that the client's round wants, and keeps the round until the reply comes.
 fn begin_exchange<P: Policy, K: Sink>(
     alloc: Global,
@@ -125,13 +141,13 @@ fn begin_exchange<P: Policy, K: Sink>(
     waiting: &mut Vec<Pending<P>>,
     pending: Pending<P>,
     backend: &Text,
-    request: &Text,
+    request: &BackendRequest,
 ) -> Result<(), Break>
-    ensures told { Tells (pieces (K.held sink.old) unwritten.old.items) (pieces (K.held sink.new) unwritten.new.items) (fetch_line pending.number backend.now request.now) result }
+    ensures told { Tells (pieces (K.held sink.old) unwritten.old.items) (pieces (K.held sink.new) unwritten.new.items) (fetch_line pending.number backend.now (sent_text request.now)) result }
     ensures waits { OnOk result (waiting.new.items ≡ waiting.old.items ++ pending ∷ []) }
     ensures sink { UsesSink K.faults sink.old sink.new (IsErrOf result Break.WriteFault) }
 {
-    let line = match write_fetch_line(alloc, pending.number, backend.bytes(), request.bytes()) {
+    let line = match write_fetch_line(alloc, pending.number, backend.bytes(), request) {
         Ok(line) => line,
         Err(_) => return Err(Break::NoMemory),
     };
@@ -172,6 +188,8 @@ pub(crate) fn run_round<C: CacheCore, P: Policy, K: Sink>(
 ) -> Result<(), Break>
     requires in_step { IsInStep (C.beginning play.old.core) (C.history play.old.core) play.old.moment }
     requires can { CanLead P.wants P.stands policy client want }
+    requires alone { RunsAlone (C.beginning play.old.core) (stage_of C.history play.old) client want }
+    ensures settled { OnOk result (IsSettled (C.beginning play.new.core) (stage_of C.history play.new)) }
     ensures went { (scene : Scene) → IsStage P.wants P.stands (C.beginning play.old.core) (stage_of C.history play.old) scene → HasTurn P.wants P.stands policy client want scene →
         Went P.wants (C.beginning play.old.core) scene [] (C.history play.old.core) (C.history play.new.core) (ComesTo P.wants P.stands (C.beginning play.old.core) NobodyRuns (change_of C.history K.held play.old play.new sink.old sink.new) result) }
     ensures keeps { Keeps C.beginning C.history K.faults play.old play.new sink.old sink.new (IsErrOf result Break.WriteFault) }
@@ -219,9 +237,11 @@ pub(crate) fn run_round<C: CacheCore, P: Policy, K: Sink>(
                 backend,
                 request,
             } => {
+                let to_head = asks_for_head(&request);
                 let pending = Pending {
                     number,
                     client,
+                    to_head,
                     policy,
                 };
                 return begin_exchange(

@@ -1,17 +1,18 @@
 // Events in turn, over one cache and one sink.
-ghost use Rattle.std.specs.Prelude.{◌≡◌, ◌||◌, ◌==◌, ◌∷◌, position, [], IfOk, Err};
+ghost use Rattle.std.specs.Prelude.{◌≡◌, ◌||◌, ◌==◌, ◌∷◌, position, [], IfOk, OnOk, Err};
 ghost use Rattle.std.specs.List.{list_any};
-ghost use Rattle.http_heads.specs.declared.exchange.Exchange.{Exchange as What};
 ghost use Rattle.replay.specs.Scene.{AtRest, Scene, opening_scene};
+ghost use Rattle.replay.specs.Waits.{IsSettled};
 ghost use Rattle.replay.specs.Went.{IsInStep, IsSet, IsStage, Keeps, Plays, PlaysAll, change_of, stage_of};
 
+use crate::exchanges::hear;
 use crate::rounds::{Break, Kept, Pending, Play};
 use crate::waking::lead;
-use crate::{Event, Given, NumberedEvent, Policy, Request, Want};
+use crate::{Event, Given, Heard, NumberedEvent, Policy, Request, Want};
 use cache_law::CacheCore;
-use http_heads::{Exchange, Got, ResponseHead};
+use http_heads::Got;
 use std::alloc::{AllocError, Global};
-use units::{Copied, Text};
+use units::Copied;
 use wire::Sink;
 
 /// Why an event isn't played to its end.
@@ -73,9 +74,11 @@ fn hear_request<C: CacheCore, P: Policy, K: Sink>(
 ) -> Result<(), Stop>
     requires in_step { IsInStep (C.beginning play.old.core) (C.history play.old.core) play.old.moment }
     requires set { IsSet P.wants P.stands (C.beginning play.old.core) (stage_of C.history play.old) }
+    requires settled { IsSettled (C.beginning play.old.core) (stage_of C.history play.old) }
     ensures plays { (scene : Scene) → IsStage P.wants P.stands (C.beginning play.old.core) (stage_of C.history play.old) scene → AtRest scene →
         Plays P.wants P.stands (C.beginning play.old.core) (change_of C.history K.held play.old play.new sink.old sink.new) scene (Event.Request request) result }
     ensures keeps { Keeps C.beginning C.history K.faults play.old play.new sink.old sink.new (result ≡ Err (Stop.Broken Break.WriteFault)) }
+    ensures settled { OnOk result (IsSettled (C.beginning play.new.core) (stage_of C.history play.new)) }
 {
     let client = request.client;
     if is_busy(play, client) {
@@ -98,14 +101,15 @@ fn hear_reply<C: CacheCore, P: Policy, K: Sink>(
     context: &mut P::Context,
     sink: &mut K,
     fetch: u64,
-    head: ResponseHead,
-    body: Text,
+    heard: Heard,
 ) -> Result<(), Stop>
     requires in_step { IsInStep (C.beginning play.old.core) (C.history play.old.core) play.old.moment }
     requires set { IsSet P.wants P.stands (C.beginning play.old.core) (stage_of C.history play.old) }
+    requires settled { IsSettled (C.beginning play.old.core) (stage_of C.history play.old) }
     ensures plays { (scene : Scene) → IsStage P.wants P.stands (C.beginning play.old.core) (stage_of C.history play.old) scene → AtRest scene →
-        Plays P.wants P.stands (C.beginning play.old.core) (change_of C.history K.held play.old play.new sink.old sink.new) scene (Event.Reply fetch head body) result }
+        Plays P.wants P.stands (C.beginning play.old.core) (change_of C.history K.held play.old play.new sink.old sink.new) scene (Event.Reply fetch heard) result }
     ensures keeps { Keeps C.beginning C.history K.faults play.old play.new sink.old sink.new (result ≡ Err (Stop.Broken Break.WriteFault)) }
+    ensures settled { OnOk result (IsSettled (C.beginning play.new.core) (stage_of C.history play.new)) }
 {
     let place = match place_of(play.waiting.as_slice(), fetch) {
         Some(place) => place,
@@ -114,12 +118,17 @@ fn hear_reply<C: CacheCore, P: Policy, K: Sink>(
     let Pending {
         number: _,
         client,
+        to_head,
         policy,
     } = play.waiting.remove(place);
     let mut policy = policy;
+    let exchange = match hear(alloc, to_head, heard) {
+        Ok(exchange) => exchange,
+        Err(_) => return Err(Stop::Broken(Break::NoMemory)),
+    };
     let got = Got {
         moment: play.moment,
-        exchange: Exchange::Reply(head, body),
+        exchange,
     };
     let want = match policy.resume(alloc, context, Given::Came(got)) {
         Ok(want) => want,
@@ -141,9 +150,11 @@ fn play_event<C: CacheCore, P: Policy, K: Sink>(
 ) -> Result<(), Stop>
     requires in_step { IsInStep (C.beginning play.old.core) (C.history play.old.core) play.old.moment }
     requires set { IsSet P.wants P.stands (C.beginning play.old.core) (stage_of C.history play.old) }
+    requires settled { IsSettled (C.beginning play.old.core) (stage_of C.history play.old) }
     ensures plays { (scene : Scene) → IsStage P.wants P.stands (C.beginning play.old.core) (stage_of C.history play.old) scene → AtRest scene →
         Plays P.wants P.stands (C.beginning play.old.core) (change_of C.history K.held play.old play.new sink.old sink.new) scene event result }
     ensures keeps { Keeps C.beginning C.history K.faults play.old play.new sink.old sink.new (result ≡ Err (Stop.Broken Break.WriteFault)) }
+    ensures settled { OnOk result (IsSettled (C.beginning play.new.core) (stage_of C.history play.new)) }
 {
     match event {
         Event::Moment(moment) => {
@@ -151,9 +162,7 @@ fn play_event<C: CacheCore, P: Policy, K: Sink>(
             Ok(())
         }
         Event::Request(request) => hear_request(alloc, play, context, sink, request),
-        Event::Reply { fetch, head, body } => {
-            hear_reply(alloc, play, context, sink, fetch, head, body)
-        }
+        Event::Reply { fetch, heard } => hear_reply(alloc, play, context, sink, fetch, heard),
     }
 }
 
@@ -174,6 +183,7 @@ pub(crate) fn play_events<C: CacheCore, P: Policy, K: Sink>(
 ) -> Result<(), Halt>
     requires in_step { IsInStep (C.beginning play.old.core) (C.history play.old.core) play.old.moment }
     requires opens { IsStage P.wants P.stands (C.beginning play.old.core) (stage_of C.history play.old) (opening_scene (C.beginning play.old.core)) }
+    requires settled { IsSettled (C.beginning play.old.core) (stage_of C.history play.old) }
     ensures plays { PlaysAll P.wants P.stands (C.beginning play.old.core) (change_of C.history K.held play.old play.new sink.old sink.new) events.now result }
     ensures keeps { Keeps C.beginning C.history K.faults play.old play.new sink.old sink.new (result ≡ Err (Halt.Broken Break.WriteFault)) }
 {

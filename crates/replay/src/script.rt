@@ -1,12 +1,14 @@
 // A session as it is read, made ready to be played.
-ghost use Rattle.std.specs.Prelude.{◌≡◌, ◌≤◌, ℕ, List, Some, MatchOption, MatchResult, IfOk};
-ghost use Rattle.replay.specs.Build.{IsBuilt, IsBuiltAs, IsBuildError, IsMessage, StandsFor};
-ghost use Rattle.replay.specs.declared.event.Event.{Event as Heard};
+ghost use Rattle.std.specs.Prelude.{◌≡◌, ◌≤◌, ◌↔◌, ℕ, List, Some, IsTrue, MatchOption, MatchResult, IfOk};
+ghost use Rattle.replay.specs.Build.{HasPage, IsBuilt, IsBuiltAs, IsBuildError, IsMessage, StandsFor};
+ghost use Rattle.replay.specs.declared.event.Event.{Event as Happens};
 ghost use Rattle.replay.specs.declared.policy.Message.{Message as Sent};
 
 use crate::forms::{is_page_reply, is_page_request};
-use crate::whole::{read_whole_reply, read_whole_request};
-use crate::{Event, Message, NumberedEvent, Request, Script};
+use crate::whole::read_whole_request;
+use crate::{Event, Heard, Message, NumberedEvent, Request, Script};
+use http_heads::Exchange;
+use replies::read_reply;
 use session_text::{Line, NumberedLine, Session};
 use std::alloc::{AllocError, Global};
 use units::{Sequence, Text};
@@ -36,7 +38,7 @@ fn build_message(alloc: Global, text: &[u8]) -> Result<Option<Message>, AllocErr
 }
 
 fn build_request(alloc: Global, client: u32, text: &[u8]) -> Result<Option<Event>, AllocError>
-    ensures { IfOk result (λ built. MatchOption built ((event : Heard) → StandsFor (Line.Req client text.now) event → ⊥) (λ event. StandsFor (Line.Req client text.now) event)) }
+    ensures { IfOk result (λ built. MatchOption built ((event : Happens) → StandsFor (Line.Req client text.now) event → ⊥) (λ event. StandsFor (Line.Req client text.now) event)) }
 {
     if client != 1 {
         return Ok(None);
@@ -47,29 +49,35 @@ fn build_request(alloc: Global, client: u32, text: &[u8]) -> Result<Option<Event
     }
 }
 
-fn build_reply(alloc: Global, fetch: u64, text: &[u8]) -> Result<Option<Event>, AllocError>
-    ensures { IfOk result (λ built. MatchOption built ((event : Heard) → StandsFor (Line.Reply fetch text.now) event → ⊥) (λ event. StandsFor (Line.Reply fetch text.now) event)) }
+// Whether the bytes are a whole reply with a page, for a request that wasn't HEAD.
+fn has_page(alloc: Global, bytes: &[u8]) -> Result<bool, AllocError>
+    ensures { IfOk result (λ found. IsTrue found ↔ HasPage bytes.now) }
 {
-    match read_whole_reply(alloc, text)? {
-        Some((head, body)) => {
-            if is_page_reply(&head) {
-                Ok(Some(Event::Reply { fetch, head, body }))
-            } else {
-                Ok(None)
-            }
-        }
-        None => Ok(None),
+    match read_reply(alloc, bytes, false)? {
+        Exchange::Reply(head, _) => Ok(is_page_reply(&head)),
+        Exchange::Fault(_) => Ok(false),
+        Exchange::NoMemory => Ok(false),
     }
+}
+
+fn build_reply(alloc: Global, fetch: u64, text: &Text) -> Result<Option<Event>, AllocError>
+    ensures { IfOk result (λ built. MatchOption built ((event : Happens) → StandsFor (Line.Reply fetch text.now) event → ⊥) (λ event. StandsFor (Line.Reply fetch text.now) event)) }
+{
+    if !has_page(alloc, text.bytes())? {
+        return Ok(None);
+    }
+    let heard = Heard::Bytes(text.copy()?);
+    Ok(Some(Event::Reply { fetch, heard }))
 }
 
 /// The event that a line stands for, if it is built.
 fn build_line(alloc: Global, line: &Line) -> Result<Option<Event>, AllocError>
-    ensures { IfOk result (λ built. MatchOption built ((event : Heard) → StandsFor line.now event → ⊥) (λ event. StandsFor line.now event)) }
+    ensures { IfOk result (λ built. MatchOption built ((event : Happens) → StandsFor line.now event → ⊥) (λ event. StandsFor line.now event)) }
 {
     match line {
         Line::At(moment) => Ok(Some(Event::Moment(*moment))),
         Line::Req { client, text } => build_request(alloc, *client, text.bytes()),
-        Line::Reply { fetch, text } => build_reply(alloc, *fetch, text.bytes()),
+        Line::Reply { fetch, text } => build_reply(alloc, *fetch, text),
         Line::Fail(_) => Ok(None),
         Line::Cli(_) => Ok(None),
         Line::Lurk(_) => Ok(None),

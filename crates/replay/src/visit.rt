@@ -2,14 +2,19 @@
 ghost use Rattle.std.specs.Prelude.{◌≡◌, ◌++◌, ◌∷◌, [], ℕ, List, Some, IfOk, OnOk, codes, pos, min, true, false};
 ghost use Rattle.std.specs.Fmt.{decimal};
 ghost use Rattle.replay.specs.Messages.{backend_request, delivered, age_of};
-ghost use Rattle.replay.specs.FixedPolicy.{address_of, fetched, insertion, key_of, last_moment, kept_fields, made_of, page_want, request_fields, view_of};
+ghost use Rattle.replay.specs.FixedPolicy.{address_of, fetched, hit_response, insertion, key_of, last_moment, kept_fields, made_of, page_want, query_of, request_fields, view_of};
+ghost use Rattle.cache_law.specs.declared.call.Call.TheVariants.{Lookup};
+ghost use Rattle.cache_law.specs.declared.object.Object.TheVariants.{Ordinary};
 ghost use Rattle.replay.specs.Visit.{Keeps};
 ghost use Rattle.replay.specs.declared.policy.Given.{Given as Gift};
 
 use crate::forms::host;
-use crate::messages::{add_field, age_at, deliver, write_backend_request};
+use crate::messages::{add_field, age_at, deliver, make_backend_request};
 use crate::{Given, Want};
-use cache_law::{Call, Object, ObjectView, Query, Reply, RequestView, Shared, Timing};
+use cache_law::{
+    Call, Content, Object, ObjectView, Options, Query, Reply, RequestView, Response, Shared,
+};
+use freshness::Timing;
 use http_heads::{Exchange, Fields, Got, RequestHead, ResponseHead};
 use std::alloc::{AllocError, Global};
 use units::{Copied, Sequence, Text, push_number, write_number};
@@ -27,7 +32,7 @@ pub struct Visit {
     pub(crate) vcl: u32,
     pub(crate) token: u64,
     /// What was fetched.
-    pub(crate) object: Option<Shared<Object>>,
+    pub(crate) response: Option<Response>,
 }
 
 // The address of a client.
@@ -87,39 +92,51 @@ fn keep_fields(alloc: Global, fields: &Fields) -> Result<Fields, AllocError>
     Ok(kept)
 }
 
-fn make_object(
+fn make_response(
     alloc: Global,
     head: &RequestHead,
     moment: u64,
     reply: &ResponseHead,
     body: Text,
-) -> Result<Shared<Object>, AllocError>
-    ensures { IfOk result (λ object. object ≡ fetched head.now moment reply.now body) }
+) -> Result<Response, AllocError>
+    ensures { IfOk result (λ response. response ≡ fetched head.now moment reply.now body) }
 {
-    let object = Object {
+    let content = Content {
         key: make_key(alloc, head)?,
+        vary: Sequence::new(alloc),
+        varies_always: false,
         status: reply.status,
         reason: reply.reason.copy()?,
         fields: keep_fields(alloc, &reply.fields)?,
         body,
-        timing: make_timing(moment),
+        xkeys: Sequence::new(alloc),
     };
-    Shared::new(alloc, object)
+    Ok(Response {
+        timing: make_timing(moment),
+        content: Shared::new(alloc, content)?,
+    })
 }
 
-// What came of an exchange as an object.
-fn make_fetched(
-    alloc: Global,
-    head: &RequestHead,
-    got: Got,
-) -> Result<Option<Shared<Object>>, AllocError>
+// What came of an exchange: a reply alone makes a response.
+fn make_fetched(alloc: Global, head: &RequestHead, got: Got) -> Result<Option<Response>, AllocError>
     ensures { IfOk result (λ made. made ≡ made_of head.now got.moment got.exchange) }
 {
     let Got { moment, exchange } = got;
     match exchange {
-        Exchange::Reply(reply, body) => Ok(Some(make_object(alloc, head, moment, &reply, body)?)),
+        Exchange::Reply(reply, body) => Ok(Some(make_response(alloc, head, moment, &reply, body)?)),
         Exchange::Fault(_) | Exchange::NoMemory => Ok(None),
     }
+}
+
+// The response as it is handed to the cache, which shares what it holds.
+fn make_object(alloc: Global, response: &Response) -> Result<Shared<Object>, AllocError>
+    ensures { IfOk result (λ object. object ≡ Ordinary response.now) }
+{
+    let same = Response {
+        timing: response.timing,
+        content: response.content.copy()?,
+    };
+    Shared::new(alloc, Object::Ordinary(same))
 }
 
 // The number of a round, and behind it that of the object.
@@ -133,34 +150,64 @@ fn write_numbers(alloc: Global, round: u64, object: u64) -> Result<Text, AllocEr
     Text::from_vec(out)
 }
 
+fn deliver_found(
+    alloc: Global,
+    number: u64,
+    found: u64,
+    response: &Response,
+    moment: u64,
+) -> Result<Want, AllocError>
+    ensures { IfOk result (λ want. want ≡ Want.Respond (delivered response.now (decimal number ++ codes " " ++ decimal found) (age_of response.now moment))) }
+{
+    let numbers = write_numbers(alloc, number, found)?;
+    let age = age_at(response, moment);
+    Ok(Want::Respond(deliver(alloc, response, numbers.bytes(), age)?))
+}
+
+// A marker is never stored by this policy.
+fn deliver_object(
+    alloc: Global,
+    number: u64,
+    found: u64,
+    object: &Object,
+    moment: u64,
+) -> Result<Want, AllocError>
+    ensures { IfOk result (λ want. want ≡ hit_response number found moment object.now) }
+{
+    match object {
+        Object::Ordinary(response) => deliver_found(alloc, number, found, response, moment),
+        Object::HitForMiss(_) => Ok(Want::Done),
+        Object::HitForPass(_) => Ok(Want::Done),
+    }
+}
+
 fn deliver_hit(
     alloc: Global,
     number: u64,
     view: &ObjectView,
     moment: u64,
 ) -> Result<Want, AllocError>
-    ensures { IfOk result (λ want. want ≡ Want.Respond (delivered view.now.object (decimal number ++ codes " " ++ decimal view.now.number) (age_of view.now.object moment))) }
+    ensures { IfOk result (λ want. want ≡ hit_response number view.now.number moment view.now.object) }
 {
-    let numbers = write_numbers(alloc, number, view.number)?;
-    let age = age_at(&view.object, moment);
-    Ok(Want::Respond(deliver(alloc, &view.object, numbers.bytes(), age)?))
+    deliver_object(alloc, number, view.number, &view.object, moment)
 }
 
 fn deliver_fetched(
     alloc: Global,
     number: u64,
-    object: &Object,
+    response: &Response,
     moment: u64,
 ) -> Result<Want, AllocError>
-    ensures { IfOk result (λ want. want ≡ Want.Respond (delivered object.now (decimal number) (age_of object.now moment))) }
+    ensures { IfOk result (λ want. want ≡ Want.Respond (delivered response.now (decimal number) (age_of response.now moment))) }
 {
     let number = write_number(alloc, number)?;
-    let age = age_at(object, moment);
-    Ok(Want::Respond(deliver(alloc, object, number.bytes(), age)?))
+    let age = age_at(response, moment);
+    Ok(Want::Respond(deliver(alloc, response, number.bytes(), age)?))
 }
 
 impl Visit {
-    ghost use Rattle.replay.specs.Policy.{is_call, is_response};
+    ghost use Rattle.cache_law.specs.declared.call.Reply.TheVariants.{Wait as Waits};
+    ghost use Rattle.replay.specs.Policy.{goes_on, is_response};
 
     /// A visit that was given nothing yet.
     pub(crate) fn new(client: u32, head: RequestHead) -> Visit
@@ -174,8 +221,20 @@ impl Visit {
             number: 0,
             vcl: 0,
             token: 0,
-            object: None,
+            response: None,
         }
+    }
+
+    // Looks the page up.
+    fn look_up(&self, alloc: Global) -> Result<Want, AllocError>
+        ensures { IfOk result (λ want. want ≡ Want.Ask (Lookup (query_of self.now.client self.now.head))) }
+    {
+        let query = Query {
+            key: make_key(alloc, &self.head)?,
+            request: make_view(alloc, self.client, &self.head)?,
+            options: Options::PLAIN,
+        };
+        Ok(Want::Ask(Call::Lookup(Shared::new(alloc, query)?)))
     }
 
     // Asks the backend of this name for the page.
@@ -186,7 +245,7 @@ impl Visit {
         Ok(Want::Exchange {
             number: self.token,
             backend: name,
-            request: write_backend_request(alloc, &self.head.url, fields, self.token)?,
+            request: make_backend_request(alloc, &self.head.url, fields, self.token)?,
         })
     }
 
@@ -196,19 +255,17 @@ impl Visit {
         ensures head { self.new.head ≡ self.old.head }
         ensures keeps { OnOk result ((givens : List Gift) → Keeps self.old givens → Keeps self.new (Given.Told moment reply ∷ givens)) }
         ensures wanted { IfOk result (λ want. (givens : List Gift) → Keeps self.old givens → want ≡ page_want self.old.client self.old.head (Given.Told moment reply) givens) }
+        ensures waits { (token : ℕ) → reply ≡ Waits token → IfOk result (λ want. want ≡ Want.Await token) }
     {
         match reply {
             Reply::Began { number, vcl, .. } => {
                 self.number = number;
                 self.vcl = vcl;
-                let query = Query {
-                    key: make_key(alloc, &self.head)?,
-                    request: make_view(alloc, self.client, &self.head)?,
-                };
-                Ok(Want::Ask(Call::Lookup(Shared::new(alloc, query)?)))
+                self.look_up(alloc)
             }
             Reply::Hit(view) => deliver_hit(alloc, self.number, &view, moment),
-            Reply::Miss { token } => {
+            Reply::Wait(token) => Ok(Want::Await(token)),
+            Reply::Miss { token, .. } => {
                 self.token = token;
                 Ok(Want::Ask(Call::Pick {
                     vcl: self.vcl,
@@ -219,12 +276,14 @@ impl Visit {
             Reply::Picked(Some(name)) => self.ask_backend(alloc, name),
             Reply::Stored(_) | Reply::NotOpen | Reply::NotInTime | Reply::NoRoom | Reply::Refused =>
                 {
-                    match &self.object {
-                        Some(object) => deliver_fetched(alloc, self.number, object, moment),
+                    match &self.response {
+                        Some(response) => deliver_fetched(alloc, self.number, response, moment),
                         None => Ok(Want::Done),
                     }
                 }
             Reply::Ended | Reply::NoRound | Reply::Picked(None) => Ok(Want::Done),
+            Reply::Drawn(_) | Reply::HitMiss { .. } | Reply::HitPass => Ok(Want::Done),
+            Reply::Grace { .. } | Reply::StaleGone | Reply::Dropped => Ok(Want::Done),
         }
     }
 
@@ -235,11 +294,12 @@ impl Visit {
         ensures keeps { OnOk result ((givens : List Gift) → Keeps self.old givens → Keeps self.new (Given.Came got ∷ givens)) }
         ensures wanted { IfOk result (λ want. (givens : List Gift) → Keeps self.old givens → want ≡ page_want self.old.client self.old.head (Given.Came got) givens) }
     {
-        self.object = make_fetched(alloc, &self.head, got)?;
-        match &self.object {
-            Some(object) => Ok(Want::Ask(Call::Insert {
+        self.response = make_fetched(alloc, &self.head, got)?;
+        match &self.response {
+            Some(response) => Ok(Want::Ask(Call::Insert {
                 token: self.token,
-                object: object.copy()?,
+                object: make_object(alloc, response)?,
+                stale: None,
             })),
             None => Ok(Want::Done),
         }
@@ -252,13 +312,15 @@ impl Visit {
         ensures keeps { OnOk result ((givens : List Gift) → Keeps self.old givens → Keeps self.new (given ∷ givens)) }
         ensures wanted { IfOk result (λ want. (givens : List Gift) → Keeps self.old givens → want ≡ page_want self.old.client self.old.head given givens) }
         ensures calm { given ≡ Given.Sent → IfOk result (λ want. is_response want ≡ false) }
-        ensures calls { given ≡ Given.Closed → IfOk result (λ want. is_call want ≡ true) }
+        ensures waits { (moment token : ℕ) → given ≡ Given.Told moment (Waits token) → IfOk result (λ want. want ≡ Want.Await token) }
+        ensures calls { given ≡ Given.Closed → IfOk result (λ want. goes_on want ≡ true) }
     {
         match given {
             Given::Start => Ok(Want::Ask(Call::Begin)),
             Given::Told { moment, reply } => Ok(self.answer(alloc, moment, reply)?),
             Given::Came(got) => Ok(self.store(alloc, got)?),
-            Given::Sent | Given::Closed => Ok(Want::Ask(Call::End)),
+            Given::Sent => Ok(Want::Ask(Call::End)),
+            Given::Closed => self.look_up(alloc),
         }
     }
 }

@@ -4,6 +4,7 @@ ghost use Rattle.cache_law.specs.History.{reached};
 ghost use Rattle.cache_law.specs.State.{is_closed};
 ghost use Rattle.replay.specs.Scene.{AtRest, Scene};
 ghost use Rattle.replay.specs.declared.policy.Want.{Want as Wish};
+ghost use Rattle.replay.specs.Waits.{IsSettled, RunsAlone};
 ghost use Rattle.replay.specs.Went.{CanLead, ComesTo, HasTurn, IsInStep, IsSet, IsStage, Keeps, NobodyRuns, Went, change_of, spare, stage_of};
 
 use crate::rounds::{Break, Kept, Play, ask, run_round};
@@ -29,10 +30,12 @@ fn wake<C: CacheCore, P: Policy, K: Sink>(
 ) -> Result<(), Break>
     requires in_step { IsInStep (C.beginning play.old.core) (C.history play.old.core) play.old.moment }
     requires set { IsSet P.wants P.stands (C.beginning play.old.core) (stage_of C.history play.old) }
+    requires settled { IsSettled (C.beginning play.old.core) (stage_of C.history play.old) }
     requires free { position (λ kept. is_closed (reached (C.beginning play.old.core) (C.history play.old.core)).fetches kept.token) play.old.parked.items ≡ Some place }
     ensures went { (scene : Scene) → IsStage P.wants P.stands (C.beginning play.old.core) (stage_of C.history play.old) scene → NobodyRuns scene →
         Went P.wants (C.beginning play.old.core) scene [] (C.history play.old.core) (C.history play.new.core) (ComesTo P.wants P.stands (C.beginning play.old.core) NobodyRuns (change_of C.history K.held play.old play.new sink.old sink.new) result) }
     ensures keeps { Keeps C.beginning C.history K.faults play.old play.new sink.old sink.new (IsErrOf result Break.WriteFault) }
+    ensures settled { OnOk result (IsSettled (C.beginning play.new.core) (stage_of C.history play.new)) }
     ensures spent { OnOk result (spare (C.beginning play.new.core) (C.history play.new.core) < spare (C.beginning play.old.core) (C.history play.old.core)) }
 {
     let Kept {
@@ -70,9 +73,11 @@ fn settle<C: CacheCore, P: Policy, K: Sink>(
 ) -> Result<(), Break>
     requires in_step { IsInStep (C.beginning play.old.core) (C.history play.old.core) play.old.moment }
     requires set { IsSet P.wants P.stands (C.beginning play.old.core) (stage_of C.history play.old) }
+    requires settled { IsSettled (C.beginning play.old.core) (stage_of C.history play.old) }
     ensures went { (scene : Scene) → IsStage P.wants P.stands (C.beginning play.old.core) (stage_of C.history play.old) scene → NobodyRuns scene →
         Went P.wants (C.beginning play.old.core) scene [] (C.history play.old.core) (C.history play.new.core) (ComesTo P.wants P.stands (C.beginning play.old.core) AtRest (change_of C.history K.held play.old play.new sink.old sink.new) result) }
     ensures keeps { Keeps C.beginning C.history K.faults play.old play.new sink.old sink.new (IsErrOf result Break.WriteFault) }
+    ensures settled { OnOk result (IsSettled (C.beginning play.new.core) (stage_of C.history play.new)) }
 {
     'wakes: while let Some(place) = first_free(&play.core, play.parked.as_slice()) {
         match wake(alloc, play, context, sink, place) {
@@ -96,9 +101,11 @@ pub(crate) fn lead<C: CacheCore, P: Policy, K: Sink>(
 ) -> Result<(), Break>
     requires in_step { IsInStep (C.beginning play.old.core) (C.history play.old.core) play.old.moment }
     requires turn { (scene : Scene) × IsStage P.wants P.stands (C.beginning play.old.core) (stage_of C.history play.old) scene × HasTurn P.wants P.stands policy client want scene }
+    requires alone { RunsAlone (C.beginning play.old.core) (stage_of C.history play.old) client want }
     ensures went { (scene : Scene) → IsStage P.wants P.stands (C.beginning play.old.core) (stage_of C.history play.old) scene → HasTurn P.wants P.stands policy client want scene →
         Went P.wants (C.beginning play.old.core) scene [] (C.history play.old.core) (C.history play.new.core) (ComesTo P.wants P.stands (C.beginning play.old.core) AtRest (change_of C.history K.held play.old play.new sink.old sink.new) result) }
     ensures keeps { Keeps C.beginning C.history K.faults play.old play.new sink.old sink.new (IsErrOf result Break.WriteFault) }
+    ensures settled { OnOk result (IsSettled (C.beginning play.new.core) (stage_of C.history play.new)) }
 {
     match run_round(alloc, play, context, sink, client, policy, want) {
         Ok(()) => settle(alloc, play, context, sink),

@@ -1,19 +1,16 @@
-// The message at the front of a text.
+// The request at the front of a text.
 ghost use Rattle.std.specs.Prelude.{◌≤◌, ℕ, List, length, IfOk, MatchOption};
 ghost use Rattle.http_bodies.specs.Bodies.{BeginsWith};
-ghost use Rattle.http_heads.specs.Heads.{LacksRequest, LacksResponse};
-ghost use Rattle.replay.specs.Whole.{HasFramedBody, IsTheRequest, IsTheResponse, LacksWholeRequest, LacksWholeReply, IsTheWholeRequest, IsTheWholeReply};
+ghost use Rattle.http_heads.specs.Heads.{LacksRequest};
+ghost use Rattle.replay.specs.Whole.{HasFramedBody, IsTheRequest, LacksWholeRequest, IsTheWholeRequest};
 
 use http_bodies::{BodyError, Framing, Kind, frame, read_body};
-use http_heads::{Fields, HeadError, RequestHead, ResponseHead, read_request, read_response};
+use http_heads::{Fields, HeadError, RequestHead, read_request};
 use std::alloc::{AllocError, Global};
 use units::Text;
 
 /// The greatest body of a request.
 const REQUEST_BODY_LIMIT: u64 = 1_048_576;
-
-/// The greatest body of a reply.
-const REPLY_BODY_LIMIT: u64 = 8_388_608;
 
 // The body with this framing at the front of the text, within the limit.
 fn find_body(
@@ -72,25 +69,6 @@ fn read_request_head(alloc: Global, text: &[u8]) -> Result<Option<(RequestHead, 
     }
 }
 
-// The head of a response at the front of the text, and its length.
-fn read_response_head(
-    alloc: Global,
-    text: &[u8],
-) -> Result<Option<(ResponseHead, usize)>, AllocError>
-    ensures { IfOk result (λ found. MatchOption found (LacksResponse text.now) (λ found. IsTheResponse text.now found.0 found.1)) }
-{
-    match read_response(alloc, text) {
-        Ok(found) => Ok(found),
-        Err(error) => {
-            if error == HeadError::NoMemory {
-                Err(AllocError)
-            } else {
-                Ok(None)
-            }
-        }
-    }
-}
-
 /// The head and the body of the whole request at the front of the text; None where none stands there, be it that its
 /// head, its framing or its body is refused, or that the text ends in it.
 pub(crate) fn read_whole_request(
@@ -107,29 +85,6 @@ pub(crate) fn read_whole_request(
         alloc,
         Kind::Request,
         REQUEST_BODY_LIMIT,
-        &head.fields,
-        &text[count..],
-    )? {
-        Some(body) => Ok(Some((head, body))),
-        None => Ok(None),
-    }
-}
-
-/// The head and the body of the whole reply at the front of the text; None where none stands there.
-pub(crate) fn read_whole_reply(
-    alloc: Global,
-    text: &[u8],
-) -> Result<Option<(ResponseHead, Text)>, AllocError>
-    ensures { IfOk result (λ found. MatchOption found (LacksWholeReply text.now) (λ found. IsTheWholeReply text.now found.0 found.1)) }
-{
-    let (head, count) = match read_response_head(alloc, text)? {
-        Some(found) => found,
-        None => return Ok(None),
-    };
-    match read_framed_body(
-        alloc,
-        Kind::Reply,
-        REPLY_BODY_LIMIT,
         &head.fields,
         &text[count..],
     )? {

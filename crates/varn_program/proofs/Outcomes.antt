@@ -48,15 +48,6 @@ pointwise_same : (xs : List ℕ) → pointwise nat_eq xs xs ≡ true
 pointwise_same [] = refl
 pointwise_same (x ∷ xs) = ap (λ (b : Bool). b && pointwise nat_eq xs xs) (eq-eqb x x refl) ∙ pointwise_same xs
 
--- one word, and the test that it is this one
-pub one_word : (words : List (List ℕ)) (word asked : List ℕ) (same : Bool) → 1 ≤ length words → length words < 2 → word ≡ get_or words 0 word → same ≡ pointwise nat_eq word asked → IsTrue same ↔ (words ≡ asked ∷ [])
-one_word [] word asked same least most is told = absurd (omega arith)
-one_word (x ∷ y ∷ rest) word asked same least most is told = absurd (omega arith)
-one_word (x ∷ []) word asked same least most is told = (
-  (λ yes_. ap (λ (w : List ℕ). w ∷ []) (sym is ∙ same_text word asked (sym yes_ ∙ told))),
-  (λ e. told ∙ (ap (λ (w : List ℕ). pointwise nat_eq w asked) (is ∙ ap (λ (ws : List (List ℕ)). get_or ws 0 x) e) ∙ pointwise_same asked)),
-)
-
 consumed : (bytes text : List ℕ) (left : Option (List ℕ)) → Consumes (Some bytes) left text → (length text ≤ 67108864 → IsAtEnd left) → length bytes ≤ 67108864 → text ≡ bytes
 consumed bytes text None front end short = absurd front
 consumed bytes text (Some rest) front end short =

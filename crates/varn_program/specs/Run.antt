@@ -16,14 +16,11 @@ use Rattle.replay.specs.declared.session.ReplayError.{ReplayError}
 use Rattle.replay.specs.declared.session.ReplayError.TheVariants as refusals
 use Rattle.replay.specs.FixedPolicy.{Wants}
 use Rattle.replay.specs.Replayed.{SessionEnds, PlayedTo as SessionPlayedTo}
+use Rattle.varn_program.specs.Words.{AsksReplay}
 use Rattle.varn_program.specs.declared.outcome.Status.{Status}
 use Rattle.varn_program.specs.declared.outcome.Status.TheVariants.{Done, Words, Session, ReadFault, WriteFault, NoMemory, HistoryFull}
 use Rattle.varn_program.specs.declared.outcome.Note.{Note}
 use Rattle.varn_program.specs.declared.outcome.Outcome.{Outcome}
-
--- the words are `replay` alone
-abbrev pub IsReplay : List (List ℕ) → Type 0
-IsReplay words = words ≡ codes "replay" ∷ []
 
 -- the VCL that a session begins under, which declares one backend
 abbrev pub opening_text : List ℕ
@@ -31,10 +28,6 @@ opening_text = codes "vcl 4.1; backend default { .host = \"127.0.0.1\"; .port = 
 
 abbrev pub opening_boot : Boot
 opening_boot = record { text = opening_text; backends = codes "default" ∷ [] }
-
--- the limits that hold when none is given
-abbrev pub usual_limits : Params
-usual_limits = record { room = 268435456; history = 268435456 }
 
 abbrev pub note_of : ℕ → ℕ → Option Note
 note_of line kind = Some (record { line = line; kind = kind })
@@ -99,11 +92,12 @@ IsComplete params left held0 held1 failed outcome =
     (session : TheSession) → HasSession left session → NothingStops Wants session (beginning_of params opening_boot) outcome.history → (failed → ⊥)
     → ((outcome.status ≡ Done) × SessionPlayedTo Wants session (beginning_of params opening_boot) outcome.history held0 held1 None) ⊎ (outcome.status ≡ NoMemory)
 
--- How a run ends: status Words exactly for other words than `replay`, with nothing read or written; else as a replay.
+-- How a run ends: status Words exactly for words that ask for no replay, with nothing read or written; else as the replay
+-- that they ask for.
 abbrev pub Ends : List (List ℕ) → Option (List ℕ) → Option (List ℕ) → Option (List ℕ) → Option (List ℕ) → Outcome → Type 0
 Ends words left0 left1 held0 held1 outcome =
-    ((IsReplay words → ⊥) × (outcome ≡ record { status = Words; note = None; history = [] }) × (left1 ≡ left0) × (held1 ≡ held0))
-    ⊎ (IsReplay words × EndsReplay usual_limits left0 left1 held0 held1 outcome)
+    (((params : Params) → AsksReplay words params → ⊥) × (outcome ≡ record { status = Words; note = None; history = [] }) × (left1 ≡ left0) × (held1 ≡ held0))
+    ⊎ ((params : Params) × AsksReplay words params × EndsReplay params left0 left1 held0 held1 outcome)
 
 -- the outcome of a session that was played
 abbrev pub outcome_of : List Entry → Option ReplayError → Outcome

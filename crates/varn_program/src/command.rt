@@ -1,9 +1,12 @@
 // The top call.
-ghost use Rattle.std.specs.Prelude.{◌≡◌, ◌≤◌, ◌∷◌, ◌⊎◌, [], codes, IsTrue, ◌↔◌, IfOk, Some, None};
-ghost use Rattle.varn_program.specs.Run.{IsReplay, Ends, EndsReplay, IsComplete, opening_boot, outcome_of, usual_limits};
+ghost use Rattle.std.specs.Prelude.{◌≡◌, ◌⊎◌, [], IfOk, Some, None};
+ghost use Rattle.cache_law.specs.declared.setting.Params.{Params as Limits};
+ghost use Rattle.varn_program.specs.Run.{Ends, EndsReplay, IsComplete, opening_boot, outcome_of};
+ghost use Rattle.varn_program.specs.Words.{AsksReplay};
 ghost use Rattle.wire.specs.Causes.{Rose};
 
 use crate::outcome::{Note, Outcome, Status};
+use crate::words::asked;
 use cache_law::{Boot, Params};
 use replay::{ReplayError, Replayed, run_session};
 use session_text::{SESSION_LIMIT, SessionError};
@@ -15,15 +18,6 @@ use wire::{ReadError, Sink, Source, read_all};
 const BOOT_TEXT: &[u8] = b"vcl 4.1; backend default { .host = \"127.0.0.1\"; .port = \"8080\"; }";
 
 const BACKEND: &[u8] = b"default";
-
-fn is_replay(words: &[Text]) -> bool
-    ensures { IsTrue result ↔ IsReplay words.now }
-{
-    match words {
-        [word] => word.bytes() == b"replay".as_slice(),
-        _ => false,
-    }
-}
 
 fn make_boot(alloc: Global) -> Result<Boot, AllocError>
     ensures { IfOk result (λ boot. boot ≡ opening_boot) }
@@ -99,7 +93,8 @@ pub fn replay<S: Source, K: Sink>(
     ended(run_session(alloc, &session, params, boot, sink))
 }
 
-/// Does what the words say: `replay` alone plays the session of the source, within the usual limits.
+/// Does what the words say: `replay` plays the session of the source, within the limits that the options give or the
+/// usual ones.
 pub fn run<S: Source, K: Sink>(
     alloc: Global,
     words: &[Text],
@@ -107,16 +102,12 @@ pub fn run<S: Source, K: Sink>(
     sink: &mut K,
 ) -> Outcome
     ensures ends { Ends words.now (S.left source.old) (S.left source.new) (K.held sink.old) (K.held sink.new) result }
-    ensures complete { IsReplay words.now → IsComplete usual_limits (S.left source.old) (K.held sink.old) (K.held sink.new) (Rose (S.faults source.old) (S.faults source.new) ⊎ Rose (K.faults sink.old) (K.faults sink.new)) result }
+    ensures complete { (params : Limits) → AsksReplay words.now params → IsComplete params (S.left source.old) (K.held sink.old) (K.held sink.new) (Rose (S.faults source.old) (S.faults source.new) ⊎ Rose (K.faults sink.old) (K.faults sink.new)) result }
     ensures read_fault { result.status ≡ Status.ReadFault → Rose (S.faults source.old) (S.faults source.new) }
     ensures write_fault { result.status ≡ Status.WriteFault → Rose (K.faults sink.old) (K.faults sink.new) }
 {
-    if !is_replay(words) {
-        return stopped(alloc, Status::Words, None);
+    match asked(words) {
+        Some(params) => replay(alloc, &params, source, sink),
+        None => stopped(alloc, Status::Words, None),
     }
-    let params = Params {
-        room: Params::DEFAULT_ROOM,
-        history: Params::DEFAULT_HISTORY,
-    };
-    replay(alloc, &params, source, sink)
 }

@@ -10,6 +10,7 @@ mod outcome;
 mod process;
 #[cfg(test)]
 mod tests;
+mod words;
 
 pub use command::{replay, run};
 pub use outcome::{Note, Outcome, Status};

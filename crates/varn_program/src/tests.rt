@@ -3,6 +3,7 @@ mod messages;
 
 use crate::command::{replay, run};
 use crate::outcome::{Note, Outcome, Status};
+use crate::words::faulty_word;
 use cache_law::{Call, Params, Reply};
 use messages::MESSAGES;
 use std::alloc::{AllocError, Global};
@@ -380,12 +381,38 @@ fn bodies_at_their_limits(rt: HostRuntime) -> Result<(), Fail> {
 #[test]
 fn words_and_history(rt: HostRuntime) -> Result<(), Fail> {
     let alloc = rt.alloc();
-    let lines: [(&[&str], Status, usize); 5] = [
+    let lines: [(&[&str], Status, usize); 19] = [
         (&[], Status::Words, 0),
+        (&["--help"], Status::Words, 0),
+        (&["--version"], Status::Words, 0),
         (&["serve"], Status::Words, 0),
         (&["replay", "replay"], Status::Words, 0),
         (&["Replay"], Status::Words, 0),
         (&["replay"], Status::Done, 13),
+        (&["replay", "--room"], Status::Words, 0),
+        (&["replay", "--room", "x"], Status::Words, 0),
+        (&["replay", "--room", "01"], Status::Words, 0),
+        (&["replay", "--room", "1", "--room", "2"], Status::Words, 0),
+        (&["replay", "--rooms", "1"], Status::Words, 0),
+        (&["--room", "1", "replay"], Status::Words, 0),
+        (&["replay", "--room", "1073741824"], Status::Done, 13),
+        (&["replay", "--room", "1073741825"], Status::Words, 0),
+        (
+            &["replay", "--history", "1073741824", "--room", "1073741824"],
+            Status::Done,
+            13,
+        ),
+        (&["replay", "--history", "1073741825"], Status::Words, 0),
+        (
+            &["replay", "--room", "0", "--history", "0"],
+            Status::HistoryFull,
+            0,
+        ),
+        (
+            &["replay", "--room", "5", "--history", "6", "end"],
+            Status::Words,
+            0,
+        ),
     ];
     for (line, status, entries) in lines {
         let mut words = Vec::new(alloc);
@@ -406,6 +433,81 @@ fn words_and_history(rt: HostRuntime) -> Result<(), Fail> {
             .last()
             .is_none_or(|entry| matches!(&entry.reply, Reply::Ended));
         assert!(rt; first && last, "{line:?}");
+    }
+    Ok(())
+}
+
+// A page that is asked for twice, with a second reply where it isn't stored.
+const TWICE: &str = r#"req 1 "GET /a HTTP/1.1\r\nHost: h\r\n\r\n"
+reply 2 "HTTP/1.1 200 OK\r\nCache-Control: max-age=120, stale-while-revalidate=0\r\nContent-Length: 2\r\n\r\nhi"
+req 1 "GET /a HTTP/1.1\r\nHost: h\r\n\r\n"
+"#;
+
+const AGAIN: &str =
+    r#"reply 4 "HTTP/1.1 200 OK\r\nCache-Control: max-age=120, stale-while-revalidate=0\r\nContent-Length: 2\r\n\r\nhi"
+"#;
+
+// Whether the second reply comes, the words, the status, and how many lines are written: a page of 571 bytes is stored
+// where there is room for it, and a history of 191 bytes has no room behind the round's beginning.
+const LIMITED: [(bool, &[&str], Status, usize); 4] = [
+    (false, &["replay", "--room", "571"], Status::Done, 3),
+    (true, &["replay", "--room", "570"], Status::Done, 4),
+    (false, &["replay", "--room", "570"], Status::Session, 3),
+    (
+        false,
+        &["replay", "--history", "191"],
+        Status::HistoryFull,
+        0,
+    ),
+];
+
+#[test]
+fn limits_by_words(rt: HostRuntime) -> Result<(), Fail> {
+    let alloc = rt.alloc();
+    for (again, line, status, written) in LIMITED {
+        let mut session = TWICE.as_bytes().to_vec(alloc)?;
+        if again {
+            session.extend_from_slice(AGAIN.as_bytes())?;
+        }
+        session.extend_from_slice(b"end")?;
+        let mut words = Vec::new(alloc);
+        for word in line {
+            words.push(Text::of(alloc, word.as_bytes())?)?;
+        }
+        let mut source = FailingSource::new(session, Vec::new(alloc));
+        let mut sink = empty_sink(alloc);
+        let outcome = run(alloc, words.as_slice(), &mut source, &mut sink);
+        assert_eq!(rt; outcome.status, status, "{line:?}");
+        let ends = sink.bytes().iter().filter(|byte| **byte == b'\n').count();
+        assert_eq!(rt; ends, written, "{line:?}");
+    }
+    Ok(())
+}
+
+// The word at which each line leaves the grammar; none where one is wanting.
+#[test]
+fn faulty_words(rt: HostRuntime) -> Result<(), Fail> {
+    let alloc = rt.alloc();
+    let lines: [(&[&str], Option<&str>); 8] = [
+        (&[], None),
+        (&["serve"], Some("serve")),
+        (&["replay", "end"], Some("end")),
+        (&["replay", "--room"], None),
+        (&["replay", "--room", "x"], Some("x")),
+        (&["replay", "--room", "1073741825"], Some("1073741825")),
+        (&["replay", "--room", "1", "--room", "2"], Some("--room")),
+        (
+            &["replay", "--room", "1", "--history", "2", "--x"],
+            Some("--x"),
+        ),
+    ];
+    for (line, faulty) in lines {
+        let mut words = Vec::new(alloc);
+        for word in line {
+            words.push(Text::of(alloc, word.as_bytes())?)?;
+        }
+        let found = faulty_word(words.as_slice()).map(|word| word.bytes());
+        assert_eq!(rt; found, faulty.map(|word| word.as_bytes()), "{line:?}");
     }
     Ok(())
 }

@@ -383,13 +383,17 @@ reply 2 "HTTP/1.1 200 OK\r\nCache-Control: max-age=120, stale-while-revalidate=0
 req 1 "GET /b HTTP/1.1\r\nHost: h\r\n\r\n"
 reply 4 "HTTP/1.1 200\r\nCache-Control: max-age=120, stale-while-revalidate=0\r\nContent-Length: 2\r\n\r\nhi"
 end
-|@3 4 2
+|@0 0 0
 req 1 "GET /a HTTP/1.1\r\nHost: h\r\n\r\n"
 reply 2 "HTTP/1.1 200 OK\r\nCache-Control: max-age=120, stale-while-revalidate=0\r\nContent-Length: 2\r\n\r\nhi"
 req 1 "GET /b HTTP/1.1\r\nHost: h\r\n\r\n"
 reply 4 "HTTP/1.1 100 Continue\r\n\r\nHTTP/1.1 200 OK\r\nCache-Control: max-age=120, stale-while-revalidate=0\r\nContent-Length: 2\r\n\r\nhi"
 end
-|@3 4 2
+|fetch 2 default "GET /a HTTP/1.1\r\nHost: h\r\nX-Forwarded-For: 10.0.0.1\r\nX-Varnish: 2\r\n\r\n"
+resp 1 "HTTP/1.1 200 OK\r\nCache-Control: max-age=120, stale-while-revalidate=0\r\nX-Varnish: 1\r\nAge: 0\r\nContent-Length: 2\r\n\r\nhi"
+fetch 4 default "GET /b HTTP/1.1\r\nHost: h\r\nX-Forwarded-For: 10.0.0.1\r\nX-Varnish: 4\r\n\r\n"
+resp 1 "HTTP/1.1 200 OK\r\nCache-Control: max-age=120, stale-while-revalidate=0\r\nX-Varnish: 3\r\nAge: 0\r\nContent-Length: 2\r\n\r\nhi"
+@3 4 2
 req 1 "GET /a HTTP/1.1\r\nHost: h\r\n\r\n"
 reply 2 "HTTP/1.1 200 OK\r\nCache-Control: max-age=120, stale-while-revalidate=0\r\nContent-Length: 2\r\n\r\nhi"
 req 1 "GET /b HTTP/1.1\r\nHost: h\r\n\r\n"

@@ -12,9 +12,9 @@ three_more xs one two three x y z u v w p q r e f g = rw (r, q, p, e, f, g) (sim
 
 pub returns : goal.returns
 returns c =
-    let len : c.in_ok-len.len ≡ decimal (length c.args.object.now.body) = c.in_ok-len.ensures.1 ∙ ap (λ (xs : List ℕ). decimal (length xs)) c.bytes.ensures in
+    let len : c.in_ok-len.len ≡ decimal (length c.args.content.now.body) = c.in_ok-len.ensures.1 ∙ ap (λ (xs : List ℕ). decimal (length xs)) c.bytes.ensures in
     c.from_vec.ensures
-    ∙ three_more c.args.object.now.fields c.push.new.self.items c.push-2.new.self.items c.push-3.new.self.items _ _ _ _ _ _
+    ∙ three_more c.args.content.now.fields c.push.new.self.items c.push-2.new.self.items c.push-3.new.self.items _ _ _ _ _ _
     (c.in_ok-push.ensures.items ∙ ap (λ (xs : List Field). xs ++ c.in_ok-make_field.field-0 ∷ []) (c.into_vec-fields.ensures ∙ c.in_ok-copied.ensures))
     c.in_ok-push-2.ensures.items
     c.in_ok-push-3.ensures.items

@@ -4,7 +4,7 @@ use Rattle.cache_law.specs.declared.cache.Told.{Told}
 use Rattle.cache_law.specs.declared.cache.StepError.{StepError}
 use Rattle.cache_law.specs.declared.cache.StepError.TheVariants.{HistoryFull, NoMemory}
 use Rattle.replay.specs.declared.policy.Want.TheVariants as wants
-use Rattle.replay.proofs.Asking.{asked, met, leads_on, can_on, due, too_much, told_answers, still_in_step}
+use Rattle.replay.proofs.Asking.{others_as_told, own_as_told, asked, met, leads_on, can_on, due, too_much, told_answers, still_in_step}
 use Rattle.replay.proofs.Runs.{went-still}
 use Rattle.replay.proofs.Taking.{Takes-nil}
 use Rattle.replay.proofs.rounds.ask.Goals as goal
@@ -47,3 +47,13 @@ returns-in-Err-clause-asked g c = λ kept scene at turn.
 
 pub returns-in-Err-clause-in_step : goal.returns-in-Err-clause-in_step
 returns-in-Err-clause-in_step g c = still_in_step _ _ _ _ _ c.args.call c.in-Ok.told c.requires.in_step c.in-Ok.ensures.told _ c.in-Ok.ensures.same
+
+pub returns-in-Ok-resume-clause-others : goal.returns-in-Ok-resume-clause-others
+returns-in-Ok-resume-clause-others g c = others_as_told _ _ _ _ _ c.args.call c.in-Ok.told c.requires.in_step c.in-Ok.ensures.told _ c.in-Ok.ensures.same
+
+pub returns-in-Ok-resume-clause-own : goal.returns-in-Ok-resume-clause-own
+returns-in-Ok-resume-clause-own g c = λ how token told.
+    c.in-Ok-resume.ensures.waits c.in-Ok.told.moment token (own_as_told _ _ _ _ _ c.args.call c.in-Ok.told c.requires.in_step c.in-Ok.ensures.told _ c.in-Ok.ensures.same how token told)
+
+pub returns-in-Err-clause-others : goal.returns-in-Err-clause-others
+returns-in-Err-clause-others g c = others_as_told _ _ _ _ _ c.args.call c.in-Ok.told c.requires.in_step c.in-Ok.ensures.told _ c.in-Ok.ensures.same

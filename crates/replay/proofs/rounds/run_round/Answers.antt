@@ -1,6 +1,8 @@
-use Rattle.std.proofs.Common.{Ok, Err, refl, arith}
+use Rattle.std.proofs.Common.{Ok, Err, inl, refl, arith}
+use Rattle.replay.specs.declared.policy.Want.TheVariants as wants
 use Rattle.replay.specs.Pieces.{pieces}
 use Rattle.replay.specs.Went.{stage_of}
+use Rattle.replay.proofs.Resting.{alone_behind, alone_still, ask_waits_not, done_waits_not, exchange_waits_not, free_to_ask, respond_waits_not, settles_done, settles_parked, settles_pending, told_nothing, wants_same, where_ok}
 use Rattle.replay.proofs.Runs.{went-here}
 use Rattle.replay.proofs.Taking.{Takes-nil}
 use Rattle.replay.proofs.Turns.{KeepsCore-then, KeepsCore-none, asked_at, goes_on, breaks_off, exchange_rests, park_rests, done_rests}
@@ -11,6 +13,7 @@ wants-init g c =
     record {
       went = λ scene stage turn. went-here g.P.Policy.wants _ scene _ _ (record { has_turn = turn; is_stage = stage; takes = Takes-nil _ });
       can = c.requires.can;
+      alone = c.requires.alone;
       core = KeepsCore-none g.C.CacheCore.beginning g.C.CacheCore.history _;
       in_step = c.requires.in_step;
       later = omega arith;
@@ -23,6 +26,10 @@ wants-preserved-in-Ok g c =
           goes_on g.P.Policy.wants g.P.Policy.stands _ c.args.client c.wants.play.moment c.wants.play.waiting.items c.wants.play.parked.items scene _ _ _ _ _ _ _ c.ask.new.policy _ _ c.in-Ok.next c.in-Ask.is (c.wants.invariant.went scene stage turn)
           (asked_at g.P.Policy.wants g.P.Policy.stands _ _ _ _ c.wants.play.moment _ c.ask.new.policy c.args.client _ (Ok c.in-Ok.next) c.wants.invariant.core.same c.in-Ok.ensures.asked (pieces (g.K.Sink.held c.wants.sink) c.wants.play.unwritten.items));
       can = c.in-Ok.ensures.can;
+      alone =
+          let free = wants_same (g.C.CacheCore.beginning c.wants.play.core) (stage_of g.C.CacheCore.history c.wants.play) c.args.client _ (wants.Ask c.in-Ask.call) c.in-Ask.is c.wants.invariant.alone in
+          let none = told_nothing (g.C.CacheCore.beginning c.wants.play.core) (stage_of g.C.CacheCore.history c.wants.play) c.args.client _ (ask_waits_not _) free in
+          alone_behind (g.C.CacheCore.beginning c.wants.play.core) (stage_of g.C.CacheCore.history c.wants.play) _ _ c.args.client _ c.in-Ok.next free c.in-Ok.ensures.others (c.in-Ok.ensures.own (inl none));
       core = KeepsCore-then g.C.CacheCore.beginning g.C.CacheCore.history _ _ _ c.wants.invariant.core c.in-Ok.ensures.kept;
       in_step = c.in-Ok.ensures.in_step;
       later = c.wants.invariant.later;
@@ -40,6 +47,7 @@ wants-preserved g c =
           goes_on g.P.Policy.wants g.P.Policy.stands _ c.args.client c.wants.play.moment c.wants.play.waiting.items c.wants.play.parked.items scene _ _ _ _ _ _ _ c.respond.new.policy _ _ c.in-Ok-respond.next c.in-Respond.is (c.wants.invariant.went scene stage turn)
           (λ s at led. c.in-Ok-respond.ensures.sent _ _ c.wants.play.moment s at led);
       can = c.in-Ok-respond.ensures.can;
+      alone = alone_still (g.C.CacheCore.beginning c.wants.play.core) (stage_of g.C.CacheCore.history c.wants.play) c.args.client _ c.in-Ok-respond.next (respond_waits_not _) (wants_same _ _ c.args.client _ _ c.in-Respond.is c.wants.invariant.alone);
       core = c.wants.invariant.core;
       in_step = c.wants.invariant.in_step;
       later = omega (arith, c.wants.invariant.later, c.in-Ok-respond.ensures.sink.later);
@@ -52,7 +60,7 @@ returns-in-Err-respond-clause-went g c = λ scene stage turn.
 
 pub returns-in-Exchange-clause-went : goal.returns-in-Exchange-clause-went
 returns-in-Exchange-clause-went g c = λ scene stage turn.
-    exchange_rests g.P.Policy.wants g.P.Policy.stands _ c.args.client c.wants.play.moment c.wants.play.waiting.items c.wants.play.parked.items scene _ _ _ _ _ _ _ _ _ _ c.begin_exchange.result refl c.in-Exchange.is
+    exchange_rests g.P.Policy.wants g.P.Policy.stands _ c.args.client c.wants.play.moment c.wants.play.waiting.items c.wants.play.parked.items scene _ _ _ _ _ _ _ _ _ _ c.begin_exchange.result refl c.asks_for_head-to_head.ensures c.in-Exchange.is
     c.begin_exchange.ensures.told c.begin_exchange.ensures.waits (c.wants.invariant.went scene stage turn) (stage_of g.C.CacheCore.history c.args.play.now)
 
 pub returns-in-Await-clause-went : goal.returns-in-Await-clause-went
@@ -63,3 +71,26 @@ returns-in-Await-clause-went g c = λ scene stage turn.
 pub returns-in-Done-clause-went : goal.returns-in-Done-clause-went
 returns-in-Done-clause-went g c = λ scene stage turn.
     done_rests g.P.Policy.wants g.P.Policy.stands _ c.args.client c.wants.play.moment c.wants.play.waiting.items c.wants.play.parked.items scene _ _ _ _ _ _ c.in-Done.is (c.wants.invariant.went scene stage turn) (stage_of g.C.CacheCore.history c.args.play.now)
+
+pub ask-requires-clause-waited : goal.ask-requires-clause-waited
+ask-requires-clause-waited g c =
+    free_to_ask (g.C.CacheCore.beginning c.wants.play.core) (stage_of g.C.CacheCore.history c.wants.play) c.args.client _ _ c.in-Ask.is c.wants.invariant.alone
+
+pub returns-in-Exchange-clause-settled : goal.returns-in-Exchange-clause-settled
+returns-in-Exchange-clause-settled g c =
+    let now = g.C.CacheCore.beginning c.wants.play.core in
+    let stage = stage_of g.C.CacheCore.history c.wants.play in
+    let alone = wants_same now stage c.args.client _ _ c.in-Exchange.is c.wants.invariant.alone in
+    where_ok c.begin_exchange.result _ _ c.begin_exchange.ensures.waits (settles_pending now stage c.args.client _ alone (exchange_waits_not _ _ _) _ _ refl)
+
+pub returns-in-Await-clause-settled : goal.returns-in-Await-clause-settled
+returns-in-Await-clause-settled g c =
+    let now = g.C.CacheCore.beginning c.wants.play.core in
+    let stage = stage_of g.C.CacheCore.history c.wants.play in
+    where_ok c.park.result _ _ c.park.ensures.parks (settles_parked now stage c.args.client _ c.wants.invariant.alone _ _ refl c.in-Await.is)
+
+pub returns-in-Done-clause-settled : goal.returns-in-Done-clause-settled
+returns-in-Done-clause-settled g c =
+    let now = g.C.CacheCore.beginning c.wants.play.core in
+    let stage = stage_of g.C.CacheCore.history c.wants.play in
+    settles_done now stage c.args.client _ (wants_same now stage c.args.client _ _ c.in-Done.is c.wants.invariant.alone) done_waits_not

@@ -2,6 +2,7 @@ use Rattle.std.proofs.Common.{◌*◌, ◌+◌, ◌≤◌, [], cond}
 use Rattle.replay.specs.Policy.{is_response}
 use Rattle.replay.specs.Pieces.{pieces}
 use Rattle.replay.specs.Scene.{Scene}
+use Rattle.replay.specs.Waits.{RunsAlone}
 use Rattle.replay.specs.Went.{Went, CanLead, HasTurn, IsStage, KeepsCore, IsInStep, spare, stage_of}
 use Rattle.replay.proofs.Turns.{SoFar}
 use Rattle.replay.proofs.rounds.run_round.Given as goal
@@ -17,6 +18,7 @@ invariant-wants g l =
           → Went policy.wants (cache.beginning l.fn.play.core) scene [] (cache.history l.fn.play.core) (cache.history l.play.core)
           (SoFar policy.wants policy.stands (cache.beginning l.fn.play.core) l.fn.client (stage_of cache.history l.play) l.policy l.want (pieces (sink.held l.fn.sink) l.fn.play.unwritten.items) (pieces (sink.held l.sink) l.play.unwritten.items));
       can : CanLead policy.wants policy.stands l.policy l.fn.client l.want;
+      alone : RunsAlone (cache.beginning l.play.core) (stage_of cache.history l.play) l.fn.client l.want;
       core : KeepsCore cache.beginning cache.history l.fn.play.core l.play.core;
       in_step : IsInStep (cache.beginning l.play.core) (cache.history l.play.core) l.play.moment;
       later : sink.faults l.fn.sink ≤ sink.faults l.sink;

@@ -1,8 +1,12 @@
-use Rattle.std.proofs.Common.{◌≡◌, [], ◌∷◌, true, false, refl}
+use Rattle.std.proofs.Common.{◌≡◌, ◌||◌, ◌==◌, [], ◌∷◌, true, false, refl}
+use Rattle.std.specs.List.{list_any}
+use Rattle.replay.specs.declared.rounds.Pending.{Pending}
+use Rattle.replay.specs.declared.rounds.Kept.{Kept}
 use Rattle.replay.specs.declared.event.Event.TheVariants as events
 use Rattle.replay.specs.Scene.{begun, is_under_way, with_running}
 use Rattle.replay.specs.Went.{stage_of}
 use Rattle.replay.proofs.Hearing.{under_way, request_heard, stage_like}
+use Rattle.replay.proofs.Resting.{begins_alone}
 use Rattle.replay.proofs.Runs.{went-here}
 use Rattle.replay.proofs.Taking.{Takes-nil}
 use Rattle.replay.proofs.schedule.hear_request.Goals as goal
@@ -21,8 +25,10 @@ pub lead-requires : goal.lead-requires
 lead-requires g c =
     let set = c.requires.set in
     let scene = with_running set.scene (begun c.args.request) in
+    let free : (list_any (λ (kept : Pending g.row.P.Denot). kept.client == c.args.request.client) c.args.play.now.waiting.items || list_any (λ (kept : Kept g.row.P.Denot). kept.client == c.args.request.client) c.args.play.now.parked.items) ≡ false = cc in
     record {
       in_step = c.requires.in_step;
+      alone = begins_alone _ (stage_of g.C.CacheCore.history c.args.play.now) c.requires.settled c.args.request.client _ free;
       turn = (
         scene,
         stage_like g.P.Policy.wants _ g.P.Policy.stands (stage_of g.C.CacheCore.history c.args.play.now) set.scene scene set.is_stage refl refl refl refl,

@@ -18,3 +18,6 @@ returns-in-Moment-clause-plays g c = λ scene stage rests.
       },
       Takes-nil _,
     ))
+
+pub returns-in-Moment-clause-settled : goal.returns-in-Moment-clause-settled
+returns-in-Moment-clause-settled g c = record { once = c.requires.settled.once; told = c.requires.settled.told }

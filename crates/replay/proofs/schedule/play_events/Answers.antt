@@ -13,6 +13,7 @@ pub loop-numbered-init : goal.loop-numbered-init
 loop-numbered-init g c =
     record {
       plays = went-here g.P.Policy.wants _ _ _ _ (record { nobody_runs = refl; nobody_is_free = refl }, c.requires.opens, Takes-nil _);
+      settled = c.requires.settled;
       core = KeepsCore-none g.C.CacheCore.beginning g.C.CacheCore.history _;
       in_step = c.requires.in_step;
       later = omega arith;
@@ -89,6 +90,7 @@ loop-numbered-preserved g c =
           played_more policy.wants policy.stands first c.args.events.now c.loop-numbered.numbered-index start before after none some more c.loop-numbered.invariant.plays
           c.numbered-item.result c.in-Ok.event c.loop-numbered-test.true c.numbered-item.is c.in-Ok.ensures
           (plays_at policy.wants policy.stands first now before (changed before after some more) c.in-Ok.event (Ok tt) c.loop-numbered.invariant.core.same c.in-Ok-play_event.ensures.plays);
+      settled = c.in-Ok-play_event.ensures.settled;
       core = KeepsCore-then cache.beginning cache.history _ _ _ c.loop-numbered.invariant.core c.in-Ok-play_event.ensures.keeps.core;
       in_step = c.in-Ok-play_event.ensures.keeps.in_step;
       later = omega (arith, c.loop-numbered.invariant.later, c.in-Ok-play_event.ensures.keeps.sink_used.later);

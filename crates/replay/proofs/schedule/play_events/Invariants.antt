@@ -1,6 +1,7 @@
 use Rattle.std.proofs.Common.{◌≤◌, Ok, take}
 use Rattle.replay.specs.Scene.{AtRest, opening_scene}
-use Rattle.replay.specs.Went.{Went, ComesTo, KeepsCore, IsInStep, change_of, events_in}
+use Rattle.replay.specs.Waits.{IsSettled}
+use Rattle.replay.specs.Went.{Went, ComesTo, KeepsCore, IsInStep, change_of, events_in, stage_of}
 use Rattle.replay.proofs.schedule.play_events.Given as goal
 
 -- the events so far are played
@@ -12,6 +13,7 @@ invariant-loop-numbered g l =
     record {
       plays : Went policy.wants (cache.beginning l.fn.play.core) (opening_scene (cache.beginning l.fn.play.core)) (events_in (take l.numbered-index l.events)) (cache.history l.fn.play.core) (cache.history l.play.core)
           (ComesTo policy.wants policy.stands (cache.beginning l.fn.play.core) AtRest (change_of cache.history sink.held l.fn.play l.play l.fn.sink l.sink) (Ok tt));
+      settled : IsSettled (cache.beginning l.play.core) (stage_of cache.history l.play);
       core : KeepsCore cache.beginning cache.history l.fn.play.core l.play.core;
       in_step : IsInStep (cache.beginning l.play.core) (cache.history l.play.core) l.play.moment;
       later : sink.faults l.fn.sink ≤ sink.faults l.sink;

@@ -7,6 +7,7 @@ use Rattle.replay.specs.Replayed.{IsWritten}
 use Rattle.replay.specs.Went.{PlaysAll, Stage, stage_of}
 use Rattle.replay.proofs.Ending.{ends_at, nothing_played}
 use Rattle.replay.proofs.Playing.{changed}
+use Rattle.replay.proofs.Resting.{opens_settled}
 use Rattle.replay.proofs.session.play_session.Goals as goal
 
 pub returns-in-Err-clause-replayed : goal.returns-in-Err-clause-replayed
@@ -27,3 +28,8 @@ returns-clause-replayed g c =
     c.in-Ok.ensures.begins kept.same c.in-Ok.ensures.history c.into_history.ensures c.new-4.ensures.items kept.legal c.has_nobody-nobody_waits.ensures
     (subst (λ (es : List NumberedEvent). PlaysAll policy.wants policy.stands (cache.beginning c.in-Ok.core) (changed start stage (pieces before c.new-4.result.items) (pieces middle played.new.play.unwritten.items)) es played.result) c.as_slice.ensures played.ensures.plays)
     (subst (λ (ending : Option ReplayError). IsWritten (pieces middle played.new.play.unwritten.items) now ending c.written-refusal.result) c.refusal-ending.ensures c.written-refusal.ensures.written)
+
+pub play_events-played-requires-clause-settled : goal.play_events-played-requires-clause-settled
+play_events-played-requires-clause-settled g c =
+    opens_settled c.args.params.now c.args.boot (g.C.CacheCore.beginning c.in-Ok.core) (record { moment = 0; waiting = c.new-2.result.items; parked = c.new-3.result.items; history = g.C.CacheCore.history c.in-Ok.core })
+    c.in-Ok.ensures.begins c.in-Ok.ensures.history c.new-2.ensures.items c.new-3.ensures.items

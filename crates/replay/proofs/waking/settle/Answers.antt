@@ -1,4 +1,4 @@
-use Rattle.std.proofs.Common.{◌≡◌, Ok, Err, None, [], subst, arith}
+use Rattle.std.proofs.Common.{◌≡◌, Ok, Err, None, [], subst, arith, ap, sym, ◌∙◌, List}
 use Rattle.std.specs.Prelude.{position}
 use Rattle.cache_law.specs.Beginning.{Beginning}
 use Rattle.cache_law.specs.History.{reached}
@@ -19,6 +19,7 @@ wakes-init g c =
     record {
       went = λ scene stage rests. went-here g.P.Policy.wants _ scene _ _ (rests, stage, Takes-nil _);
       set = c.requires.set;
+      settled = c.requires.settled;
       core = KeepsCore-none g.C.CacheCore.beginning g.C.CacheCore.history _;
       in_step = c.requires.in_step;
       later = omega arith;
@@ -42,6 +43,7 @@ wakes-preserved g c =
           comes_then policy.wants first policy.stands NobodyRuns scene start.history before.history after.history start before after none some more (Ok tt) (c.wakes.invariant.went scene stage rests)
           (comes_at policy.wants policy.stands NobodyRuns first now before (changed before after some more) before.history after.history (Ok tt) c.wakes.invariant.core.same c.in-Ok.ensures.went);
       set = set_on policy.wants policy.stands NobodyRuns now (cache.beginning c.wake.new.play.core) still.0 [] (changed before after some more) before.history after.history c.in-Ok.ensures.keeps.core.same (c.in-Ok.ensures.went still.0 still.1 still.2);
+      settled = c.in-Ok.ensures.settled;
       core = KeepsCore-then cache.beginning cache.history _ _ _ c.wakes.invariant.core c.in-Ok.ensures.keeps.core;
       in_step = c.in-Ok.ensures.keeps.in_step;
       later = omega (arith, c.wakes.invariant.later, c.in-Ok.ensures.keeps.sink_used.later);
@@ -69,7 +71,8 @@ returns-clause-went g c = λ scene stage rests.
     let first = cache.beginning c.args.play.now.core in
     let now = cache.beginning c.wakes.play.core in
     let before = stage_of cache.history c.wakes.play in
-    let nobody : position (λ (k : Kept g.row.P.Denot). is_closed (reached now before.history).fetches k.token) c.wakes.play.parked.items ≡ None = cc in
+    let nobody : position (λ (k : Kept g.row.P.Denot). is_closed (reached now before.history).fetches k.token) c.wakes.play.parked.items ≡ None =
+    ap (λ (kept : List (Kept g.row.P.Denot)). position (λ (k : Kept g.row.P.Denot). is_closed (reached now before.history).fetches k.token) kept) (sym c.as_slice.ensures.value) ∙ sym c.first_free.ensures ∙ c.in_default.is in
     let none : position (λ (k : Kept g.row.P.Denot). is_closed (reached first before.history).fetches k.token) c.wakes.play.parked.items ≡ None =
     subst (λ (b : Beginning). position (λ (k : Kept g.row.P.Denot). is_closed (reached b before.history).fetches k.token) c.wakes.play.parked.items ≡ None) c.wakes.invariant.core.same nobody in
     went-map policy.wants first scene [] _ _ _ _ (λ next text f. (rests_now policy.wants policy.stands first before next f.1 f.0 none, f.1, f.2)) (c.wakes.invariant.went scene stage rests)

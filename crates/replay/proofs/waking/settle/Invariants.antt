@@ -1,5 +1,6 @@
 use Rattle.std.proofs.Common.{◌≤◌, [], Ok}
 use Rattle.replay.specs.Scene.{Scene}
+use Rattle.replay.specs.Waits.{IsSettled}
 use Rattle.replay.specs.Went.{Went, ComesTo, IsStage, IsSet, KeepsCore, IsInStep, NobodyRuns, change_of, spare, stage_of}
 use Rattle.replay.proofs.waking.settle.Given as goal
 
@@ -14,6 +15,7 @@ invariant-wakes g l =
           → Went policy.wants (cache.beginning l.fn.play.core) scene [] (cache.history l.fn.play.core) (cache.history l.play.core)
           (ComesTo policy.wants policy.stands (cache.beginning l.fn.play.core) NobodyRuns (change_of cache.history sink.held l.fn.play l.play l.fn.sink l.sink) (Ok tt));
       set : IsSet policy.wants policy.stands (cache.beginning l.play.core) (stage_of cache.history l.play);
+      settled : IsSettled (cache.beginning l.play.core) (stage_of cache.history l.play);
       core : KeepsCore cache.beginning cache.history l.fn.play.core l.play.core;
       in_step : IsInStep (cache.beginning l.play.core) (cache.history l.play.core) l.play.moment;
       later : sink.faults l.fn.sink ≤ sink.faults l.sink;

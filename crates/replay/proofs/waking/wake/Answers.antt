@@ -1,4 +1,8 @@
-use Rattle.std.proofs.Common.{◌<◌, length, refl, arith}
+use Rattle.std.proofs.Common.{◌≡◌, ◌<◌, true, length, inr, refl, sym, subst, arith}
+use Rattle.std.proofs.lemmas.List.Quantifiers.{position-Some}
+use Rattle.cache_law.specs.History.{reached}
+use Rattle.cache_law.specs.State.{is_closed}
+use Rattle.replay.specs.declared.rounds.Kept.{Kept}
 use Rattle.replay.specs.declared.policy.Want.TheVariants as wants
 use Rattle.replay.specs.Pieces.{pieces}
 use Rattle.replay.specs.Went.{NobodyRuns, Stage, stage_of}
@@ -6,6 +10,7 @@ use Rattle.replay.proofs.Playing.{changed}
 use Rattle.replay.proofs.Alike.{position_within}
 use Rattle.replay.proofs.Asking.{can_on, due}
 use Rattle.replay.proofs.Hearing.{found_by_history, round_wakes, woken, woken_stage, woken_turn, asked_and_led, led_at}
+use Rattle.replay.proofs.Resting.{woken_alone, woken_waits_not}
 use Rattle.replay.proofs.Runs.{went-still}
 use Rattle.replay.proofs.Taking.{Takes-nil}
 use Rattle.replay.proofs.waking.wake.Goals as goal
@@ -54,3 +59,21 @@ returns-in-Err-asked-clause-went g c = λ scene stage rests.
     let turn = woken_turn g.P.Policy.wants g.P.Policy.stands scene c.args.play.now.parked.items c.args.place c.remove-client.result it c.resume.new.self (wants.Ask c.in-Ok-Ask.call) c.in-Ok-Ask.ensures.stands (rw c.in-Ok-Ask.field-0-is at c.in-Ok-Ask.ensures.wanted) in
     round_wakes g.P.Policy.wants _ scene it.one _ _ _ rests it.is_first
     (c.in-Err-asked.ensures.asked (pieces (g.K.Sink.held c.args.sink.now) c.args.play.now.unwritten.items) (woken scene it.one) set.at turn)
+
+pub ask-asked-requires-clause-waited : goal.ask-asked-requires-clause-waited
+ask-asked-requires-clause-waited g c =
+    let cache = g.C.CacheCore in
+    let now = cache.beginning c.args.play.now.core in
+    let stage = stage_of cache.history c.args.play.now in
+    let found = position-Some _ stage.parked c.args.place c.remove-client.result c.requires.free in
+    woken_waits_not now stage c.requires.settled c.args.place c.remove-client.result _ found.0 c.remove-client.ensures.value c.remove-client.ensures.items c.in-Ok-Ask.call
+    (subst (λ (kept : Kept g.row.P.Denot). is_closed (reached now stage.history).fetches kept.token ≡ true) (sym c.remove-client.ensures.value) found.1)
+
+pub run_round-requires-clause-alone : goal.run_round-requires-clause-alone
+run_round-requires-clause-alone g c =
+    let cache = g.C.CacheCore in
+    let now = cache.beginning c.args.play.now.core in
+    let stage = stage_of cache.history c.args.play.now in
+    let found = position-Some _ stage.parked c.args.place c.remove-client.result c.requires.free in
+    woken_alone now stage c.requires.settled c.args.place c.remove-client.result _ found.0 c.remove-client.ensures.value c.remove-client.ensures.items _ _ c.in-Ok-asked.want c.in-Ok-asked.ensures.others
+    (c.in-Ok-asked.ensures.own (inr (rw c.in-Ok-Ask.field-0-is at c.in-Ok-Ask.ensures.calls refl)))

@@ -1,0 +1,4 @@
+mod Bodies
+mod Heads
+pub mod Once
+mod Passing

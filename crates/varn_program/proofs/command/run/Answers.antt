@@ -1,0 +1,12 @@
+use Rattle.std.proofs.Common.{◌⊎◌, sym, subst}
+use Rattle.wire.specs.Causes.{Rose}
+use Rattle.cache_law.specs.declared.setting.Params.{Params}
+use Rattle.varn_program.specs.Run.{IsComplete}
+use Rattle.varn_program.proofs.Asking.{one_replay}
+use Rattle.varn_program.proofs.command.run.Goals as goal
+
+pub returns-in-Some-clause-complete : goal.returns-in-Some-clause-complete
+returns-in-Some-clause-complete g c = λ params asks.
+    subst (λ (limits : Params). IsComplete limits (g.S.Source.left c.args.source.now) (g.K.Sink.held c.args.sink.now) (g.K.Sink.held c.replay.new.sink)
+    (Rose (g.S.Source.faults c.args.source.now) (g.S.Source.faults c.replay.new.source) ⊎ Rose (g.K.Sink.faults c.args.sink.now) (g.K.Sink.faults c.replay.new.sink)) c.replay.result)
+    (sym (one_replay c.args.words.now c.in-Some.params params c.in-Some.ensures asks)) c.replay.ensures.complete
