@@ -1,0 +1,10 @@
+pub mod Chains
+pub mod FirstLemmas
+pub mod LeastLemmas
+pub mod MentionLemmas
+pub mod Order
+pub mod Parts
+pub mod ReachingLemmas
+pub mod RefusedLemmas
+pub mod SentenceLemmas
+pub mod Whole

@@ -1,0 +1,5 @@
+use Rattle.std.proofs.Common.{◌≡◌, take, map}
+use Rattle.vcl_check.proofs.declarations.names_of.Given as goal
+
+abbrev pub invariant-loop-mention : goal.invariant-loop-mention
+invariant-loop-mention l = map (λ name. name.now) l.out.items ≡ map (λ s. s.name) (take l.mention-index l.mentions)

@@ -1,0 +1,8 @@
+use Rattle.std.proofs.Common.{◌≡◌, drop, None}
+use Rattle.vcl_check.specs.Folded.{numbered}
+use Rattle.vcl_check.specs.Items.{item_told}
+use Rattle.vcl_check.proofs.faults.among_items.Given as goal
+
+abbrev pub invariant-loop-item : goal.invariant-loop-item
+invariant-loop-item l =
+    numbered (item_told l.tables l.numbers l.rows) l.item-index l.best (drop l.item-index l.items) ≡ numbered (item_told l.tables l.numbers l.rows) 0 None l.items

@@ -1,0 +1,17 @@
+pub mod Acls
+pub mod Attributes
+pub mod Calls
+pub mod Declarations
+pub mod Faults
+pub mod Folded
+pub mod Items
+pub mod Kinds
+pub mod Known
+pub mod Least
+pub mod Mentions
+pub mod Reaching
+pub mod Roles
+pub mod Rules
+pub mod Sentences
+pub mod Texts
+pub mod Views

@@ -1,0 +1,158 @@
+// The first fault of a whole text.
+ghost use Rattle.std.specs.Prelude.{◌≡◌, None, IfOk};
+ghost use Rattle.vcl_check.specs.Folded.{numbered};
+ghost use Rattle.vcl_check.specs.Least.{lesser};
+ghost use Rattle.vcl_check.specs.Items.{item_told, of_item};
+ghost use Rattle.vcl_check.specs.Texts.{says, pattern_texts, refused_at, is_backend, has_backend, IsFirstFault};
+
+use crate::acls::acl_fault;
+use crate::attributes::{backend_fault, probe_fault};
+use crate::declarations::{declarations, tables_of, twice_among, unknown_among};
+use crate::known::Tables;
+use crate::mentions::mentions;
+use crate::patterns::try_patterns;
+use crate::reaching::{graph_of, numbers_of, roots_of, rows_of};
+use crate::statements::block;
+use crate::told::{fault_at, lesser};
+use std::alloc::{AllocError, Global};
+use units::Sequence;
+use vcl_calls::NameIndex;
+use vcl_tree::{Block, Fault, Item, Refusal};
+use vcl_values::Pattern;
+use vmod_host::Stored;
+
+#[tactic(auto, unfolding(crate::specs::Items::block_told))]
+fn block_told(
+    alloc: Global,
+    tables: &Tables<'_>,
+    numbers: &NameIndex<'_>,
+    rows: &[Sequence<bool>],
+    name: &[u8],
+    statements: &Block,
+) -> Result<Option<Fault>, AllocError>
+    ensures { IfOk result (λ found. found ≡ block_told tables.now numbers.now rows.now name.now statements.now) }
+{
+    let roots = roots_of(alloc, numbers, rows, name)?;
+    let told = block(tables, roots.as_slice(), statements);
+    Ok(told.least)
+}
+
+ghost use Rattle.vcl_check.specs.Items.{block_told};
+
+fn item_told(
+    alloc: Global,
+    tables: &Tables<'_>,
+    numbers: &NameIndex<'_>,
+    rows: &[Sequence<bool>],
+    item: &Item,
+) -> Result<Option<Fault>, AllocError>
+    ensures { IfOk result (λ found. found ≡ of_item tables.now numbers.now rows.now item.now) }
+{
+    match item {
+        Item::Import(_, _) => Ok(None),
+        Item::NoBackend(_, _) => Ok(None),
+        Item::Backend(_, name, attributes) => {
+            backend_fault(alloc, tables, name, attributes.as_slice())
+        }
+        Item::Probe(_, _, attributes) => probe_fault(alloc, attributes.as_slice()),
+        Item::Acl(_, _, entries) => acl_fault(alloc, entries.as_slice()),
+        Item::Sub(_, name, statements) => {
+            block_told(alloc, tables, numbers, rows, name.text.bytes(), statements)
+        }
+    }
+}
+
+fn among_items(
+    alloc: Global,
+    tables: &Tables<'_>,
+    numbers: &NameIndex<'_>,
+    rows: &[Sequence<bool>],
+    items: &[Item],
+) -> Result<Option<Fault>, AllocError>
+    ensures { IfOk result (λ found. found ≡ numbered (item_told tables.now numbers.now rows.now) 0 None items.now) }
+{
+    let mut best = None;
+    for item in items {
+        best = lesser(best, item_told(alloc, tables, numbers, rows, item)?);
+    }
+    Ok(best)
+}
+
+fn among_refused(places: &[u32]) -> Option<Fault>
+    ensures { result ≡ numbered refused_at 0 None places.now }
+{
+    let mut best = None;
+    for place in places {
+        best = lesser(best, fault_at(Refusal::Pattern, Some(*place)));
+    }
+    best
+}
+
+/// What is found of a text: its first fault other than that no backend is declared, and the patterns that its strings are.
+#[derive(Drop)]
+pub struct Found {
+    pub fault: Option<Fault>,
+    pub patterns: Vec<Pattern>,
+}
+
+/// Looks for faults of a text.
+pub fn first_fault<'t>(
+    alloc: Global,
+    items: &'t [Item],
+    stored: &'t [Stored],
+) -> Result<Found, AllocError>
+    ensures first { IfOk result (λ found. IsFirstFault items.now stored.now found.fault) }
+    ensures patterns { IfOk result (λ found. found.fault ≡ None → found.patterns.items ≡ pattern_texts (says items.now)) }
+{
+    let mentioned = mentions(alloc, items)?;
+    let said = mentioned.as_slice();
+    let listed = declarations(alloc, said)?;
+    let declared = listed.as_slice();
+    let tables = tables_of(alloc, said, stored)?;
+    let numbers = numbers_of(alloc, declared)?;
+    let graph = graph_of(alloc, &tables, &numbers, said)?;
+    let reached = rows_of(alloc, &graph)?;
+    let rows = reached.as_slice();
+    let tried = try_patterns(alloc, said)?;
+    let places = tried.places.as_slice();
+    let names = tables.names();
+    let on_circle = graph.first_on_circle(alloc)?;
+    let unknown = unknown_among(stored, said);
+    let twice = twice_among(names, declared);
+    let inside = among_items(alloc, &tables, &numbers, rows, items)?;
+    let circle = fault_at(Refusal::Recursion, on_circle);
+    let refused = among_refused(places);
+    let fault = first_of(unknown, twice, inside, circle, refused);
+    Ok(Found {
+        fault,
+        patterns: tried.patterns,
+    })
+}
+
+fn first_of(
+    unknown: Option<Fault>,
+    twice: Option<Fault>,
+    inside: Option<Fault>,
+    circle: Option<Fault>,
+    refused: Option<Fault>,
+) -> Option<Fault>
+    ensures { result ≡ lesser unknown (lesser twice (lesser inside (lesser circle refused))) }
+{
+    lesser(
+        unknown,
+        lesser(twice, lesser(inside, lesser(circle, refused))),
+    )
+}
+
+fn is_backend(item: &Item) -> bool
+    ensures { result ≡ is_backend item.now }
+{
+    matches!(item, Item::Backend(_, _, _) | Item::NoBackend(_, _))
+}
+
+/// Whether a backend is declared.
+pub fn has_backend(items: &[Item]) -> bool
+    ensures { result ≡ has_backend items.now }
+{
+    items.iter().any(|item| is_backend(item))
+}

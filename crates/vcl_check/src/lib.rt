@@ -1,0 +1,34 @@
+//! The checker of VCL: whether a syntax tree is sound, and its first fault where it isn't.
+//!
+//! Contract for the layer above: `check` gives a `Program` of a tree that is sound, and otherwise its first fault.
+//! `specs/Texts.antt` says when a text is sound (`IsSound`) and by what it is refused (`IsRefused`), over names and
+//! places; `specs/Faults.antt` what a part has wrong by itself; `specs/Sentences.antt` what a sound text keeps,
+//! sentence by sentence. The rules are tables in `specs/`, on what is seen of two parts that are tied.
+#![tactic(auto)]
+
+mod acls;
+mod attributes;
+mod declarations;
+mod expressions;
+mod faults;
+mod form;
+mod known;
+mod laws;
+mod mentions;
+mod patterns;
+mod program;
+mod reaching;
+mod rules;
+mod seen;
+mod statements;
+mod told;
+mod views;
+
+pub use form::{Form, Use};
+pub use known::{Tables, Thing};
+pub use laws::sound_keeps;
+pub use program::{Program, check};
+pub use seen::{Argument, Arguments, Literal, Meaning, Seen, Sort, Told};
+
+#[cfg(test)]
+mod tests;

@@ -1,0 +1,83 @@
+// What is seen of a part by what it belongs to.
+use directors::DirectorKind;
+use vcl_language::{Function, Variable, Word};
+use vcl_tree::Fault;
+use vcl_values::Kind;
+
+/// What an expression gives.
+#[derive(Clone, Copy)]
+pub enum Sort {
+    Value(Kind),
+    /// It is the name of an ACL.
+    Acl,
+    /// It calls a function without a value.
+    Nothing,
+    /// It has a fault, and fits everywhere.
+    Unknown,
+}
+
+/// What a name stands for where it is used.
+#[derive(Clone, Copy)]
+pub enum Meaning {
+    Unknown,
+    Variable(Variable),
+    /// `true` or `false`.
+    Truth,
+    Backend,
+    Acl,
+    Subroutine,
+    Function(Function),
+    /// A method of an object whose maker isn't known.
+    Method,
+    Maker(DirectorKind),
+    Word(Word),
+}
+
+/// What is known of an expression as it is written.
+#[derive(Clone, Copy)]
+pub enum Literal {
+    /// It is one string.
+    String,
+    /// It is one number that may be a weight, from 1 to 1,000.
+    Weight,
+    Other,
+}
+
+/// An argument: what it gives, the place of its first token, and how it is written.
+#[derive(Clone, Copy)]
+pub struct Argument {
+    pub sort: Sort,
+    pub place: u32,
+    pub literal: Literal,
+}
+
+/// The arguments of a call. No function takes more than three.
+#[derive(Clone, Copy)]
+pub enum Arguments {
+    Zero,
+    One(Argument),
+    Two(Argument, Argument),
+    Three(Argument, Argument, Argument),
+    More,
+}
+
+/// What is seen of a part.
+#[derive(Clone, Copy)]
+pub struct Seen {
+    pub sort: Sort,
+    /// The place of its first token.
+    pub first: u32,
+    /// In an assignment, the place of the first token of what is assigned.
+    pub second: u32,
+    /// What its name stands for.
+    pub meaning: Meaning,
+    pub literal: Literal,
+    pub arguments: Arguments,
+}
+
+/// What is seen of a part, and its first fault.
+#[derive(Clone, Copy)]
+pub struct Told {
+    pub seen: Seen,
+    pub least: Option<Fault>,
+}

@@ -1,0 +1,187 @@
+// What is seen of a part by what it belongs to.
+ghost use Rattle.std.specs.Prelude.{◌≡◌, ◌≤◌, ◌<◌};
+ghost use Rattle.vcl_check.specs.Views.{at_place, of_sort, written, sort_of, name_seen, given_sort, call_sort, whole_part, weight, integer_weight, decimal_weight, argument_of, seen_together};
+
+use crate::form::Form;
+use crate::rules::{difference_sort, grouped_sort, sum_sort, with_argument};
+use crate::seen::{Argument, Arguments, Literal, Meaning, Seen, Sort};
+use vcl_values::Kind;
+
+/// A part of which its place alone is seen.
+pub fn at_place(place: u32) -> Seen
+    ensures { result ≡ at_place place }
+{
+    Seen {
+        sort: Sort::Unknown,
+        first: place,
+        second: 0,
+        meaning: Meaning::Unknown,
+        literal: Literal::Other,
+        arguments: Arguments::Zero,
+    }
+}
+
+fn of_sort(sort: Sort, place: u32) -> Seen
+    ensures { result ≡ of_sort sort place }
+{
+    Seen {
+        sort,
+        first: place,
+        second: 0,
+        meaning: Meaning::Unknown,
+        literal: Literal::Other,
+        arguments: Arguments::Zero,
+    }
+}
+
+/// A literal of a type.
+pub fn written(kind: Kind, literal: Literal, place: u32) -> Seen
+    ensures { result ≡ written kind literal place }
+{
+    Seen {
+        sort: Sort::Value(kind),
+        first: place,
+        second: 0,
+        meaning: Meaning::Unknown,
+        literal,
+        arguments: Arguments::Zero,
+    }
+}
+
+fn sort_of(meaning: Meaning) -> Sort
+    ensures { result ≡ sort_of meaning }
+{
+    match meaning {
+        Meaning::Variable(variable) => Sort::Value(variable.kind),
+        Meaning::Truth => Sort::Value(Kind::Bool),
+        Meaning::Backend => Sort::Value(Kind::Backend),
+        Meaning::Acl => Sort::Acl,
+        _ => Sort::Unknown,
+    }
+}
+
+/// A name that stands for something.
+pub fn name_seen(place: u32, meaning: Meaning) -> Seen
+    ensures { result ≡ name_seen place meaning }
+{
+    Seen {
+        sort: sort_of(meaning),
+        first: place,
+        second: 0,
+        meaning,
+        literal: Literal::Other,
+        arguments: Arguments::Zero,
+    }
+}
+
+fn call_sort(meaning: Meaning) -> Sort
+    ensures { result ≡ call_sort meaning }
+{
+    match meaning {
+        Meaning::Function(function) => match function.gives {
+            None => Sort::Nothing,
+            Some(kind) => Sort::Value(kind),
+        },
+        _ => Sort::Unknown,
+    }
+}
+
+fn weight(fits: bool) -> Literal
+    ensures { result ≡ weight fits }
+{
+    if fits {
+        Literal::Weight
+    } else {
+        Literal::Other
+    }
+}
+
+/// Whether an integer may be a weight.
+pub fn integer_weight(number: i64) -> Literal
+    ensures { result ≡ integer_weight number }
+{
+    weight(0 < number && number < 1001)
+}
+
+/// Whether a decimal may be a weight.
+pub fn decimal_weight(digits: &[u8]) -> Literal
+    ensures { result ≡ decimal_weight digits.now }
+{
+    let number = whole_part(0, digits);
+    weight(1 <= number && number <= 1000)
+}
+
+// The number that the digits before a point spell, where one over 1,000 counts as 1,001.
+fn whole_part(front: u32, digits: &[u8]) -> u32
+    requires { front ≤ 1001 }
+    ensures { result ≡ whole_part front digits.now }
+{
+    let mut number = front;
+    for byte in digits {
+        if *byte == b'.' {
+            break;
+        }
+        number = (10 * number + u32::from(byte.saturating_sub(b'0'))).min(1001);
+    }
+    number
+}
+
+fn argument_of(seen: Seen) -> Argument
+    ensures { result ≡ argument_of seen }
+{
+    Argument {
+        sort: seen.sort,
+        place: seen.first,
+        literal: seen.literal,
+    }
+}
+
+fn with_one_more(a: Seen, b: Seen) -> Seen
+    ensures { result ≡ seen_together Form.Argument a b }
+{
+    Seen {
+        arguments: with_argument(a.arguments, argument_of(b)),
+        ..at_place(a.first)
+    }
+}
+
+fn assigned(a: Seen, b: Seen) -> Seen
+    ensures { result ≡ seen_together Form.Assignment a b }
+{
+    Seen {
+        sort: b.sort,
+        second: b.first,
+        meaning: a.meaning,
+        ..at_place(a.first)
+    }
+}
+
+fn applied(a: Seen, b: Seen) -> Seen
+    ensures { result ≡ seen_together Form.Applied a b }
+{
+    Seen {
+        meaning: a.meaning,
+        arguments: b.arguments,
+        ..at_place(a.first)
+    }
+}
+
+/// What is seen of two parts together.
+pub fn seen_together(form: Form, a: Seen, b: Seen) -> Seen
+    ensures { result ≡ seen_together form a b }
+{
+    match form {
+        Form::Junction => of_sort(Sort::Value(Kind::Bool), a.first),
+        Form::Compared(_) => of_sort(Sort::Value(Kind::Bool), a.first),
+        Form::Added => of_sort(sum_sort(a.sort, b.sort), a.first),
+        Form::Subtracted => of_sort(difference_sort(a.sort, b.sort), a.first),
+        Form::Inverted => of_sort(Sort::Value(Kind::Bool), a.first),
+        Form::Grouped => of_sort(grouped_sort(b.sort), a.first),
+        Form::Call => of_sort(call_sort(a.meaning), a.first),
+        Form::Argument => with_one_more(a, b),
+        Form::Assignment => assigned(a, b),
+        Form::Applied => applied(a, b),
+        Form::Object => b,
+        _ => at_place(a.first),
+    }
+}
