@@ -1,0 +1,33 @@
+//! What a server takes from its outside as a whole: connections that come in, files, and what each of its threads works with.
+//!
+//! Contract for the layer above: a count of faults never falls, and `Failed` comes only where the count rose in that call. An
+//! accepted connection, a new listener and a new kit begin with nothing. What a world is handed back it tells in order, where
+//! that can be told; what it has read and what it gave out changes none of it.
+#![tactic(auto)]
+
+mod calls;
+mod failing_listener;
+mod failing_world;
+mod file;
+mod gate;
+mod kept;
+mod kit;
+mod listener;
+mod planned_kit;
+mod port_listener;
+mod system_world;
+#[cfg(test)]
+mod tests;
+mod worlds;
+
+pub use failing_listener::{AcceptedLink, Coming, FailingListener};
+pub use failing_world::{FailingWorld, Listening};
+pub use file::{File, ShelfError};
+pub use gate::{Gate, OpenGate, Place};
+pub use kept::Kept;
+pub use kit::Kit;
+pub use listener::Listener;
+pub use planned_kit::{KitClock, PlannedKit};
+pub use port_listener::PortListener;
+pub use system_world::SystemWorld;
+pub use worlds::World;
