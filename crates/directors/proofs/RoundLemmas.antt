@@ -7,11 +7,11 @@ use Rattle.std.proofs.lemmas.List.{get_or_past}
 use Rattle.directors.specs.Choice.{IsFirstFrom, IsNextRound}
 
 -- a number below the length once over
-once_over : (n m place : ℕ) → m ≡ n + place → place < n → m % n ≡ place
+pub once_over : (n m place : ℕ) → m ≡ n + place → place < n → m % n ≡ place
 once_over n m place is below = let one : m ≡ 1 * n + place = omega (arith, is) in ap (λ k. k % n) one ∙ mod-mul-add 1 n place below
 
 -- a healthy member stands within the list
-within : (weights : List ℕ) (place : ℕ) → 0 < slice_index weights place → place < length weights
+pub within : (weights : List ℕ) (place : ℕ) → 0 < slice_index weights place → place < length weights
 within weights place healthy = ⊎_elim (λ inside. inside) (λ past. absurd (omega (arith, healthy, get_or_past weights place 0 past))) (cases_lt place (length weights))
 
 pub IsNextRound-behind : (weights : List ℕ) (start place : ℕ) → IsFirstFrom weights start place → IsNextRound weights start place

@@ -1,6 +1,8 @@
 -- Which member a director chooses (the Varnish Users' Guide, "Directors", and the manual of vmod_directors).
 -- A member is its weight, and one of weight 0 isn't healthy.
-use Rattle.std.specs.Prelude.{◌≡◌, ℕ, ◌+◌, ◌%◌, ◌<◌, ◌≤◌, List, length, sum, take, slice_index}
+use Rattle.std.specs.Prelude.{◌≡◌, ℕ, ◌+◌, ◌-◌, ◌%◌, ◌<◌, ◌≤◌, ◌++◌, nat_lt, List, [], ◌∷◌, Option, Some, None, length, sum, take, drop, slice_index, if◌then◌else◌}
+use Rattle.std.specs.List.{position}
+use Rattle.std.specs.Option.{option_map}
 use Rattle.directors.specs.declared.director.DirectorKind.{DirectorKind}
 use Rattle.directors.specs.declared.director.DirectorKind.TheVariants.{One, RoundRobin, Fallback, Random, Hash}
 
@@ -35,3 +37,26 @@ Chooses Fallback weights next word place = IsFirstFrom weights 0 place
 Chooses RoundRobin weights next word place = IsNextRound weights (next % length weights) place
 Chooses Random weights next word place = HasShare weights (word % sum weights) place
 Chooses Hash weights next word place = HasShare weights (word % sum weights) place
+
+-- the place of the first healthy member
+abbrev pub first_healthy : List ℕ → Option ℕ
+first_healthy weights = position (nat_lt 0) weights
+
+-- the place of the first healthy member from a place on, going round
+abbrev pub next_healthy : ℕ → List ℕ → Option ℕ
+next_healthy start weights =
+    option_map (λ further. (start + further) % length weights) (first_healthy (drop start weights ++ take start weights))
+
+-- the place of the member in whose range the number falls, the weights being laid end to end
+abbrev pub share_of : ℕ → List ℕ → Option ℕ
+share_of number [] = None
+share_of number (weight ∷ weights) =
+    if nat_lt number weight then Some 0 else option_map (λ place. place + 1) (share_of (number - weight) weights)
+
+-- the place that a director of a kind chooses, with its counter and its word, where a member is healthy
+abbrev pub choice : DirectorKind → List ℕ → ℕ → ℕ → Option ℕ
+choice One weights next word = first_healthy weights
+choice Fallback weights next word = first_healthy weights
+choice RoundRobin weights next word = next_healthy (next % length weights) weights
+choice Random weights next word = share_of (word % sum weights) weights
+choice Hash weights next word = share_of (word % sum weights) weights

@@ -1,6 +1,6 @@
 // The choice of a member by each kind of director.
 ghost use Rattle.std.specs.Prelude.{◌≡◌, ◌≤◌, ◌%◌, ℕ, ◌↔◌, IsNone, IfSome, All, length, sum, slice_index};
-ghost use Rattle.directors.specs.Choice.{Chooses, IsFirstFrom, IsNextRound, HasShare};
+ghost use Rattle.directors.specs.Choice.{Chooses, IsFirstFrom, IsNextRound, HasShare, choice};
 
 use units::Sequence;
 
@@ -22,8 +22,15 @@ pub type Members = Sequence<u32>;
 pub fn choose(kind: DirectorKind, members: &Members, next: u64, word: u64) -> Option<usize>
     ensures chosen { IfSome result (Chooses kind members.now next word) }
     ensures none { IsNone result ↔ All (λ weight. weight ≡ 0) members.now }
+    ensures value { result ≡ choice kind members.now next word }
 {
-    let weights = members.as_slice();
+    by_kind(kind, members.as_slice(), next, word)
+}
+
+fn by_kind(kind: DirectorKind, weights: &[u32], next: u64, word: u64) -> Option<usize>
+    ensures chosen { IfSome result (Chooses kind weights.now next word) }
+    ensures none { IsNone result ↔ All (λ weight. weight ≡ 0) weights.now }
+{
     match kind {
         DirectorKind::One | DirectorKind::Fallback => first_healthy(weights),
         DirectorKind::RoundRobin => next_round(weights, next),

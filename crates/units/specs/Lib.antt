@@ -4,3 +4,5 @@ pub mod Folding
 pub mod Numbers
 pub mod Durations
 pub mod Quoted
+pub mod Texts
+pub mod Outcomes

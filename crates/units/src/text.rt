@@ -1,5 +1,5 @@
 // Bytes that don't change once they are made.
-ghost use Rattle.std.specs.Prelude.{◌≡◌, nat_eq, refl, IfOk, Some};
+ghost use Rattle.std.specs.Prelude.{◌≡◌, ◌≤◌, length, nat_eq, refl, IfOk, Some};
 ghost use Rattle.std.specs.Ordering.{nat_cmp};
 ghost use Rattle.std.specs.Hash as fed;
 ghost use Rattle.std.specs.Cmp.Lexicographic.{pointwise, slice_cmp, nat_list_eq_equiv, nat_list_cmp_total, texts_ties, texts_po};
@@ -14,52 +14,99 @@ use std::hash::{Hash, Hasher};
 use std::marker::Model;
 use std::sync::ArcSlice;
 
-/// Bytes that don't change once they are made. Clauses see the list of the bytes. A copy shares them.
+/// The most bytes that stand in the text itself, so that a short text takes no memory elsewhere.
+const SHORT: usize = 14;
+
+// Where the bytes stand.
+#[derive(Drop)]
+enum Kept {
+    // the first of these
+    Short { len: u8, bytes: [u8; 14] },
+    Shared(ArcSlice<u8>),
+}
+
+/// Bytes that don't change once they are made. Clauses see the list of the bytes. A copy shares them where there are
+/// more than a few.
 #[derive(Drop)]
 pub struct Text {
-    bytes: ArcSlice<u8>,
+    kept: Kept,
 }
 
 impl Model for Text {
     ghost use Rattle.std.specs.Prelude.{List, ℕ};
-    ghost use Rattle.std.specs.Arc.{arc_slice_items};
 
     ghost Value = { List ℕ };
 
-    ghost view = { λ t. arc_slice_items t.bytes };
+    ghost use Rattle.units.specs.Texts.{bytes_of, IsWhole};
+
+    ghost view = { λ t. bytes_of t.kept };
+
+    ghost invariant = { λ t. IsWhole t.kept };
 }
 
 impl Text {
     pub fn of(alloc: Global, bytes: &[u8]) -> Result<Text, AllocError>
         ensures { IfOk result (λ t. t ≡ bytes.now) }
     {
+        if bytes.len() <= SHORT {
+            return Ok(Text::short(bytes));
+        }
         Ok(Text {
-            bytes: ArcSlice::from_slice(alloc, bytes)?,
+            kept: Kept::Shared(ArcSlice::from_slice(alloc, bytes)?),
         })
     }
 
-    /// The bytes of a finished vector, which stay where they are.
+    // A few bytes, in the text itself.
+    fn short(bytes: &[u8]) -> Text
+        requires { length bytes.now ≤ 14 }
+        ensures { result ≡ bytes.now }
+    {
+        let mut held = [0; SHORT];
+        held[..bytes.len()].copy_from_slice(bytes);
+        Text {
+            kept: Kept::Short {
+                len: bytes.len() as u8,
+                bytes: held,
+            },
+        }
+    }
+
+    /// The bytes of a finished vector, which stay where they are, where there are more than a few.
     pub fn from_vec(bytes: Vec<u8>) -> Result<Text, AllocError>
         ensures { IfOk result (λ t. t ≡ bytes.items) }
     {
+        if bytes.len() <= SHORT {
+            return Ok(Text::short(bytes.as_slice()));
+        }
         Ok(Text {
-            bytes: ArcSlice::from_vec(bytes)?,
+            kept: Kept::Shared(ArcSlice::from_vec(bytes)?),
         })
     }
 
-    /// The same bytes again, without a copy of them.
+    /// The same bytes again, without a copy of them where there are more than a few.
     pub fn copy(&self) -> Result<Text, AllocError>
         ensures { IfOk result (λ t. t ≡ self.now) }
     {
-        Ok(Text {
-            bytes: self.bytes.clone()?,
-        })
+        match &self.kept {
+            Kept::Short { len, bytes } => Ok(Text {
+                kept: Kept::Short {
+                    len: *len,
+                    bytes: *bytes,
+                },
+            }),
+            Kept::Shared(bytes) => Ok(Text {
+                kept: Kept::Shared(bytes.clone()?),
+            }),
+        }
     }
 
     pub fn bytes(&self) -> &[u8]
         ensures { result.now ≡ self.now }
     {
-        self.bytes.as_slice()
+        match &self.kept {
+            Kept::Short { len, bytes } => &bytes[..usize::from(*len)],
+            Kept::Shared(bytes) => bytes.as_slice(),
+        }
     }
 }
 

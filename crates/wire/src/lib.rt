@@ -20,8 +20,6 @@ mod stream;
 mod system_clock;
 mod tcp_dialer;
 mod tcp_link;
-#[cfg(test)]
-mod tests;
 mod traits;
 mod unfailing;
 mod unfailing_dialer;
