@@ -8,6 +8,6 @@ mod TrailerFacts
 mod StepFacts
 pub mod AnswerFacts
 mod EndFacts
-mod FramingFacts
+pub mod FramingFacts
 pub mod Fronts
 pub mod LawFacts

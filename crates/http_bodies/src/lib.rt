@@ -12,8 +12,6 @@ mod line;
 mod place;
 mod reader;
 mod steps;
-#[cfg(test)]
-mod tests;
 mod trailer;
 mod whole;
 

@@ -1,10 +1,12 @@
 // A body, taken in pieces.
 ghost use Rattle.std.specs.Prelude.{◌≡◌, ◌≢◌, ◌-◌, ◌≤◌, ◌<◌, ◌⊎◌, ◌↔◌, ◌++◌, ℕ, List, [], Some, None, take, length, IsTrue, IfOk, IfErr, IsErrOf, OnErr, Ok, Err};
+ghost use Rattle.units.specs.Outcomes.{Gives};
 ghost use Rattle.http_bodies.specs.Reading.{ReaderState, Makes, Follows, Starts, refusal, is_whole, state};
 ghost use Rattle.http_bodies.specs.Places.{IsSound, IsReader};
 ghost use Rattle.http_bodies.specs.Answers.{HasEndWithin, GoesOn, Takes, Refuses};
 ghost use Rattle.http_bodies.specs.declared.place.Place.{Place};
 ghost use Rattle.http_bodies.specs.declared.framing.BodyError.{BodyError};
+ghost use Rattle.http_bodies.specs.declared.framing.BodyError.TheVariants as fault;
 
 use crate::line::MOST_SPARE;
 use crate::place::{LinePart, Place};
@@ -114,15 +116,15 @@ impl BodyReader {
     }
 
     /// The body, if the bytes so far are a whole one.
-    pub fn finish(self, alloc: Global) -> Result<Text, BodyError>
+    pub fn finish(self) -> Result<Text, BodyError>
         ensures whole { IfOk result (λ body. Makes self [] body) }
-        ensures found { (body : List ℕ) → Makes self [] body → (result ≡ Ok body) ⊎ (result ≡ Err BodyError.NoMemory) }
+        ensures found { (body : List ℕ) → Makes self [] body → Gives fault.NoMemory result body }
         ensures refused { (e : BodyError) → refusal self ≡ Some e → result ≡ Err e }
         ensures early { IsErrOf result BodyError.Early → HasEndWithin self [] }
         ensures kinds { IfErr result (λ e. (e ≡ BodyError.Early) ⊎ (e ≡ BodyError.NoMemory) ⊎ (refusal self ≡ Some e)) }
     {
         match self.place {
-            Place::Whole | Place::Open => Ok(Text::of(alloc, self.kept.as_slice())?),
+            Place::Whole | Place::Open => Ok(Text::from_vec(self.kept)?),
             Place::Refused(error) => Err(error),
             _ => Err(BodyError::Early),
         }

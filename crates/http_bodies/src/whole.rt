@@ -22,6 +22,6 @@ pub fn read_body(
 {
     let mut reader = BodyReader::of(alloc, framing, limit);
     let count = reader.feed(text)?;
-    let body = reader.finish(alloc)?;
+    let body = reader.finish()?;
     Ok((body, count))
 }

@@ -1,7 +1,7 @@
 mod LineLemmas
-mod HeadLines
+pub mod HeadLines
 mod Fronts
-mod HeadFacts
+pub mod HeadFacts
 mod RequestFacts
 mod ResponseFacts
 mod PrintFacts

@@ -71,10 +71,6 @@ LacksRequest bytes = LacksHead requests bytes
 abbrev pub LacksResponse : List ℕ → Type 0
 LacksResponse bytes = LacksHead responses bytes
 
--- this value, unless memory is wanting
-abbrev pub GivesUnlessNoMemory : {T : Type 0} → Result T HeadError → T → Type 0
-GivesUnlessNoMemory result value = (result ≡ Ok value) ⊎ (result ≡ Err NoMemory)
-
 -- What an answer tells of the bytes, where `Never` says of bytes that whatever follows they begin no head, and `MayBecome`
 -- that more bytes can make them one. A head stands at their front; none does yet, and more bytes can make one; whatever
 -- follows the first 32,768 bytes, they begin no head; these bytes could become a head, but one that is too long; the

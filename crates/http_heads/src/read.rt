@@ -2,7 +2,9 @@
 ghost use Rattle.std.specs.Prelude.{◌≡◌, ℕ, Some, length, take, map, All, IfOk, MatchOption};
 ghost use Rattle.httparse.specs.Spans.{IsWithin, IsHeaderWithin, IsRequestWithin, IsResponseWithin, span_bytes};
 ghost use Rattle.http_heads.specs.Limits.{head_limit};
-ghost use Rattle.http_heads.specs.Heads.{HasRequest, HasResponse, AnswersRequest, AnswersResponse, GivesUnlessNoMemory};
+ghost use Rattle.http_heads.specs.Heads.{HasRequest, HasResponse, AnswersRequest, AnswersResponse};
+ghost use Rattle.units.specs.Outcomes.{Gives};
+ghost use Rattle.http_heads.specs.declared.message.HeadError.TheVariants as fault;
 ghost use Rattle.http_heads.specs.Lines.{HasTooManyLines};
 ghost use Rattle.http_heads.specs.Spans.{field_at, request_at, response_at};
 ghost use Rattle.http_heads.specs.declared.message.RequestHead.{RequestHead};
@@ -23,7 +25,7 @@ use units::Text;
 pub fn read_request(alloc: Global, bytes: &[u8]) -> Result<Option<(RequestHead, usize)>, HeadError>
     ensures answer { AnswersRequest bytes.now result }
     ensures found { (message : RequestHead) (count : ℕ) → HasRequest bytes.now message count
-        → GivesUnlessNoMemory result (Some (message, count)) }
+        → Gives fault.NoMemory result (Some (message, count)) }
 {
     let Some(front) = front_of(bytes) else {
         return Err(HeadError::TooMany);
@@ -53,7 +55,7 @@ pub fn read_response(
 ) -> Result<Option<(ResponseHead, usize)>, HeadError>
     ensures answer { AnswersResponse bytes.now result }
     ensures found { (message : ResponseHead) (count : ℕ) → HasResponse bytes.now message count
-        → GivesUnlessNoMemory result (Some (message, count)) }
+        → Gives fault.NoMemory result (Some (message, count)) }
 {
     let Some(front) = front_of(bytes) else {
         return Err(HeadError::TooMany);

@@ -1,0 +1,3 @@
+mod OpeningFacts
+mod ShapeFacts
+mod FramingFacts

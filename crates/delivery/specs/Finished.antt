@@ -1,0 +1,58 @@
+-- What is sent of what VCL left (RFC 9110, sections 8.6, 13.1 and 15.4.5; RFC 9112, sections 6 and 9.6).
+use Rattle.std.specs.Prelude.{ℕ, Bool, ◌&&◌, ◌||◌, ◌==◌, List, [], length, codes, if◌then◌else◌}
+use Rattle.std.specs.Str.{bytes_eq}
+use Rattle.http_heads.specs.declared.fields.Field.{Field}
+use Rattle.http_heads.specs.declared.message.RequestHead.{RequestHead}
+use Rattle.http_heads.specs.declared.message.ResponseHead.{ResponseHead}
+use Rattle.http_heads.specs.Fields.{replaced}
+use Rattle.freshness.specs.Validators.{is_unchanged}
+use Rattle.message_fields.specs.Framed.{unframed, of_length}
+use Rattle.message_fields.specs.Lists.{is_listed}
+use Rattle.delivery.specs.declared.finishing.Delivery.{Delivery}
+
+abbrev pub is_head : RequestHead → Bool
+is_head asked = bytes_eq asked.method (codes "HEAD")
+
+abbrev pub is_get_or_head : RequestHead → Bool
+is_get_or_head asked = bytes_eq asked.method (codes "GET") || is_head asked
+
+-- the client has the response already, by the conditions of its request
+abbrev pub is_confirmed : RequestHead → List Field → ResponseHead → Bool
+is_confirmed asked conditions head = is_get_or_head asked && (head.status == 200 && is_unchanged conditions head.fields)
+
+-- a response that the client has already tells just that
+abbrev pub settled : RequestHead → List Field → ResponseHead → ResponseHead
+settled asked conditions head =
+    if is_confirmed asked conditions head then record head { status = 304; reason = codes "Not Modified" } else head
+
+-- responses of these statuses have no body, and say no length
+abbrev pub is_bodiless : ℕ → Bool
+is_bodiless status = status == 204 || status == 304
+
+-- with the length of the body, where the status has one
+abbrev pub framed : ℕ → ℕ → List Field → List Field
+framed status len fields = if is_bodiless status then unframed fields else of_length len fields
+
+-- the request asks that the connection is closed behind the response
+abbrev pub asks_to_close : RequestHead → Bool
+asks_to_close asked = asked.version == 10 || is_listed (codes "connection") (codes "close") asked.fields
+
+-- and the response says so then
+abbrev pub ended : RequestHead → List Field → List Field
+ended asked fields = if asks_to_close asked then replaced (codes "Connection") (codes "close") fields else fields
+
+-- the response to HEAD has no body, and neither has one of these statuses
+abbrev pub sent_body : RequestHead → ℕ → List ℕ → List ℕ
+sent_body asked status body = if is_head asked || is_bodiless status then [] else body
+
+-- of a settled response with a body of such a length
+abbrev pub sent_head : RequestHead → ℕ → ResponseHead → ResponseHead
+sent_head asked len head =
+    record { version = 11; status = head.status; reason = head.reason; fields = ended asked (framed head.status len head.fields) }
+
+-- what is sent to the request that came, by its conditions as VCL left them
+abbrev pub finished : RequestHead → List Field → ResponseHead → List ℕ → Delivery
+finished asked conditions head body = record {
+  head = sent_head asked (length body) (settled asked conditions head);
+  body = sent_body asked (settled asked conditions head).status body;
+}

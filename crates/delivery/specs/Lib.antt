@@ -1,0 +1,4 @@
+pub mod Opened
+pub mod Finished
+pub mod Pages
+pub mod Sent

@@ -1,0 +1,79 @@
+// The responses that vcl_deliver and vcl_synth begin with.
+ghost use Rattle.std.specs.Prelude.{◌≡◌, All, IfOk, ℤ};
+ghost use Rattle.delivery.specs.Opened.{age_of, numbers_text, opened, opened_synthetic};
+
+use http_heads::{Fields, ResponseHead};
+use message_fields::{with_field, with_number};
+use std::alloc::{AllocError, Global};
+use units::{Copied, Text, push_number};
+
+/// The numbers that a response carries.
+#[derive(Clone, Copy, Debug)]
+pub struct Numbers {
+    /// The request's.
+    pub round: u64,
+    /// Of the object that was found, where one was.
+    pub object: Option<u64>,
+}
+
+/// The age in whole seconds, at a moment in milliseconds since 1970, of a response that was made at `origin`.
+pub fn age_at(origin: i64, moment: u64) -> u64
+    ensures { result ≡ age_of origin moment }
+{
+    let passed = i128::from(moment) - i128::from(origin);
+    if passed < 0 {
+        0
+    } else {
+        (passed as u128 / 1000) as u64
+    }
+}
+
+fn write_numbers(alloc: Global, numbers: Numbers) -> Result<Text, AllocError>
+    ensures { IfOk result (λ text. text ≡ numbers_text numbers) }
+{
+    let mut out = Vec::new(alloc);
+    push_number(&mut out, alloc, numbers.round)?;
+    if let Some(object) = numbers.object {
+        out.push(b' ')?;
+        push_number(&mut out, alloc, object)?;
+    }
+    Text::from_vec(out)
+}
+
+/// The response of an object, or of a fetch that isn't stored, as vcl_deliver gets it.
+pub fn open_delivery(
+    alloc: Global,
+    status: u16,
+    reason: &Text,
+    fields: &Fields,
+    numbers: Numbers,
+    age: u64,
+) -> Result<ResponseHead, AllocError>
+    ensures { IfOk result (λ head. head ≡ opened status reason.now fields.now numbers age) }
+{
+    let text = write_numbers(alloc, numbers)?;
+    let fields = with_field(alloc, fields.copied(alloc)?, b"X-Varnish", text.bytes())?;
+    Ok(ResponseHead {
+        version: 11,
+        status,
+        reason: reason.copy()?,
+        fields: with_number(alloc, fields, b"Age", age)?,
+    })
+}
+
+/// A response that no backend made, as vcl_synth gets it. Its body is empty.
+pub fn open_synthetic(
+    alloc: Global,
+    status: u16,
+    reason: &Text,
+    round: u64,
+) -> Result<ResponseHead, AllocError>
+    ensures { IfOk result (λ head. head ≡ opened_synthetic status reason.now round) }
+{
+    Ok(ResponseHead {
+        version: 11,
+        status,
+        reason: reason.copy()?,
+        fields: with_number(alloc, Fields::new(alloc), b"X-Varnish", round)?,
+    })
+}

@@ -1,0 +1,3 @@
+mod PartFacts
+pub mod PlainFacts
+pub mod FramedFacts
