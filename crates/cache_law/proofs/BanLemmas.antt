@@ -1,5 +1,5 @@
 -- Equal bans match alike, bans on objects alone match whatever the request, and a ban's own line shows it.
-use Rattle.std.proofs.Common.{◌≡◌, ◌==◌, ℕ, Bool, true, false, ◌&&◌, ◌||◌, nat_le, List, [], ◌∷◌, Option, Some, None, refl, sym, ◌∙◌, ap, arith}
+use Rattle.std.proofs.Common.{◌≡◌, ◌==◌, ℕ, Bool, true, false, ◌&&◌, ◌||◌, nat_le, List, [], ◌∷◌, Option, refl, sym, ◌∙◌, ap, arith}
 use Rattle.std.specs.Prelude.{if◌then◌else◌}
 use Rattle.std.specs.List.{list_any, list_all, AllByRecursion}
 use Rattle.std.specs.Str.{bytes_eq}
@@ -16,7 +16,7 @@ use Rattle.cache_law.specs.declared.ban.Condition.{Condition}
 use Rattle.cache_law.specs.declared.ban.Condition.TheVariants.{OnText, OnTime}
 use Rattle.cache_law.specs.declared.ban.Ban.{Ban}
 use Rattle.cache_law.specs.declared.ban.Issued.{Issued}
-use Rattle.cache_law.specs.Bans.{holds, ban_matches, matches, meets, is_on_object, object_only, is_on_time, lasting, same_field, same_operator, same_condition, is_equal, stands_for, is_shown}
+use Rattle.cache_law.specs.Bans.{holds, ban_matches, is_on_object, object_only, is_on_time, lasting, same_field, same_operator, same_condition, is_equal, stands_for, is_shown}
 
 and_parts : (x y : Bool) → (x && y) ≡ true → (x ≡ true) × (y ≡ true)
 and_parts true y e = (refl, e)

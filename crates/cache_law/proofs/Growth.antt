@@ -1,13 +1,13 @@
 -- An answer leaves the moment as it is, and draws one number at most.
 use Rattle.std.proofs.Common.{◌≡◌, ℕ, ◌+◌, ◌≤◌, refl, arith}
 use Rattle.cache_law.specs.declared.call.Call.{Call}
-use Rattle.cache_law.specs.declared.call.Call.TheVariants.{Begin, Draw, Lookup, Pick, Insert, Drop, End}
+use Rattle.cache_law.specs.declared.call.Call.TheVariants.{Begin, Draw, Lookup, Pick, Insert, Ban, BanList, Purge, Xkey, SetHealth, Load, Switch, Discard, VclList, Drop, End}
 use Rattle.cache_law.specs.declared.call.Reply.{Reply}
 use Rattle.cache_law.specs.declared.call.Reply.TheVariants.{Refused}
 use Rattle.cache_law.specs.State.{State, at_moment, has_round, has_fetch}
 use Rattle.cache_law.specs.Beginning.{Beginning}
-use Rattle.cache_law.specs.Law.{Step, answered, remembered, refused, behind, after}
-use Rattle.cache_law.proofs.Leaves.{either, looked_leaf, inserted_leaf}
+use Rattle.cache_law.specs.Law.{Step, answered, refused, behind, after}
+use Rattle.cache_law.proofs.Leaves.{either, looked_leaf, inserted_leaf, picked_leaf, health_leaf, loaded_leaf, switched_leaf, discarded_leaf}
 
 pub record Grows (old new : State) : Type 0 where
   pub moment : new.moment ≡ old.moment
@@ -39,7 +39,7 @@ answered_grows room state caller (Lookup query) =
       graces_alone = λ objects view. still state _ refl refl;
       waits = λ objects token. still state _ refl refl;
     })
-answered_grows room state caller (Pick vcl target word) = still state _ refl refl
+answered_grows room state caller (Pick vcl target word) = picked_leaf (StepGrows state) state vcl target word (still state _ refl refl) (λ place. still state _ refl refl)
 answered_grows room state caller (Insert token object stale) =
     inserted_leaf (StepGrows state) room state caller token object stale (record {
       opens_not = still state _ refl refl;
@@ -48,6 +48,15 @@ answered_grows room state caller (Insert token object stale) =
       full = still state _ refl refl;
       stores = still state _ refl refl;
     })
+answered_grows room state caller (Ban ban) = still state _ refl refl
+answered_grows room state caller BanList = still state _ refl refl
+answered_grows room state caller (Purge key) = still state _ refl refl
+answered_grows room state caller (Xkey keys soft) = still state _ refl refl
+answered_grows room state caller (SetHealth backend given) = health_leaf (StepGrows state) state backend given (still state _ refl refl) (still state _ refl refl)
+answered_grows room state caller (Load source) = loaded_leaf (StepGrows state) state source (still state _ refl refl) (still state _ refl refl)
+answered_grows room state caller (Switch name) = switched_leaf (StepGrows state) state name (still state _ refl refl) (λ vcl. still state _ refl refl)
+answered_grows room state caller (Discard name) = discarded_leaf (StepGrows state) state name (still state _ refl refl) (still state _ refl refl) (λ number. still state _ refl refl)
+answered_grows room state caller VclList = still state _ refl refl
 answered_grows room state caller (Drop token) = either (StepGrows state) (has_fetch state.fetches caller token) _ _ (still state _ refl refl) (still state _ refl refl)
 answered_grows room state caller End = either (StepGrows state) (has_round state.rounds caller) _ _ (still state _ refl refl) (still state _ refl refl)
 

@@ -1,15 +1,14 @@
 -- The law's own replies, which never say that memory was wanting, and what may be answered beside them.
-use Rattle.std.proofs.Common.{◌≡◌, ◌≢◌, ℕ, Bool, true, false, cond, List, Option, inl, inr, refl, ap, ◌∙◌}
+use Rattle.std.proofs.Common.{◌≡◌, ◌≢◌, ℕ, Bool, true, false, cond, inl, inr, refl, ap, ◌∙◌}
 use Rattle.std.proofs.lemmas.Bool.{true≢false}
-use Rattle.cache_law.specs.declared.object.Object.{Object}
 use Rattle.cache_law.specs.declared.call.Call.{Call}
-use Rattle.cache_law.specs.declared.call.Call.TheVariants.{Begin, Draw, Lookup, Pick, Insert, Drop, End}
+use Rattle.cache_law.specs.declared.call.Call.TheVariants.{Begin, Draw, Lookup, Pick, Insert, Ban, BanList, Purge, Xkey, SetHealth, Load, Switch, Discard, VclList, Drop, End}
 use Rattle.cache_law.specs.declared.call.Reply.{Reply}
-use Rattle.cache_law.specs.declared.call.Reply.TheVariants.{NotOpen, Refused}
+use Rattle.cache_law.specs.declared.call.Reply.TheVariants.{NotOpen, Refused, Bans}
 use Rattle.cache_law.specs.State.{State, at_moment, has_round, has_fetch}
 use Rattle.cache_law.specs.Beginning.{Beginning}
-use Rattle.cache_law.specs.Law.{Step, step_of, answered, leaving, after, behind, MayAnswer}
-use Rattle.cache_law.proofs.Leaves.{either, looked_leaf, inserted_leaf}
+use Rattle.cache_law.specs.Law.{Step, step_of, answered, leaving, after, behind, MayAnswer, IsBanList}
+use Rattle.cache_law.proofs.Leaves.{either, looked_leaf, inserted_leaf, picked_leaf, health_leaf, loaded_leaf, switched_leaf, discarded_leaf}
 
 -- the law never answers that memory was wanting
 abbrev pub is_refusal : Reply → Bool
@@ -32,9 +31,18 @@ answers_lawfully room state caller (Lookup query) =
       graces_alone = λ objects view. refl;
       waits = λ objects token. refl;
     })
-answers_lawfully room state caller (Pick vcl target word) = refl
+answers_lawfully room state caller (Pick vcl target word) = picked_leaf IsLawful state vcl target word refl (λ place. refl)
 answers_lawfully room state caller (Insert token object stale) =
     inserted_leaf IsLawful room state caller token object stale (record { opens_not = refl; gone = refl; late = refl; full = refl; stores = refl })
+answers_lawfully room state caller (Ban ban) = refl
+answers_lawfully room state caller BanList = refl
+answers_lawfully room state caller (Purge key) = refl
+answers_lawfully room state caller (Xkey keys soft) = refl
+answers_lawfully room state caller (SetHealth backend given) = health_leaf IsLawful state backend given refl refl
+answers_lawfully room state caller (Load source) = loaded_leaf IsLawful state source refl refl
+answers_lawfully room state caller (Switch name) = switched_leaf IsLawful state name refl (λ vcl. refl)
+answers_lawfully room state caller (Discard name) = discarded_leaf IsLawful state name refl refl (λ number. refl)
+answers_lawfully room state caller VclList = refl
 answers_lawfully room state caller (Drop token) = either IsLawful (has_fetch state.fetches caller token) _ _ refl refl
 answers_lawfully room state caller End = either IsLawful (has_round state.rounds caller) _ _ refl refl
 
@@ -53,13 +61,25 @@ pub not_open : (state : State) (opened : Bool) (step : Step) → (cond opened st
 not_open state true step other = refl
 not_open state false step other = absurd (other refl)
 
+-- the call asks for the list of bans, to which several replies may be given
+abbrev pub asks_bans : Call → Bool
+asks_bans BanList = true
+asks_bans call = false
+
 -- what the law answers may be answered
-pub MayAnswer-lawful : (state : State) (call : Call) (law answer : Reply) → answer ≡ law → MayAnswer state call law answer
-MayAnswer-lawful state (Insert token object stale) law answer e = inl e
-MayAnswer-lawful state call law answer e = e
+pub MayAnswer-lawful : (state : State) (call : Call) (law answer : Reply) → asks_bans call ≡ false → answer ≡ law → MayAnswer state call law answer
+MayAnswer-lawful state (Insert token object stale) law answer one e = inl e
+MayAnswer-lawful state BanList law answer one e = absurd (true≢false one)
+MayAnswer-lawful state call law answer one e = e
 
 -- an answer that isn't Refused is the law's
-pub lawful_if_not_refused : (state : State) (call : Call) (law answer : Reply) → MayAnswer state call law answer → answer ≢ Refused → answer ≡ law
-lawful_if_not_refused state (Insert token object stale) law answer (inl e) other = e
-lawful_if_not_refused state (Insert token object stale) law answer (inr free) other = absurd (other free.0)
-lawful_if_not_refused state call law answer may other = may
+pub lawful_if_not_refused : (state : State) (call : Call) (law answer : Reply) → asks_bans call ≡ false → MayAnswer state call law answer → answer ≢ Refused → answer ≡ law
+lawful_if_not_refused state (Insert token object stale) law answer one (inl e) other = e
+lawful_if_not_refused state (Insert token object stale) law answer one (inr free) other = absurd (other free.0)
+lawful_if_not_refused state BanList law answer one may other = absurd (true≢false one)
+lawful_if_not_refused state call law answer one may other = may
+
+-- behind a list of bans is the law's state
+pub after-listed : (beginning : Beginning) (state : State) (caller moment : ℕ) (answer : Reply) → IsBanList (at_moment moment state) answer → after beginning state caller moment BanList answer ≡ (step_of beginning state caller moment BanList).state
+after-listed beginning state caller moment (Bans lines) shows = refl
+after-listed beginning state caller moment answer shows = absurd shows

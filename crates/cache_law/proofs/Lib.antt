@@ -1,5 +1,7 @@
 pub mod BanLemmas
 pub mod WaitingBans
+pub mod ScanLeaves
+pub mod Listed
 pub mod Growth
 pub mod Histories
 pub mod Lawful
@@ -10,3 +12,12 @@ pub mod Reserve
 pub mod Serving
 pub mod Values
 pub mod Waits
+pub mod Held
+pub mod Given
+pub mod LookedUp
+pub mod Present
+pub mod Struck
+pub mod Tested
+pub mod VclNumbers
+pub mod RoundVcls
+pub mod VclsRise

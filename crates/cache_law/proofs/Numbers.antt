@@ -1,13 +1,12 @@
 -- Numbers rise, and a fetch that is closed stays closed.
-use Rattle.std.proofs.Common.{◌≡◌, ℕ, Bool, true, false, not, cond, List, [], ◌∷◌, ◌++◌, ◌+◌, ◌<◌, ◌≤◌, ◌||◌, ◌==◌, filter, refl, arith, sym, ap, ◌∙◌, subst, inl, inr}
+use Rattle.std.proofs.Common.{◌≡◌, ℕ, Bool, true, false, not, cond, List, [], ◌∷◌, ◌++◌, ◌+◌, ◌<◌, ◌≤◌, ◌||◌, ◌==◌, filter, refl, arith, sym, ap, subst}
 use Rattle.std.specs.List.{list_any}
 use Rattle.std.proofs.Math.Nat.{lt_of_not-le}
 use Rattle.std.proofs.lemmas.Bool.{ne_eqb, true≢false, false≢true}
 use Rattle.cache_law.specs.declared.setting.Params.{Params}
 use Rattle.cache_law.specs.declared.setting.Boot.{Boot}
-use Rattle.cache_law.specs.declared.object.Object.{Object}
 use Rattle.cache_law.specs.declared.call.Call.{Call}
-use Rattle.cache_law.specs.declared.call.Call.TheVariants.{Begin, Draw, Lookup, Pick, Insert, Drop, End}
+use Rattle.cache_law.specs.declared.call.Call.TheVariants.{Begin, Draw, Lookup, Pick, Insert, Ban, BanList, Purge, Xkey, SetHealth, Load, Switch, Discard, VclList, Drop, End}
 use Rattle.cache_law.specs.declared.call.Reply.{Reply}
 use Rattle.cache_law.specs.declared.call.Entry.{Entry}
 use Rattle.cache_law.specs.declared.state.OpenFetch.{OpenFetch}
@@ -16,7 +15,7 @@ use Rattle.cache_law.specs.Beginning.{Beginning, beginning_of}
 use Rattle.cache_law.specs.Law.{Step, answered, refused, after}
 use Rattle.cache_law.specs.History.{next_state, reached_from, reached}
 use Rattle.cache_law.proofs.Growth.{after_grows, behind_either}
-use Rattle.cache_law.proofs.Leaves.{either, looked_leaf, inserted_leaf}
+use Rattle.cache_law.proofs.Leaves.{either, looked_leaf, inserted_leaf, picked_leaf, health_leaf, loaded_leaf, switched_leaf, discarded_leaf}
 
 pub reached_from-append : (beginning : Beginning) (state : State) (entries more : List Entry) → reached_from beginning state (entries ++ more) ≡ reached_from beginning (reached_from beginning state entries) more
 reached_from-append beginning state [] more = refl
@@ -75,10 +74,19 @@ shut_behind room state caller (Lookup query) token below shut =
       graces_alone = λ objects view. shut;
       waits = λ objects other. shut;
     })
-shut_behind room state caller (Pick vcl target word) token below shut = shut
+shut_behind room state caller (Pick vcl target word) token below shut = picked_leaf (Shut token) state vcl target word shut (λ place. shut)
 shut_behind room state caller (Insert inserted_token object stale) token below shut =
     let less = none-filter (λ (fetch : OpenFetch). fetch.token == token) (λ (fetch : OpenFetch). not (fetch.token == inserted_token)) state.fetches shut in
     inserted_leaf (Shut token) room state caller inserted_token object stale (record { opens_not = shut; gone = shut; late = less; full = less; stores = less })
+shut_behind room state caller (Ban ban) token below shut = shut
+shut_behind room state caller BanList token below shut = shut
+shut_behind room state caller (Purge key) token below shut = shut
+shut_behind room state caller (Xkey keys soft) token below shut = shut
+shut_behind room state caller (SetHealth backend given) token below shut = health_leaf (Shut token) state backend given shut shut
+shut_behind room state caller (Load source) token below shut = loaded_leaf (Shut token) state source shut shut
+shut_behind room state caller (Switch name) token below shut = switched_leaf (Shut token) state name shut (λ vcl. shut)
+shut_behind room state caller (Discard name) token below shut = discarded_leaf (Shut token) state name shut shut (λ number. shut)
+shut_behind room state caller VclList token below shut = shut
 shut_behind room state caller (Drop dropped_token) token below shut =
     either (Shut token) (has_fetch state.fetches caller dropped_token) _ _ (none-filter (λ (fetch : OpenFetch). fetch.token == token) (λ (fetch : OpenFetch). not (fetch.token == dropped_token)) state.fetches shut) shut
 shut_behind room state caller End token below shut =
@@ -128,10 +136,19 @@ drawn_behind room state caller (Lookup query) token drawn =
       graces_alone = λ objects view. drawn;
       waits = λ objects other. drawn;
     })
-drawn_behind room state caller (Pick vcl target word) token drawn = drawn
+drawn_behind room state caller (Pick vcl target word) token drawn = picked_leaf (NotYet token) state vcl target word drawn (λ place. drawn)
 drawn_behind room state caller (Insert inserted_token object stale) token drawn =
     let less : state.next ≤ token → is_open (filter (λ (fetch : OpenFetch). not (fetch.token == inserted_token)) state.fetches) token ≡ false = λ above. none-filter (λ (fetch : OpenFetch). fetch.token == token) (λ (fetch : OpenFetch). not (fetch.token == inserted_token)) state.fetches (drawn above) in
     inserted_leaf (NotYet token) room state caller inserted_token object stale (record { opens_not = drawn; gone = drawn; late = less; full = less; stores = less })
+drawn_behind room state caller (Ban ban) token drawn = drawn
+drawn_behind room state caller BanList token drawn = drawn
+drawn_behind room state caller (Purge key) token drawn = drawn
+drawn_behind room state caller (Xkey keys soft) token drawn = drawn
+drawn_behind room state caller (SetHealth backend given) token drawn = health_leaf (NotYet token) state backend given drawn drawn
+drawn_behind room state caller (Load source) token drawn = loaded_leaf (NotYet token) state source drawn drawn
+drawn_behind room state caller (Switch name) token drawn = switched_leaf (NotYet token) state name drawn (λ vcl. drawn)
+drawn_behind room state caller (Discard name) token drawn = discarded_leaf (NotYet token) state name drawn drawn (λ number. drawn)
+drawn_behind room state caller VclList token drawn = drawn
 drawn_behind room state caller (Drop dropped_token) token drawn =
     either (NotYet token) (has_fetch state.fetches caller dropped_token) _ _ (λ above. none-filter (λ (fetch : OpenFetch). fetch.token == token) (λ (fetch : OpenFetch). not (fetch.token == dropped_token)) state.fetches (drawn above)) drawn
 drawn_behind room state caller End token drawn =

@@ -4,7 +4,7 @@ use Rattle.std.specs.List.{list_any}
 use Rattle.std.proofs.lemmas.Bool.{cases_Bool, cond-false, true≢false, false≢true, and_parts}
 use Rattle.cache_law.specs.declared.object.Object.{Object}
 use Rattle.cache_law.specs.declared.call.Call.{Call}
-use Rattle.cache_law.specs.declared.call.Call.TheVariants.{Insert, Drop, End}
+use Rattle.cache_law.specs.declared.call.Call.TheVariants.{Insert, BanList, Drop, End}
 use Rattle.cache_law.specs.declared.call.Reply.{Reply}
 use Rattle.cache_law.specs.declared.call.Reply.TheVariants.{NoRound, NotOpen, Dropped, Ended}
 use Rattle.cache_law.specs.declared.call.Entry.{Entry}
@@ -12,11 +12,11 @@ use Rattle.cache_law.specs.declared.state.OpenRound.{OpenRound}
 use Rattle.cache_law.specs.declared.state.OpenFetch.{OpenFetch}
 use Rattle.cache_law.specs.State.{State, at_moment, reserve, has_round, has_fetch, without_fetch, without_round_of}
 use Rattle.cache_law.specs.Beginning.{Beginning}
-use Rattle.cache_law.specs.Law.{Step, step_of, leaving, closing, inserted, after, MayAnswer}
-use Rattle.cache_law.specs.History.{bytes_of, bytes_of_all, next_state, reached_from, reached, LegalFrom, Legal}
+use Rattle.cache_law.specs.Law.{Step, step_of, leaving, closing, closed_of, inserted, after, MayAnswer}
+use Rattle.cache_law.specs.History.{bytes_of, bytes_of_all, is_numbered, next_state, reached_from, reached, LegalFrom, Legal}
 use Rattle.cache_law.specs.Core.{FitsBehind}
 use Rattle.cache_law.proofs.Histories.{bytes_of_all-cons}
-use Rattle.cache_law.proofs.Lawful.{after-lawful}
+use Rattle.cache_law.proofs.Lawful.{after-lawful, after-listed}
 use Rattle.cache_law.proofs.Leaves.{inserted_leaf}
 
 -- an element more or not
@@ -81,6 +81,7 @@ reserve-after beginning state caller moment (Insert token object stale) answer (
 reserve-after beginning state caller moment (Insert token object stale) answer (inr free) =
     subst (λ (r : Reply). reserve (after beginning state caller moment (Insert token object stale) r) ≤ reserve (step_of beginning state caller moment (Insert token object stale)).state) (sym free.0)
     (refused_reserves beginning.params.room (at_moment moment state) caller token object stale)
+reserve-after beginning state caller moment BanList answer may = omega (arith, ap reserve (after-listed beginning state caller moment answer may))
 reserve-after beginning state caller moment call answer may = by_law beginning state caller moment call answer may
 
 -- a legal history leaves room for the closing of what is open
@@ -97,22 +98,36 @@ within beginning entries legal =
     let h = within_from beginning beginning.base 0 entries legal.each (omega (arith, legal.opens)) in omega (arith, h)
 
 -- the end of an open round takes what is reserved for it
-pub ending_takes : (state : State) (caller : ℕ) (open_ : Bool) → open_ ≡ has_round state.rounds caller → open_ ≡ true → reserve (cond open_ (record { reply = Ended; state = record state { rounds = without_round_of caller state.rounds; fetches = filter (λ (fetch : OpenFetch). not (fetch.caller == caller)) state.fetches } }) (leaving state NoRound)).state + 64 ≤ reserve state
+pub ending_takes : (state : State) (caller : ℕ) (open_ : Bool) → open_ ≡ has_round state.rounds caller → open_ ≡ true → reserve (cond open_ (record { reply = Ended; state = closed_of state caller }) (leaving state NoRound)).state + 64 ≤ reserve state
 ending_takes state caller true same yes_ =
     omega (arith, length-without_round_of state.rounds caller (sym same), length-filter-le (λ (fetch : OpenFetch). not (fetch.caller == caller)) state.fetches)
 ending_takes state caller false same yes_ = absurd (false≢true yes_)
 
+ending_numbered : (state : State) (caller : ℕ) (open_ : Bool) → is_numbered (cond open_ (record { reply = Ended; state = closed_of state caller }) (leaving state NoRound)).reply ≡ true
+ending_numbered state caller true = refl
+ending_numbered state caller false = refl
+
 -- in a legal history the end of an open round fits
 pub ending_fits : (beginning : Beginning) (entries : List Entry) (caller moment : ℕ) → Legal beginning entries → has_round (reached beginning entries).rounds caller ≡ true → FitsBehind beginning entries caller moment End
 ending_fits beginning entries caller moment legal opened =
-    record { within = omega (arith, within beginning entries legal, ending_takes (at_moment moment (reached beginning entries)) caller _ refl opened) }
+    record {
+      number = ending_numbered (at_moment moment (reached beginning entries)) caller (has_round (reached beginning entries).rounds caller);
+      within = omega (arith, within beginning entries legal, ending_takes (at_moment moment (reached beginning entries)) caller _ refl opened);
+    }
 
 -- the drop of an open fetch takes what is reserved for it
 pub dropping_takes : (state : State) (caller token : ℕ) (open_ : Bool) → open_ ≡ has_fetch state.fetches caller token → open_ ≡ true → reserve (cond open_ (closing token state Dropped) (leaving state NotOpen)).state + 64 ≤ reserve state
 dropping_takes state caller token true same yes_ = omega (arith, length-without_fetch state.fetches caller token (sym same))
 dropping_takes state caller token false same yes_ = absurd (false≢true yes_)
 
+dropping_numbered : (state : State) (token : ℕ) (open_ : Bool) → is_numbered (cond open_ (closing token state Dropped) (leaving state NotOpen)).reply ≡ true
+dropping_numbered state token true = refl
+dropping_numbered state token false = refl
+
 -- in a legal history the drop of an open fetch of its caller fits
 pub dropping_fits : (beginning : Beginning) (entries : List Entry) (caller moment token : ℕ) → Legal beginning entries → has_fetch (reached beginning entries).fetches caller token ≡ true → FitsBehind beginning entries caller moment (Drop token)
 dropping_fits beginning entries caller moment token legal opened =
-    record { within = omega (arith, within beginning entries legal, dropping_takes (at_moment moment (reached beginning entries)) caller token _ refl opened) }
+    record {
+      number = dropping_numbered (at_moment moment (reached beginning entries)) token (has_fetch (reached beginning entries).fetches caller token);
+      within = omega (arith, within beginning entries legal, dropping_takes (at_moment moment (reached beginning entries)) caller token _ refl opened);
+    }

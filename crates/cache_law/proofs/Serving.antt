@@ -1,41 +1,48 @@
 -- The object of a hit is in time, matches the request and is fresh for it.
-use Rattle.std.proofs.Common.{◌≡◌, ℕ, Bool, true, false, cond, List, [], ◌∷◌, ◌++◌, ◌+◌, Option, Some, None, refl, sym, ap, ◌∙◌, subst, arith}
-use Rattle.std.proofs.lemmas.Bool.{cond-true}
+use Rattle.std.proofs.Common.{◌≡◌, ℕ, Bool, true, false, cond, List, [], ◌∷◌, ◌++◌, ◌+◌, Option, Some, None, refl, sym, ◌∙◌, subst}
+use Rattle.std.proofs.lemmas.Bool.{and_from}
 use Rattle.cache_law.specs.declared.object.Object.{Object}
 use Rattle.cache_law.specs.declared.object.Object.TheVariants.{Ordinary, HitForMiss, HitForPass}
 use Rattle.cache_law.specs.declared.object.ObjectView.{ObjectView}
 use Rattle.cache_law.specs.declared.call.Query.{Query}
 use Rattle.cache_law.specs.declared.call.Call.TheVariants.{Lookup}
-use Rattle.cache_law.specs.declared.call.Reply.{Reply}
 use Rattle.cache_law.specs.declared.call.Reply.TheVariants.{NoRound, Hit}
 use Rattle.cache_law.specs.declared.call.Entry.{Entry}
-use Rattle.cache_law.specs.Object.{in_time}
+use Rattle.cache_law.specs.Object.{in_time, key_of, same_texts}
 use Rattle.cache_law.specs.State.{State, Held, at_moment, those_in_time, has_round, least_token}
-use Rattle.cache_law.specs.Lookup.{Scan, scanned, raised, matches, is_fresh, ending, seeing, passing}
+use Rattle.cache_law.specs.BansAtOnce.{is_met, cleared}
+use Rattle.cache_law.specs.Lookup.{Scan, scanned, raised, is_chosen_by, is_fresh, ending, seeing, passing}
 use Rattle.cache_law.specs.Beginning.{Beginning}
-use Rattle.cache_law.specs.Law.{Step, leaving, missed, found_fresh, found_grace, waited_or_missed, busy, found_other, found, found_by, sought, looked_up, remembered, MayAnswer, step_of}
+use Rattle.cache_law.specs.Law.{leaving, missed, found_fresh, found_grace, waited_or_missed, busy, found_other, found, found_by, sought, looked_up, remembered, MayAnswer, step_of}
 use Rattle.cache_law.specs.History.{Follows, Legal, LegalFrom, next_state, reached_from, reached, bytes_of}
 use Rattle.cache_law.specs.Core.{Serves}
 
--- one object before others that are scanned so
-one_scanned : (moment : ℕ) (query : Query) (held : Held) (rest : List Held) (view : ObjectView) (lives suits fresh : Bool) → lives ≡ in_time moment held.view.object → suits ≡ matches query held.view.object → fresh ≡ is_fresh moment query.options held.view.object → (scanned moment query (cond lives (held ∷ rest) rest)).fresh ≡ Some view → ((scanned moment query rest).fresh ≡ Some view → Serves moment query view.object) → Serves moment query view.object
-one_scanned moment query held rest view false suits fresh a b c found_ later = later found_
-one_scanned moment query held rest view true false fresh a b c found_ later =
-    later (subst (λ (t : Bool). (cond t (cond (is_fresh moment query.options held.view.object) (ending held.view held rest) (seeing moment query.options held.view held (scanned moment query rest))) (passing held (scanned moment query rest))).fresh ≡ Some view) (sym b) found_)
-one_scanned moment query held rest view true true false a b c found_ later =
-    later (subst (λ (t : Bool). (cond t (ending held.view held rest) (seeing moment query.options held.view held (scanned moment query rest))).fresh ≡ Some view) (sym c)
-    (subst (λ (t : Bool). (cond t (cond (is_fresh moment query.options held.view.object) (ending held.view held rest) (seeing moment query.options held.view held (scanned moment query rest))) (passing held (scanned moment query rest))).fresh ≡ Some view) (sym b) found_))
-one_scanned moment query held rest view true true true a b c found_ later =
-    let here : Some held.view ≡ Some view = subst (λ (t : Bool). (cond t (ending held.view held rest) (seeing moment query.options held.view held (scanned moment query rest))).fresh ≡ Some view) (sym c)
-    (subst (λ (t : Bool). (cond t (cond (is_fresh moment query.options held.view.object) (ending held.view held rest) (seeing moment query.options held.view held (scanned moment query rest))) (passing held (scanned moment query rest))).fresh ≡ Some view) (sym b) found_) in
+-- an object of which the tests come out so, before others that are scanned
+one_tested : (moment : ℕ) (query : Query) (held : Held) (rest : List Held) (view : ObjectView) (ours met suits fresh : Bool)
+    → ours ≡ same_texts (key_of held.view.object) query.key → suits ≡ is_chosen_by query held.view.object → fresh ≡ is_fresh moment query.options held.view.object
+    → in_time moment held.view.object ≡ true
+    → (cond ours (cond met (scanned moment query rest) (cond suits (cond fresh (ending held.view (cleared held) rest) (seeing moment query.options held.view (cleared held) (scanned moment query rest))) (passing (cleared held) (scanned moment query rest)))) (passing held (scanned moment query rest))).fresh ≡ Some view
+    → ((scanned moment query rest).fresh ≡ Some view → Serves moment query view.object) → Serves moment query view.object
+one_tested moment query held rest view false met suits fresh a b c lives found_ later = later found_
+one_tested moment query held rest view true true suits fresh a b c lives found_ later = later found_
+one_tested moment query held rest view true false false fresh a b c lives found_ later = later found_
+one_tested moment query held rest view true false true false a b c lives found_ later = later found_
+one_tested moment query held rest view true false true true a b c lives found_ later =
     let same : held.view ≡ view = cc in
-    subst (λ (v : ObjectView). Serves moment query v.object) same (record { lives = sym a; suits = sym b; fresh = sym c })
+    subst (λ (v : ObjectView). Serves moment query v.object) same
+    (record { lives = lives; suits = and_from (same_texts (key_of held.view.object) query.key) (is_chosen_by query held.view.object) (sym a) (sym b); fresh = sym c })
+
+-- one object before others, in time or not
+one_scanned : (moment : ℕ) (query : Query) (held : Held) (rest : List Held) (view : ObjectView) (lives : Bool) → lives ≡ in_time moment held.view.object → (scanned moment query (cond lives (held ∷ rest) rest)).fresh ≡ Some view → ((scanned moment query rest).fresh ≡ Some view → Serves moment query view.object) → Serves moment query view.object
+one_scanned moment query held rest view false a found_ later = later found_
+one_scanned moment query held rest view true a found_ later =
+    one_tested moment query held rest view (same_texts (key_of held.view.object) query.key) (is_met query.request held) (is_chosen_by query held.view.object) (is_fresh moment query.options held.view.object) refl refl refl (sym a) found_ later
 
 -- the object that ends a scan of those in time serves
 pub scan_serves : (moment : ℕ) (query : Query) (objects : List Held) (view : ObjectView) → (scanned moment query (those_in_time moment objects)).fresh ≡ Some view → Serves moment query view.object
 scan_serves moment query [] view e = cc
 scan_serves moment query (held ∷ objects) view e =
-    one_scanned moment query held (those_in_time moment objects) view (in_time moment held.view.object) (matches query held.view.object) (is_fresh moment query.options held.view.object) refl refl refl e (scan_serves moment query objects view)
+    one_scanned moment query held (those_in_time moment objects) view (in_time moment held.view.object) refl e (scan_serves moment query objects view)
 
 -- a hit is of the fresh object
 fresh_gives : (state : State) (caller : ℕ) (key : List (List ℕ)) (view : ObjectView) (object : Object) (hit : ObjectView) → (found_fresh state caller key view object).reply ≡ Hit hit → hit ≡ raised view

@@ -1,13 +1,12 @@
 -- Bans that objects have still to be tested on are bans that were issued, and shown.
-use Rattle.std.proofs.Common.{◌≡◌, ◌⊎◌, ℕ, Bool, true, false, not, List, [], ◌∷◌, filter, map, refl, sym, ap, subst, inl, inr}
+use Rattle.std.proofs.Common.{◌≡◌, Bool, true, false, not, List, [], ◌∷◌, filter, map, refl, sym, ap, subst, inl, inr}
 use Rattle.std.specs.Prelude.{if◌then◌else◌}
 use Rattle.std.specs.List.{AllByRecursion}
-use Rattle.cache_law.specs.declared.ban.BanLine.{BanLine}
 use Rattle.cache_law.specs.declared.ban.Issued.{Issued}
 use Rattle.cache_law.specs.Bans.{matches, object_only, is_shown}
 use Rattle.cache_law.specs.ShownBans.{IsPartOf, AllShown, those_open, ShowsBans}
 use Rattle.cache_law.specs.State.{Held}
-use Rattle.cache_law.specs.BansAtOnce.{ban_over, awaiting, AwaitIssued, open_line, open_lines}
+use Rattle.cache_law.specs.BansAtOnce.{ban_over, awaiting, AwaitIssued, open_lines}
 use Rattle.cache_law.proofs.BanLemmas.{shown_by_all}
 
 unmatched_step : (issued : Issued) (held : Held) (objects : List Held) (b : Bool) → matches held.view.object issued ≡ b

@@ -1,6 +1,6 @@
 -- What a ban does when it is issued, and what a lookup does with the bans that an object has still to be tested on
 -- (Varnish Users Guide, "Purging and banning").
-use Rattle.std.specs.Prelude.{◌≡◌, ℕ, ◌+◌, Bool, false, not, List, [], ◌∷◌, filter, map, length, if◌then◌else◌}
+use Rattle.std.specs.Prelude.{ℕ, ◌+◌, Bool, false, not, List, [], ◌∷◌, filter, map, length, if◌then◌else◌}
 use Rattle.std.specs.List.{list_any, AllByRecursion}
 use Rattle.cache_law.specs.declared.ban.Ban.{Ban}
 use Rattle.cache_law.specs.declared.ban.BanLine.{BanLine}

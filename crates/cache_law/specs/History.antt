@@ -1,20 +1,36 @@
 -- Histories: what an entry takes, which entry may follow, and what a whole history owes.
-use Rattle.std.specs.Prelude.{◌≡◌, ℕ, None, List, [], ◌∷◌, ◌+◌, ◌≤◌, length, sum_by}
+use Rattle.std.specs.Prelude.{◌≡◌, ℕ, Bool, true, None, List, [], ◌∷◌, ◌+◌, ◌^◌, ◌≤◌, nat_lt, length, sum_by}
 use Rattle.cache_law.specs.declared.call.Call.{Call}
-use Rattle.cache_law.specs.declared.call.Call.TheVariants.{Begin, Draw, Lookup, Pick, Insert, Drop, End}
+use Rattle.cache_law.specs.declared.call.Call.TheVariants.{Begin, Draw, Lookup, Pick, Insert, Ban, BanList, Purge, Xkey, SetHealth, Load, Switch, Discard, VclList, Drop, End}
+use Rattle.cache_law.specs.declared.call.Reply.{Reply}
+use Rattle.cache_law.specs.declared.call.Reply.TheVariants.{Loaded}
 use Rattle.cache_law.specs.declared.call.Entry.{Entry}
+use Rattle.cache_law.specs.declared.target.Member.{Member}
 use Rattle.cache_law.specs.Object.{texts_len, fields_len, object_len}
 use Rattle.cache_law.specs.State.{State, at_moment, awaits, reserve}
 use Rattle.cache_law.specs.Beginning.{Beginning}
 use Rattle.cache_law.specs.Law.{step_of, after, MayAnswer}
+
+-- the names of members
+abbrev pub members_len : List Member → ℕ
+members_len members = sum_by (λ member. length member.name) members
 
 -- the texts of a call
 abbrev pub call_len : Call → ℕ
 call_len Begin = 0
 call_len Draw = 0
 call_len (Lookup query) = texts_len query.key + length query.request.url + fields_len query.request.fields
-call_len (Pick vcl target word) = length target
+call_len (Pick vcl target word) = length target.name + members_len target.members
 call_len (Insert token object stale) = object_len object
+call_len (Ban ban) = texts_len ban.words
+call_len BanList = 0
+call_len (Purge key) = texts_len key
+call_len (Xkey keys soft) = texts_len keys
+call_len (SetHealth backend given) = length backend
+call_len (Load source) = length source.name + length source.text + texts_len source.backends
+call_len (Switch name) = length name
+call_len (Discard name) = length name
+call_len VclList = 0
 call_len (Drop token) = 0
 call_len End = 0
 
@@ -25,9 +41,16 @@ bytes_of call = 64 + call_len call
 abbrev pub bytes_of_all : List Entry → ℕ
 bytes_of_all entries = sum_by (λ entry. bytes_of entry.call) entries
 
+-- a VCL's number has 32 bits
+abbrev pub is_numbered : Reply → Bool
+is_numbered (Loaded number) = nat_lt number (2 ^ 32)
+is_numbered reply = true
+
 -- The call fits a history of this many bytes that reached the state: with its entry, and with what is
--- reserved for the closing of what is open behind the law's reply, the limit isn't passed.
+-- reserved for the closing of what is open behind the law's reply, the limit isn't passed; and no VCL is loaded under a
+-- number that is too great.
 pub record Fits (beginning : Beginning) (state : State) (used caller moment : ℕ) (call : Call) : Type 0 where
+  pub number : is_numbered (step_of beginning state caller moment call).reply ≡ true
   pub within : used + bytes_of call + reserve (step_of beginning state caller moment call).state ≤ beginning.params.history
 
 -- a lookup comes only where its caller waits for nothing

@@ -1,6 +1,9 @@
 pub mod Object
 pub mod Bans
 pub mod State
+pub mod Vcls
+pub mod Targets
+pub mod Purges
 pub mod ShownBans
 pub mod BansAtOnce
 pub mod Beginning
@@ -8,3 +11,6 @@ pub mod Lookup
 pub mod Law
 pub mod History
 pub mod Core
+pub mod LookedUp
+pub mod BanHistories
+pub mod RoundVcls

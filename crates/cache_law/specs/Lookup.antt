@@ -12,6 +12,7 @@ use Rattle.cache_law.specs.declared.object.ObjectView.{ObjectView}
 use Rattle.cache_law.specs.declared.call.Options.{Options}
 use Rattle.cache_law.specs.declared.call.Query.{Query}
 use Rattle.cache_law.specs.Object.{key_of, vary_of, varies_always, timing_of, can_confirm, same_texts}
+use Rattle.cache_law.specs.BansAtOnce.{is_met, cleared}
 use Rattle.cache_law.specs.State.{Held}
 
 -- the values of a field, without the blanks at their ends
@@ -97,12 +98,21 @@ seeing moment options view x scan =
       objects = x ∷ scan.objects;
     }
 
--- the lookup's scan of the objects in time at the moment, newest first
+-- an object of the key that no ban matched, before objects of which a scan finds so
+abbrev pub tested : ℕ → Query → Held → List Held → Scan Held → Scan Held
+tested moment query held objects scan =
+    if is_chosen_by query held.view.object
+    then (if is_fresh moment query.options held.view.object
+    then ending held.view (cleared held) objects
+    else seeing moment query.options held.view (cleared held) scan)
+    else passing (cleared held) scan
+
+-- The lookup's scan of the objects in time at the moment, newest first. An object of the key is tested on the bans that
+-- wait for it: it goes where one matches it with the request, and else none of them waits any more.
 abbrev pub scanned : ℕ → Query → List Held → Scan Held
 scanned moment query [] = nothing_found
 scanned moment query (held ∷ objects) =
-    if matches query held.view.object
-    then (if is_fresh moment query.options held.view.object
-    then ending held.view held objects
-    else seeing moment query.options held.view held (scanned moment query objects))
+    if same_texts (key_of held.view.object) query.key
+    then (if is_met query.request held then scanned moment query objects
+    else tested moment query held objects (scanned moment query objects))
     else passing held (scanned moment query objects)

@@ -1,5 +1,5 @@
 -- Objects, how long they serve, and how much room they take (Varnish Users Guide, "Grace mode and keep", "Hit-for-miss").
-use Rattle.std.specs.Prelude.{ℕ, Bool, true, false, List, [], ◌+◌, ◌*◌, ◌+ℤ◌, pos, length, sum_by}
+use Rattle.std.specs.Prelude.{ℕ, Bool, true, false, List, ◌+◌, ◌*◌, ◌+ℤ◌, pos, length, sum_by}
 use Rattle.std.specs.Int.Signed.{lt_z}
 use Rattle.std.specs.Str.{bytes_eq}
 use Rattle.std.specs.Cmp.Lexicographic.{pointwise}
@@ -7,7 +7,6 @@ use Rattle.http_heads.specs.declared.fields.Field.{Field}
 use Rattle.freshness.specs.declared.times.Timing.{Timing}
 use Rattle.freshness.specs.Validators.{has_validator}
 use Rattle.cache_law.specs.declared.object.VaryItem.{VaryItem}
-use Rattle.cache_law.specs.declared.object.Marker.{Marker}
 use Rattle.cache_law.specs.declared.object.Object.{Object}
 use Rattle.cache_law.specs.declared.object.Object.TheVariants.{Ordinary, HitForMiss, HitForPass}
 

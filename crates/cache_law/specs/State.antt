@@ -1,5 +1,5 @@
 -- What a cache holds after some calls, as plain lists, and each change of these lists.
-use Rattle.std.specs.Prelude.{◌≡◌, ℕ, Bool, false, List, [], ◌∷◌, ◌+◌, ◌*◌, ◌==◌, ◌&&◌, Option, Some, None, not, filter, find, fold, map, length, fold, min, sum_by, option_and_then, if◌then◌else◌}
+use Rattle.std.specs.Prelude.{ℕ, Bool, false, List, [], ◌∷◌, ◌+◌, ◌*◌, ◌==◌, ◌&&◌, Option, Some, None, not, filter, find, fold, map, length, fold, min, sum_by, option_and_then, if◌then◌else◌}
 use Rattle.std.specs.List.{list_any}
 use Rattle.std.specs.Option.{option_map_or}
 use Rattle.cache_law.specs.declared.object.Object.{Object}
@@ -7,9 +7,10 @@ use Rattle.cache_law.specs.declared.object.ObjectView.{ObjectView}
 use Rattle.cache_law.specs.declared.ban.Issued.{Issued}
 use Rattle.cache_law.specs.declared.state.OpenFetch.{OpenFetch}
 use Rattle.cache_law.specs.declared.state.OpenRound.{OpenRound}
-use Rattle.cache_law.specs.declared.state.Vcl.{Vcl}
-use Rattle.cache_law.specs.declared.state.Counter.{Counter}
-use Rattle.cache_law.specs.declared.state.SetHealth.{SetHealth}
+use Rattle.cache_law.specs.declared.vcl.Vcl.{Vcl}
+use Rattle.cache_law.specs.declared.vcl.LoadedVcl.{LoadedVcl}
+use Rattle.cache_law.specs.declared.vcl.Counter.{Counter}
+use Rattle.cache_law.specs.declared.vcl.ForcedHealth.{ForcedHealth}
 use Rattle.cache_law.specs.Object.{in_time, size_of, same_texts}
 
 -- a stored object, and the bans that a lookup has still to test it on, newest first
@@ -22,12 +23,14 @@ pub record State : Type 0 where
   pub moment : ℕ
   -- the next number to be drawn
   pub next : ℕ
-  -- the VCL that rounds begin under, and the others
+  -- the next number of a VCL
+  pub next_vcl : ℕ
+  -- the VCL that rounds begin under, and all VCLs, in the order in which they were loaded
   pub active : Vcl
-  pub others : List Vcl
+  pub vcls : List LoadedVcl
   -- what directors have counted, and the health that backends were set to
   pub counters : List Counter
-  pub health : List SetHealth
+  pub health : List ForcedHealth
   -- all bans that were issued, newest first
   pub bans : List Issued
   -- the objects, newest first

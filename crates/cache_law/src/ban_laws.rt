@@ -1,10 +1,20 @@
 // Laws of bans, as contracts of functions that do nothing.
-ghost use Rattle.std.specs.Prelude.{◌≡◌, ◌∷◌, List, true, false, map};
+ghost use Rattle.std.specs.Prelude.{◌≡◌, ◌⊎◌, ◌++◌, ◌∷◌, ℕ, List, [], Some, true, false, map};
 ghost use Rattle.std.specs.List.{AllByRecursion};
 ghost use Rattle.cache_law.specs.declared.object.Object.{Object as Stored};
 ghost use Rattle.cache_law.specs.declared.call.RequestView.{RequestView as Asked};
 ghost use Rattle.cache_law.specs.declared.ban.Issued.{Issued as IssuedBan};
-ghost use Rattle.cache_law.specs.State.{Held};
+ghost use Rattle.cache_law.specs.declared.object.ObjectView.{ObjectView as View};
+ghost use Rattle.cache_law.specs.declared.ban.Ban.{Ban as BanWords};
+ghost use Rattle.cache_law.specs.declared.call.Query.{Query as Sought};
+ghost use Rattle.cache_law.specs.declared.call.Call.TheVariants.{Ban as BanCall, Lookup};
+ghost use Rattle.cache_law.specs.declared.call.Entry.{Entry as HistoryEntry};
+ghost use Rattle.cache_law.specs.declared.setting.Params.{Params as Limits};
+ghost use Rattle.cache_law.specs.declared.setting.Boot.{Boot as Opening};
+ghost use Rattle.cache_law.specs.Beginning.{beginning_of};
+ghost use Rattle.cache_law.specs.History.{Legal, reached};
+ghost use Rattle.cache_law.specs.BanHistories.{WasSpared, WasStored, WasTested, given, has_number, heirs, issued_in};
+ghost use Rattle.cache_law.specs.State.{Held, at_moment};
 ghost use Rattle.cache_law.specs.Bans.{matches, meets, object_only, is_equal, is_shown};
 ghost use Rattle.cache_law.specs.ShownBans.{ShowsBans};
 ghost use Rattle.cache_law.specs.BansAtOnce.{AwaitIssued, ban_over, open_lines};
@@ -44,4 +54,32 @@ pub fn only_issued_bans_wait()
 /// All bans that were issued are a list of bans that shows what objects have still to be tested on.
 pub fn all_bans_are_shown()
     ensures { (bans : List IssuedBan) (objects : List Held) → AwaitIssued bans objects → ShowsBans bans objects (open_lines bans) }
+{}
+
+/// In a run's history all bans that were issued are a list of bans that may be answered, at any moment.
+pub fn all_bans_may_be_listed()
+    ensures { (params : Limits) (boot : Opening) (entries : List HistoryEntry) (moment : ℕ)
+        → ShowsBans (reached (beginning_of params boot) entries).bans (at_moment moment (reached (beginning_of params boot) entries)).objects
+        (open_lines (reached (beginning_of params boot) entries).bans) }
+{}
+
+/// In a run's legal history an object that is given, as a hit or in grace, was there at each ban on objects alone that was
+/// issued behind its insertion, and the ban didn't match it then.
+pub fn given_objects_were_spared()
+    ensures { (params : Limits) (boot : Opening) (before between behind : List HistoryEntry) (ban entry : HistoryEntry) (words : BanWords) (view : View)
+        → Legal (beginning_of params boot) (before ++ ban ∷ (between ++ entry ∷ behind)) → ban.call ≡ BanCall words → object_only words ≡ true
+        → WasStored view.number before → given entry.reply ≡ Some view
+        → WasSpared (reached (beginning_of params boot) before) ban words view.number }
+{}
+
+/// In a run's legal history take a ban that isn't on objects alone, and behind it a lookup that is given an object. Where that
+/// object, or one whose place it took, was stored before the ban, the ban doesn't match it with the lookup's own request, or
+/// an earlier lookup tested it, or one whose place it took, on the ban, which didn't match then.
+pub fn given_objects_were_tested()
+    ensures { (params : Limits) (boot : Opening) (before between behind : List HistoryEntry) (ban entry : HistoryEntry) (words : BanWords) (query : Sought) (view : View) (number : ℕ)
+        → Legal (beginning_of params boot) (before ++ ban ∷ (between ++ entry ∷ behind)) → ban.call ≡ BanCall words → object_only words ≡ false
+        → WasStored number before → has_number (heirs (number ∷ []) between) view.number ≡ true
+        → entry.call ≡ Lookup query → given entry.reply ≡ Some view
+        → (meets view.object query.request (issued_in (reached (beginning_of params boot) before) ban words) ≡ false)
+        ⊎ WasTested (beginning_of params boot) (reached (beginning_of params boot) (before ++ ban ∷ [])) (number ∷ []) (issued_in (reached (beginning_of params boot) before) ban words) between }
 {}

@@ -1,9 +1,9 @@
 // What an object takes of the room, and an entry of the history.
 ghost use Rattle.std.specs.Prelude.{◌≡◌, ◌+◌, ◌*◌, ◌-◌, ◌^◌, length, min};
 ghost use Rattle.cache_law.specs.Object.{fields_len, object_len, size_of, texts_len, vary_len};
-ghost use Rattle.cache_law.specs.History.{bytes_of};
+ghost use Rattle.cache_law.specs.History.{bytes_of, members_len};
 
-use crate::{Call, Content, Marker, Object, Query, VaryItem};
+use crate::{Call, Content, Marker, Member, Object, Query, Target, VaryItem, VclSource};
 use http_heads::Field;
 use units::Text;
 
@@ -105,14 +105,49 @@ fn lookup_bytes(query: &Query) -> u128
     fields_bytes(url, query.request.fields.as_slice())
 }
 
+/// The names of members.
+fn members_bytes(start: u128, members: &[Member]) -> u128
+    ensures { result ≡ min (start + members_len members.now) (2 ^ 128 - 1) }
+{
+    let mut total = start;
+    for member in members {
+        total = plus(total, member.name.bytes().len());
+    }
+    total
+}
+
+fn pick_bytes(target: &Target) -> u128
+    ensures { result ≡ min (64 + (length target.now.name + members_len target.now.members)) (2 ^ 128 - 1) }
+{
+    members_bytes(
+        plus(64, target.name.bytes().len()),
+        target.members.as_slice(),
+    )
+}
+
+fn load_bytes(source: &VclSource) -> u128
+    ensures { result ≡ min (64 + (length source.now.name + length source.now.text + texts_len source.now.backends)) (2 ^ 128 - 1) }
+{
+    let name = plus(64, source.name.bytes().len());
+    let text = plus(name, source.text.bytes().len());
+    texts_bytes(text, source.backends.as_slice())
+}
+
 /// What the entry of a call takes of the history, or the greatest number of 128 bits where that is less.
 pub fn entry_bytes(call: &Call) -> u128
     ensures { result ≡ min (bytes_of call.now) (2 ^ 128 - 1) }
 {
     match call {
-        Call::Begin | Call::Draw | Call::Drop { .. } | Call::End => 64,
+        Call::Begin | Call::Draw | Call::BanList | Call::VclList | Call::Drop { .. } | Call::End =>
+            64,
         Call::Lookup(query) => lookup_bytes(query),
-        Call::Pick { target, .. } => plus(64, target.bytes().len()),
+        Call::Pick { target, .. } => pick_bytes(target),
         Call::Insert { object, .. } => insert_bytes(object),
+        Call::Ban(ban) => texts_bytes(64, ban.words.as_slice()),
+        Call::Purge { key } => texts_bytes(64, key.as_slice()),
+        Call::Xkey { keys, .. } => texts_bytes(64, keys.as_slice()),
+        Call::SetHealth { backend, .. } => plus(64, backend.bytes().len()),
+        Call::Load(source) => load_bytes(source),
+        Call::Switch { name } | Call::Discard { name } => plus(64, name.bytes().len()),
     }
 }

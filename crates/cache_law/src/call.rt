@@ -1,5 +1,5 @@
 // The calls of a cache, its replies, and an entry of its history.
-use crate::{Object, ObjectView, Shared};
+use crate::{Ban, BanLine, Health, Object, ObjectView, Shared, Target, VclLine, VclSource};
 use http_heads::Fields;
 use std::alloc::{AllocError, Global};
 use units::{Copied, Sequence, Text};
@@ -53,10 +53,11 @@ pub enum Call {
     Draw,
     /// Asks for an object of the key.
     Lookup(Shared<Query>),
-    /// Asks which backend a target stands for. So far a target is the name of one backend.
+    /// Asks which member of the target a request goes to, under the VCL of this number. The word is what a director of kind
+    /// random or hash chooses by.
     Pick {
         vcl: u32,
-        target: Text,
+        target: Shared<Target>,
         word: u64,
     },
     /// Hands over the object that the fetch of this number made. It takes the place of the object numbered `stale`,
@@ -66,6 +67,36 @@ pub enum Call {
         object: Shared<Object>,
         stale: Option<u64>,
     },
+    /// Bans objects: at once those that a ban on objects alone matches, else each object at its next lookups.
+    Ban(Shared<Ban>),
+    /// Asks for the bans that may still match.
+    BanList,
+    /// Removes the objects and markers of the key.
+    Purge {
+        key: Sequence<Text>,
+    },
+    /// Removes the objects that have at least one of these xkeys or, where it is soft, ends their lifetime.
+    Xkey {
+        keys: Sequence<Text>,
+        soft: bool,
+    },
+    /// Sets the health of a backend of the active VCL.
+    SetHealth {
+        backend: Text,
+        health: Health,
+    },
+    /// Loads a VCL.
+    Load(Shared<VclSource>),
+    /// Makes the VCL of this name the active one.
+    Switch {
+        name: Text,
+    },
+    /// Gives up the VCL of this name. It lives on until the last round under it ends.
+    Discard {
+        name: Text,
+    },
+    /// Asks for the VCLs.
+    VclList,
     /// Gives up the fetch of this number.
     Drop {
         token: u64,
@@ -107,7 +138,7 @@ pub enum Reply {
         token: u64,
         stale: Option<ObjectView>,
     },
-    /// The backend, if one is healthy.
+    /// The member that was chosen. None where none is healthy.
     Picked(Option<Text>),
     /// The object stands under the number of its fetch.
     Stored(u64),
@@ -121,6 +152,28 @@ pub enum Reply {
     NoRoom,
     /// Memory was wanting: the one answer that the law leaves free. The fetch is closed.
     Refused,
+    /// The ban is issued.
+    Banned,
+    /// Bans that were issued, newest first.
+    Bans(Sequence<BanLine>),
+    /// How many objects were removed, or had their lifetime ended.
+    Purged(u64),
+    /// Whether the active VCL has a backend of the name. Where it hasn't, nothing is set.
+    HealthSet(bool),
+    /// The VCL is loaded under this number.
+    Loaded(u32),
+    /// A VCL that isn't discarded has the name.
+    NameTaken,
+    /// The VCL is active.
+    Switched,
+    /// No VCL that isn't discarded has the name.
+    NoVcl,
+    /// The VCL is discarded.
+    Discarded,
+    /// The VCL is the active one, which can't be discarded.
+    IsActive,
+    /// The VCLs, in the order in which they were loaded.
+    Vcls(Sequence<VclLine>),
     /// The fetch is closed.
     Dropped,
     /// The round is closed.
@@ -174,6 +227,17 @@ impl Copied for Reply {
             Reply::NotInTime => Ok(Reply::NotInTime),
             Reply::NoRoom => Ok(Reply::NoRoom),
             Reply::Refused => Ok(Reply::Refused),
+            Reply::Banned => Ok(Reply::Banned),
+            Reply::Bans(lines) => Ok(Reply::Bans(lines.copied(alloc)?)),
+            Reply::Purged(count) => Ok(Reply::Purged(*count)),
+            Reply::HealthSet(is_set) => Ok(Reply::HealthSet(*is_set)),
+            Reply::Loaded(number) => Ok(Reply::Loaded(*number)),
+            Reply::NameTaken => Ok(Reply::NameTaken),
+            Reply::Switched => Ok(Reply::Switched),
+            Reply::NoVcl => Ok(Reply::NoVcl),
+            Reply::Discarded => Ok(Reply::Discarded),
+            Reply::IsActive => Ok(Reply::IsActive),
+            Reply::Vcls(lines) => Ok(Reply::Vcls(lines.copied(alloc)?)),
             Reply::Dropped => Ok(Reply::Dropped),
             Reply::Ended => Ok(Reply::Ended),
         }

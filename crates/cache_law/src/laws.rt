@@ -8,9 +8,11 @@ ghost use Rattle.cache_law.specs.declared.setting.Boot.{Boot as Opening};
 ghost use Rattle.cache_law.specs.declared.call.Call.TheVariants.{Drop as DropCall, End, Lookup};
 ghost use Rattle.cache_law.specs.declared.call.Reply.TheVariants.{Hit};
 ghost use Rattle.cache_law.specs.Beginning.{Beginning, beginning_of};
-ghost use Rattle.cache_law.specs.State.{has_fetch, has_round, is_closed, is_open};
+ghost use Rattle.cache_law.specs.State.{Held, has_fetch, has_round, is_closed, is_open};
 ghost use Rattle.cache_law.specs.History.{Legal, reached};
 ghost use Rattle.cache_law.specs.Core.{FitsBehind, Serves};
+ghost use Rattle.cache_law.specs.LookedUp.{IsLookedUp, says_found};
+ghost use Rattle.cache_law.specs.BanHistories.{IsAmong};
 
 /// Behind a legal history the end of an open round fits, at any moment: it uses what is reserved.
 pub fn closing_fits()
@@ -46,10 +48,24 @@ pub fn closed_once()
         is_closed (reached beginning (entries ++ more)).fetches token ≡ true }
 {}
 
+/// In a run's history no two objects have one number.
+pub fn objects_have_own_numbers()
+    ensures { (params : Limits) (boot : Opening) (entries : List HistoryEntry) (one other : Held) →
+        IsAmong one (reached (beginning_of params boot) entries).objects → IsAmong other (reached (beginning_of params boot) entries).objects →
+        one.view.number ≡ other.view.number → one ≡ other }
+{}
+
 /// In a legal history the object of a hit is one of the key that may answer the request, and is in time and fresh for
 /// the lookup at the hit's moment.
 pub fn hits_are_fresh()
     ensures { (beginning : Beginning) (before behind : List HistoryEntry) (entry : HistoryEntry) (query : Sought) (view : View) →
         Legal beginning (before ++ entry ∷ behind) → entry.call ≡ Lookup query → entry.reply ≡ Hit view →
         Serves entry.moment query view.object }
+{}
+
+/// In a legal history each answer of a lookup, a hit of any kind, a wait or a miss, stands at a lookup, and only where a
+/// lookup gives it in the state that the entries before it reach.
+pub fn answers_are_looked_up()
+    ensures { (beginning : Beginning) (before behind : List HistoryEntry) (entry : HistoryEntry) →
+        Legal beginning (before ++ entry ∷ behind) → says_found entry.reply ≡ true → IsLookedUp (reached beginning before) entry }
 {}

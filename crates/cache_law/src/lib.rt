@@ -15,23 +15,34 @@ mod call;
 mod laws;
 mod matching;
 mod object;
+pub mod rounds;
 mod setting;
 mod shared;
 mod state;
+mod target;
+#[cfg(test)]
+mod tests;
+mod vcl;
+mod vcl_laws;
 
 pub use ban::{Ban, BanLine, Condition, Issued, TextField, TextOperator, TimeField};
 pub use ban_laws::{
-    all_bans_are_shown, bans_act_at_once, bans_show_themselves, equal_bans_match_alike,
+    all_bans_are_shown, all_bans_may_be_listed, bans_act_at_once, bans_show_themselves,
+    equal_bans_match_alike, given_objects_were_spared, given_objects_were_tested,
     no_request_matters, only_issued_bans_wait,
 };
 pub use bytes::{entry_bytes, object_size};
 pub use cache::{CacheCore, StepError, Told};
 pub use call::{Call, Entry, Options, Query, Reply, RequestView};
 pub use laws::{
-    closed_once, closing_fits, dropping_fits, hits_are_fresh, numbers_rise, open_numbers_are_drawn,
+    answers_are_looked_up, closed_once, closing_fits, dropping_fits, hits_are_fresh, numbers_rise,
+    objects_have_own_numbers, open_numbers_are_drawn,
 };
-pub use matching::{can_confirm, is_fresh_for, is_in_grace_for, matches};
+pub use matching::{can_confirm, is_chosen_by, is_fresh_for, is_in_grace_for, matches};
 pub use object::{Content, Marker, Object, ObjectView, Response, VaryItem, is_in_time};
 pub use setting::{Boot, Params};
 pub use shared::Shared;
-pub use state::{Counter, OpenFetch, OpenRound, SetHealth, Vcl};
+pub use state::{OpenFetch, OpenRound};
+pub use target::{Member, Target};
+pub use vcl::{Counter, ForcedHealth, Health, LoadedVcl, Vcl, VclLine, VclSource, VclState};
+pub use vcl_laws::{rounds_keep_their_vcl, vcl_numbers_rise, vcls_have_own_numbers};

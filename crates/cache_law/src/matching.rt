@@ -68,7 +68,8 @@ fn varies_always(object: &Object) -> bool
     }
 }
 
-fn is_chosen_by(query: &Query, object: &Object) -> bool
+/// Whether the object was chosen by what the request has, too, or the lookup ignores that (RFC 9111, section 4.1).
+pub fn is_chosen_by(query: &Query, object: &Object) -> bool
     ensures { result ≡ chosen query.now object.now }
 {
     query.options.ignore_vary

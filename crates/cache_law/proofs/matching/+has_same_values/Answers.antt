@@ -1,5 +1,5 @@
-use Rattle.std.proofs.Common.{rules, sym, ◌∙◌}
-use Rattle.cache_law.proofs.Values.{value_later, value_over, value_first}
+use Rattle.std.proofs.Common.{sym, ◌∙◌}
+use Rattle.cache_law.proofs.Values.{value_later, value_over}
 use Rattle.cache_law.proofs.matching.+has_same_values.Goals as goal
 
 pub returns-then-not-is_named : goal.returns-then-not-is_named
