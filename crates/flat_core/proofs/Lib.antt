@@ -1,5 +1,10 @@
 pub mod Passes
+pub mod Objects
 pub mod Scans
+pub mod Bannings
+pub mod Tested
+pub mod Purges
+pub mod Choosing
 pub mod Findings
 pub mod Reserves
 pub mod Replies

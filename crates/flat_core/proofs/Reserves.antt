@@ -4,11 +4,12 @@ use Rattle.std.proofs.lemmas.List.{length-map}
 use Rattle.cache_law.specs.declared.object.Object.{Object}
 use Rattle.cache_law.specs.declared.call.Reply.TheVariants.{Began, NoRound, Drawn, NotOpen, StaleGone, NotInTime, NoRoom, Dropped}
 use Rattle.cache_law.specs.Object.{in_time, size_of}
-use Rattle.cache_law.specs.State.{State, has_round, has_fetch, remembering, without_fetch, without_stale, is_gone, reserve, sizes_of}
-use Rattle.cache_law.specs.Law.{begun, drawn, leaving, closing, stored, inserted, dropped}
-use Rattle.flat_core.specs.declared.finding.Finding.{Finding}
-use Rattle.flat_core.specs.declared.finding.Finding.TheVariants.{Hit, HitMiss, HitPass, Grace, GraceAlone, Wait, Miss}
-use Rattle.flat_core.specs.Found.{opens_more, told_so}
+use Rattle.cache_law.specs.State.{State, has_round, has_fetch, remembering, with_wait, without_fetch, without_stale, is_gone, reserve, sizes_of}
+use Rattle.cache_law.specs.Law.{begun, drawn, leaving, closing, stored, inserted, dropped, wait_in}
+use Rattle.cache_law.specs.declared.state.OpenFetch.{OpenFetch}
+use Rattle.cache_law.specs.declared.state.OpenRound.{OpenRound}
+use Rattle.flat_core.specs.declared.finding.Found.{Found}
+use Rattle.flat_core.specs.Found.{opens_fetch, opens_more, opened_for, reply_of, told_so}
 
 by_round : (state : State) (caller : ℕ) (opened : Bool) → 64 * (length state.rounds + length state.fetches + cond opened 0 1) ≡ reserve (cond opened (leaving state NoRound) (record { reply = Began state.next state.active.number state.active.text; state = record state { next = state.next + 1; rounds = record { caller = caller; vcl = state.active.number; waits = None } ∷ state.rounds } })).state
 by_round state caller true = omega arith
@@ -32,15 +33,14 @@ pub drop_reserve : (state : State) (caller token : ℕ) → 64 * (length state.r
 drop_reserve state caller token = by_drop state token (has_fetch state.fetches caller token)
 
 -- a fetch more is open where one was opened
-pub lookup_reserve : (state : State) (caller : ℕ) (key : List (List ℕ)) (finding : Option Finding) → 64 * (length state.rounds + length state.fetches + cond (opens_more finding) 1 0) ≡ reserve (told_so state caller key finding).state
-lookup_reserve state caller key None = omega arith
-lookup_reserve state caller key (Some (Hit view)) = omega (arith, length-map state.rounds (remembering caller None))
-lookup_reserve state caller key (Some HitMiss) = omega (arith, length-map state.rounds (remembering caller None))
-lookup_reserve state caller key (Some HitPass) = omega (arith, length-map state.rounds (remembering caller None))
-lookup_reserve state caller key (Some (Grace view)) = omega (arith, length-map state.rounds (remembering caller None))
-lookup_reserve state caller key (Some (GraceAlone view)) = omega (arith, length-map state.rounds (remembering caller None))
-lookup_reserve state caller key (Some (Wait token)) = omega (arith, length-map state.rounds (remembering caller (Some token)))
-lookup_reserve state caller key (Some (Miss stale)) = omega (arith, length-map state.rounds (remembering caller None))
+one_opened : (rounds : List OpenRound) (fetches : List OpenFetch) (opens : Bool) (token caller : ℕ) (key : List (List ℕ)) (waits : Option ℕ) → 64 * (length rounds + length fetches + cond opens 1 0) ≡ 64 * (length (with_wait caller waits rounds) + length (opened_for opens token caller key fetches))
+one_opened rounds fetches true token caller key waits = omega (arith, length-map rounds (remembering caller waits))
+one_opened rounds fetches false token caller key waits = omega (arith, length-map rounds (remembering caller waits))
+
+pub lookup_reserve : (old : State) (now caller : ℕ) (key : List (List ℕ)) (found : Option Found) → 64 * (length old.rounds + length old.fetches + cond (opens_more found) 1 0) ≡ reserve (told_so old now caller key found).state
+lookup_reserve old now caller key None = omega arith
+lookup_reserve old now caller key (Some found) =
+    one_opened old.rounds old.fetches (opens_fetch found.finding) old.next caller key (wait_in (reply_of old.next found.finding))
 
 by_tests : (state : State) (token : ℕ) (object : Object) (stale : Option ℕ) (opened gone lives full : Bool) → 64 * (length state.rounds + cond gone (length state.fetches) (cond opened (length (without_fetch token state.fetches)) (length state.fetches))) ≡ reserve (cond opened (cond gone (leaving state StaleGone) (cond lives (cond full (closing token state NoRoom) (stored state token object stale)) (closing token state NotInTime))) (leaving state NotOpen)).state
 by_tests state token object stale false false lives full = refl

@@ -1,199 +1,169 @@
--- What a lookup's scan finds and leaves, by what is found among the objects in memory.
-use Rattle.std.proofs.Common.{◌≡◌, ℕ, Bool, true, false, not, cond, List, [], ◌∷◌, ◌++◌, ◌+◌, ◌&&◌, ◌||◌, ◌==◌, length, find, filter, map, Option, Some, None, refl, arith, sym, ap, ◌∙◌}
-use Rattle.std.specs.List.{list_all, list_any}
-use Rattle.std.specs.Prelude.{sum_by}
-use Rattle.std.proofs.lemmas.Bool.{and_parts}
-use Rattle.std.proofs.lemmas.List.Sums.{sum_by-cons}
-use Rattle.std.specs.Option.{option_map_or, option_or}
-use Rattle.std.proofs.lemmas.List.Folds.{find-append}
-use Rattle.cache_law.specs.declared.object.ObjectView.{ObjectView}
-use Rattle.cache_law.specs.declared.call.Options.{Options}
-use Rattle.cache_law.specs.declared.call.Query.{Query}
-use Rattle.cache_law.specs.Object.{in_time, can_confirm, size_of}
+-- What a lookup's scan sees in memory is what it finds by the law, and what it leaves.
+use Rattle.std.proofs.Common.{◌≡◌, ℕ, Bool, true, false, not, cond, List, [], ◌∷◌, ◌++◌, ◌+◌, ◌-◌, ◌<◌, ◌&&◌, ◌||◌, ◌==◌, length, take, drop, get_or, filter, Option, Some, None, refl, arith, sym, ap, ◌∙◌, append_assoc}
+use Rattle.std.proofs.lemmas.Bool.{eqb-true}
+use Rattle.std.specs.List.{list_any}
+use Rattle.std.specs.Option.{option_or}
 use Rattle.cache_law.specs.declared.ban.Issued.{Issued}
-use Rattle.cache_law.specs.State.{Held, those_in_time, is_gone, without_stale, inherited, sizes_of}
-use Rattle.cache_law.specs.Lookup.{Scan, scanned, passing, ending, seeing, first_of, matches, is_fresh, is_in_grace, raised, counting, counted}
-use Rattle.flat_core.specs.Kept.{held_of, held_all, is_fresh_match, is_grace_match, is_stale_match, counted_in, stays, size_staying, sizes_staying}
+use Rattle.cache_law.specs.declared.object.Object.{Object}
+use Rattle.cache_law.specs.declared.object.ObjectView.{ObjectView}
+use Rattle.cache_law.specs.declared.call.Query.{Query}
+use Rattle.cache_law.specs.declared.call.RequestView.{RequestView}
+use Rattle.cache_law.specs.Object.{in_time, key_of, same_texts, can_confirm}
+use Rattle.cache_law.specs.Bans.{meets}
+use Rattle.cache_law.specs.BansAtOnce.{cleared, is_met}
+use Rattle.cache_law.specs.State.{Held, those_in_time}
+use Rattle.cache_law.specs.Lookup.{Scan, scanned, is_chosen_by, is_fresh, is_in_grace, ending, passing, seeing as going_on}
+use Rattle.flat_core.specs.declared.kept.Kept.{Kept}
+use Rattle.flat_core.specs.declared.kept.Fate.{Fate}
+use Rattle.flat_core.specs.declared.kept.Fate.TheVariants.{Stays, Tested, Goes}
+use Rattle.flat_core.specs.declared.sight.Sight.{Sight}
+use Rattle.flat_core.specs.declared.sight.Sight.TheVariants.{Other, Banned, Unfit, Aged, Fresh}
+use Rattle.flat_core.specs.declared.scan.Seen.{Seen}
+use Rattle.flat_core.specs.Kept.{is_waiting, waiting, held_of, held_all, held_left, settled_held}
+use Rattle.flat_core.specs.Scans.{is_struck, is_end, tested_fate, fate_of, nothing_seen, seeing, seen_all, sight_of, joined}
+use Rattle.flat_core.proofs.Objects.{none_waits}
+use Rattle.flat_core.proofs.Passes.{drop_one, drop_all}
 
-kept_or_not : (b : Bool) (view : ObjectView) (views : List ObjectView) → held_all (cond b (view ∷ views) views) ≡ cond b (held_of view ∷ held_all views) (held_all views)
-kept_or_not true view views = refl
-kept_or_not false view views = refl
+any_one : (b later : Bool) (rest : List Issued) (test : Issued → Bool) (issued : Issued) → list_any test rest ≡ later → list_any test (cond b (issued ∷ rest) rest) ≡ ((b && test issued) || later)
+any_one true later rest test issued e = rw e refl
+any_one false later rest test issued e = e
 
--- those in time in memory are those in time by the law
-pub held_all-filter : (now : ℕ) (views : List ObjectView) → held_all (filter (λ (view : ObjectView). in_time now view.object) views) ≡ those_in_time now (held_all views)
-held_all-filter now [] = refl
-held_all-filter now (view ∷ views) =
-    kept_or_not (in_time now view.object) view (filter (λ (v : ObjectView). in_time now v.object) views)
-    ∙ ap (λ (rest : List Held). cond (in_time now view.object) (held_of view ∷ rest) rest) (held_all-filter now views)
+-- a test of those that wait
+pub any-waiting : (object : Object) (request : RequestView) (bans : List Issued) → list_any (meets object request) (filter is_waiting bans) ≡ list_any (is_struck object request) bans
+any-waiting object request [] = refl
+any-waiting object request (issued ∷ bans) = any_one (is_waiting issued) _ _ (meets object request) issued (any-waiting object request bans)
 
--- the scan of the objects that are in time
-abbrev pub scan_at : ℕ → Query → List ObjectView → Scan Held
-scan_at now query views = scanned now query (those_in_time now (held_all views))
+-- an object that was tested on all bans is left as it is once it was tested on all
+all_tested : (bans : List Issued) (done : Bool) (kept : Kept) (rest : List Held) → (kept.tested == length bans) ≡ done → held_left (cond done Stays Tested) (held_of bans kept) ++ rest ≡ cleared (held_of bans kept) ∷ rest
+all_tested bans true kept rest e =
+    let same : kept.tested ≡ length bans = eqb-true _ _ e in
+    rw (same, none_waits bans) refl
+all_tested bans false kept rest e = refl
 
--- a scan of one object before others, by three tests of it
-abbrev seen : ℕ → Options → Held → List Held → Scan Held → Bool → Bool → Bool → Scan Held
-seen now options held rest scan lives suits fresh =
-    cond lives (cond suits (cond fresh (ending held.view held rest) (seeing now options held.view held scan)) (passing held scan)) scan
+-- the law's scan, by what was seen
+abbrev pub as_scan : ℕ → List Held → Seen → Scan Held
+as_scan now objects seen =
+    record { fresh = seen.fresh; grace = seen.grace; stale = seen.stale; objects = those_in_time now (settled_held seen.fates objects) }
 
-one_seen : (now : ℕ) (query : Query) (view : ObjectView) (rest : List Held) (lives : Bool) → scanned now query (cond lives (held_of view ∷ rest) rest) ≡ seen now query.options (held_of view) rest (scanned now query rest) lives (matches query view.object) (is_fresh now query.options view.object)
-one_seen now query view rest true = refl
-one_seen now query view rest false = refl
+-- the law's scan of one object before others, by five tests of it
+abbrev law_one : ℕ → Query → Held → List Held → Scan Held → Bool → Bool → Bool → Bool → Bool → Scan Held
+law_one now query held rest scan lives ours met chosen fresh =
+    cond lives
+    (cond ours
+    (cond met scan
+    (cond chosen (cond fresh (ending held.view (cleared held) rest) (going_on now query.options held.view (cleared held) scan)) (passing (cleared held) scan)))
+    (passing held scan))
+    scan
 
-scan-cons : (now : ℕ) (query : Query) (view : ObjectView) (views : List ObjectView) → scan_at now query (view ∷ views) ≡ seen now query.options (held_of view) (those_in_time now (held_all views)) (scan_at now query views) (in_time now view.object) (matches query view.object) (is_fresh now query.options view.object)
-scan-cons now query view views = one_seen now query view (those_in_time now (held_all views)) (in_time now view.object)
+law_scan : (now : ℕ) (query : Query) (held : Held) (rest : List Held) (lives : Bool) → scanned now query (cond lives (held ∷ rest) rest) ≡ law_one now query held rest (scanned now query rest) lives (same_texts (key_of held.view.object) query.key) (is_met query.request held) (is_chosen_by query held.view.object) (is_fresh now query.options held.view.object)
+law_scan now query held rest true = refl
+law_scan now query held rest false = refl
 
-seen_objects : (now : ℕ) (options : Options) (held : Held) (rest : List Held) (scan : Scan Held) (lives suits fresh : Bool) → scan.objects ≡ rest → (seen now options held rest scan lives suits fresh).objects ≡ cond lives (held ∷ rest) rest
-seen_objects now options held rest scan false suits fresh e = e
-seen_objects now options held rest scan true false fresh e = ap (λ (hs : List Held). held ∷ hs) e
-seen_objects now options held rest scan true true false e = ap (λ (hs : List Held). held ∷ hs) e
-seen_objects now options held rest scan true true true e = refl
+-- what is seen in an object, by these tests
+abbrev sight_by : Bool → Bool → Bool → Bool → Bool → Sight
+sight_by lives ours met chosen fresh = cond (lives && ours) (cond met Banned (cond chosen (cond fresh Fresh Aged) Unfit)) Other
 
--- the scan leaves those in time as they are
-pub scan_objects : (now : ℕ) (query : Query) (views : List ObjectView) → (scan_at now query views).objects ≡ those_in_time now (held_all views)
-scan_objects now query [] = refl
-scan_objects now query (view ∷ views) =
-    ap (λ (scan : Scan Held). scan.objects) (scan-cons now query view views)
-    ∙ seen_objects now query.options (held_of view) (those_in_time now (held_all views)) (scan_at now query views) (in_time now view.object) (matches query view.object) (is_fresh now query.options view.object) (scan_objects now query views)
+one_seen : (now : ℕ) (query : Query) (bans : List Issued) (kept : Kept) (hs : List Held) (scan : Scan Held) (later : Seen) (lives ours met chosen fresh : Bool)
+    → in_time now kept.view.object ≡ lives → scan ≡ as_scan now hs later
+    → law_one now query (held_of bans kept) (those_in_time now hs) scan lives ours met chosen fresh ≡ as_scan now (held_of bans kept ∷ hs) (seeing now query (length bans) (sight_by lives ours met chosen fresh) kept later)
+one_seen now query bans kept hs scan later false ours met chosen fresh e ih = rw (e, ih) refl
+one_seen now query bans kept hs scan later true false met chosen fresh e ih = rw (e, ih) refl
+one_seen now query bans kept hs scan later true true true chosen fresh e ih = ih
+one_seen now query bans kept hs scan later true true false false fresh e ih =
+    rw (all_tested bans (kept.tested == length bans) kept (settled_held later.fates hs) refl, e, ih) refl
+one_seen now query bans kept hs scan later true true false true false e ih =
+    rw (all_tested bans (kept.tested == length bans) kept (settled_held later.fates hs) refl, e, ih) refl
+one_seen now query bans kept hs scan later true true false true true e ih =
+    rw (all_tested bans (kept.tested == length bans) kept hs refl, e) refl
 
-seen_fresh : (now : ℕ) (options : Options) (view : ObjectView) (rest : List Held) (scan : Scan Held) (lives suits fresh : Bool) → (seen now options (held_of view) rest scan lives suits fresh).fresh ≡ cond ((lives && suits) && fresh) (Some view) scan.fresh
-seen_fresh now options view rest scan false suits fresh = refl
-seen_fresh now options view rest scan true false fresh = refl
-seen_fresh now options view rest scan true true false = refl
-seen_fresh now options view rest scan true true true = refl
+-- the scan of the objects that are in time finds what was seen in memory, and leaves what the fates leave
+pub scans : (now : ℕ) (query : Query) (bans : List Issued) (objects : List Kept) → scanned now query (those_in_time now (held_all bans objects)) ≡ as_scan now (held_all bans objects) (seen_all now query bans objects)
+scans now query bans [] = refl
+scans now query bans (kept ∷ objects) =
+    let object : Object = kept.view.object in
+    let met = any-waiting object query.request (take (length bans - kept.tested) bans) in
+    law_scan now query (held_of bans kept) (those_in_time now (held_all bans objects)) (in_time now object)
+    ∙ one_seen now query bans kept (held_all bans objects) _ (seen_all now query bans objects) (in_time now object) (same_texts (key_of object) query.key) (is_met query.request (held_of bans kept)) (is_chosen_by query object) (is_fresh now query.options object) refl (scans now query bans objects)
+    ∙ ap (λ (b : Bool). as_scan now (held_of bans kept ∷ held_all bans objects) (seeing now query (length bans) (sight_by (in_time now object) (same_texts (key_of object) query.key) b (is_chosen_by query object) (is_fresh now query.options object)) kept (seen_all now query bans objects))) met
 
--- the fresh object is the first such
-pub scan_fresh : (now : ℕ) (query : Query) (views : List ObjectView) → (scan_at now query views).fresh ≡ find (is_fresh_match now query) views
-scan_fresh now query [] = refl
-scan_fresh now query (view ∷ views) =
-    ap (λ (scan : Scan Held). scan.fresh) (scan-cons now query view views)
-    ∙ seen_fresh now query.options view (those_in_time now (held_all views)) (scan_at now query views) (in_time now view.object) (matches query view.object) (is_fresh now query.options view.object)
-    ∙ ap (λ (later : Option ObjectView). cond (is_fresh_match now query view) (Some view) later) (scan_fresh now query views)
+or_none : (o : Option ObjectView) → option_or o None ≡ o
+or_none None = refl
+or_none (Some view) = refl
 
-none_head : (b : Bool) (view : ObjectView) (later : Option ObjectView) → cond b (Some view) later ≡ None → (b ≡ false) × (later ≡ None)
-none_head true view later e = cc
-none_head false view later e = (refl, e)
+or_or : (a b c : Option ObjectView) → option_or (option_or a b) c ≡ option_or a (option_or b c)
+or_or None b c = refl
+or_or (Some view) b c = refl
 
-seen_grace : (now : ℕ) (options : Options) (view : ObjectView) (rest : List Held) (scan : Scan Held) (lives suits fresh : Bool) → ((lives && suits) && fresh) ≡ false → (seen now options (held_of view) rest scan lives suits fresh).grace ≡ cond ((lives && suits) && is_in_grace now options view.object) (Some view) scan.grace
-seen_grace now options view rest scan false suits fresh e = refl
-seen_grace now options view rest scan true false fresh e = refl
-seen_grace now options view rest scan true true false e = refl
-seen_grace now options view rest scan true true true e = cc
+first_or : (passes : Bool) (view : ObjectView) (later : Option ObjectView) → cond passes (Some view) later ≡ option_or (cond passes (Some view) None) later
+first_or true view later = refl
+first_or false view later = refl
 
--- where none is fresh, the object in grace is the first such
-pub scan_grace : (now : ℕ) (query : Query) (views : List ObjectView) → find (is_fresh_match now query) views ≡ None → (scan_at now query views).grace ≡ find (is_grace_match now query) views
-scan_grace now query [] e = refl
-scan_grace now query (view ∷ views) e =
-    let split = none_head (is_fresh_match now query view) view (find (is_fresh_match now query) views) e in
-    ap (λ (scan : Scan Held). scan.grace) (scan-cons now query view views)
-    ∙ seen_grace now query.options view (those_in_time now (held_all views)) (scan_at now query views) (in_time now view.object) (matches query view.object) (is_fresh now query.options view.object) split.0
-    ∙ ap (λ (later : Option ObjectView). cond (is_grace_match now query view) (Some view) later) (scan_grace now query views split.1)
+append_none : (fates : List Fate) → fates ++ [] ≡ fates
+append_none [] = refl
+append_none (fate ∷ fates) = ap (λ (rest : List Fate). fate ∷ rest) (append_none fates)
 
-seen_stale : (now : ℕ) (options : Options) (view : ObjectView) (rest : List Held) (scan : Scan Held) (lives suits fresh : Bool) → ((lives && suits) && fresh) ≡ false → (seen now options (held_of view) rest scan lives suits fresh).stale ≡ cond ((lives && suits) && can_confirm view.object) (Some view) scan.stale
-seen_stale now options view rest scan false suits fresh e = refl
-seen_stale now options view rest scan true false fresh e = refl
-seen_stale now options view rest scan true true false e = refl
-seen_stale now options view rest scan true true true e = cc
+-- a scan that saw nothing more
+pub joined_nothing : (seen : Seen) → joined seen nothing_seen ≡ seen
+joined_nothing seen = rw (or_none seen.fresh, or_none seen.grace, or_none seen.stale, append_none seen.fates) refl
 
--- and so is the one that the backend may confirm
-pub scan_stale : (now : ℕ) (query : Query) (views : List ObjectView) → find (is_fresh_match now query) views ≡ None → (scan_at now query views).stale ≡ find (is_stale_match now query) views
-scan_stale now query [] e = refl
-scan_stale now query (view ∷ views) e =
-    let split = none_head (is_fresh_match now query view) view (find (is_fresh_match now query) views) e in
-    ap (λ (scan : Scan Held). scan.stale) (scan-cons now query view views)
-    ∙ seen_stale now query.options view (those_in_time now (held_all views)) (scan_at now query views) (in_time now view.object) (matches query view.object) (is_fresh now query.options view.object) split.0
-    ∙ ap (λ (later : Option ObjectView). cond (is_stale_match now query view) (Some view) later) (scan_stale now query views split.1)
+joined_joined : (a b c : Seen) → joined (joined a b) c ≡ joined a (joined b c)
+joined_joined a b c = rw (or_or a.fresh b.fresh c.fresh, or_or a.grace b.grace c.grace, or_or a.stale b.stale c.stale, append_assoc a.fates b.fates c.fates) refl
 
-kept_whole : (b : Bool) (view : ObjectView) (views rest : List ObjectView) → b ≡ true → rest ≡ views → view ∷ views ≡ cond b (view ∷ rest) rest
-kept_whole true view views rest e same = ap (λ (v : List ObjectView). view ∷ v) (sym same)
-kept_whole false view views rest e same = cc
+-- what is seen before what comes later
+goes_on : (now : ℕ) (query : Query) (count : ℕ) (sight : Sight) (kept : Kept) (later : Seen) → is_end sight ≡ false → seeing now query count sight kept later ≡ joined (seeing now query count sight kept nothing_seen) later
+goes_on now query count Other kept later e = refl
+goes_on now query count Banned kept later e = refl
+goes_on now query count Unfit kept later e = refl
+goes_on now query count Aged kept later e =
+    rw (first_or (is_in_grace now query.options kept.view.object) kept.view later.grace, first_or (can_confirm kept.view.object) kept.view later.stale) refl
+goes_on now query count Fresh kept later e = cc
 
--- where all are in time, none goes
-pub filter-all : (now : ℕ) (views : List ObjectView) → list_all (λ (view : ObjectView). in_time now view.object) views ≡ true → views ≡ filter (λ (view : ObjectView). in_time now view.object) views
-filter-all now [] e = refl
-filter-all now (view ∷ views) e =
-    let both = and_parts (in_time now view.object) (list_all (λ (v : ObjectView). in_time now v.object) views) e in
-    kept_whole (in_time now view.object) view views _ both.0 (sym (filter-all now views both.1))
+still_open : (now : ℕ) (query : Query) (count : ℕ) (sight : Sight) (kept : Kept) → is_end sight ≡ false → (seeing now query count sight kept nothing_seen).fresh ≡ None
+still_open now query count Other kept e = refl
+still_open now query count Banned kept e = refl
+still_open now query count Unfit kept e = refl
+still_open now query count Aged kept e = refl
+still_open now query count Fresh kept e = cc
 
--- an object with a hit counted, in memory and by the law
-one_counted : (b : Bool) (view : ObjectView) → held_of (cond b (raised view) view) ≡ cond b (record (held_of view) { view = raised view }) (held_of view)
-one_counted true view = refl
-one_counted false view = refl
+-- the scan so far, and what it sees behind
+pub record SeenSo (now : ℕ) (query : Query) (bans : List Issued) (objects : List Kept) (place : ℕ) (seen : Seen) : Type 0 where
+  pub whole : seen_all now query bans objects ≡ joined seen (seen_all now query bans (drop place objects))
+  pub open_ : seen.fresh ≡ None
 
-pub held_all-counted : (number : ℕ) (views : List ObjectView) → held_all (map (counted_in number) views) ≡ counted number (held_all views)
-held_all-counted number [] = refl
-held_all-counted number (view ∷ views) =
-    ap (λ (held : Held). held ∷ held_all (map (counted_in number) views)) (one_counted (view.number == number) view)
-    ∙ ap (λ (rest : List Held). counting number (held_of view) ∷ rest) (held_all-counted number views)
+next_whole : (now : ℕ) (query : Query) (bans : List Issued) (objects : List Kept) (place : ℕ) (seen : Seen) (kept : Kept) → place < length objects → SeenSo now query bans objects place seen → kept ≡ get_or objects place kept → seen_all now query bans objects ≡ joined seen (seeing now query (length bans) (sight_of now query bans kept) kept (seen_all now query bans (drop (place + 1) objects)))
+next_whole now query bans objects place seen kept below so at_ =
+    so.whole
+    ∙ ap (λ (rest : List Kept). joined seen (seen_all now query bans rest)) (drop_one objects place kept below at_)
 
-same_time : (now : ℕ) (b : Bool) (held : Held) → in_time now (cond b (record held { view = raised held.view }) held).view.object ≡ in_time now held.view.object
-same_time now true held = refl
-same_time now false held = refl
+pub see_more : (now : ℕ) (query : Query) (bans : List Issued) (objects : List Kept) (place : ℕ) (seen new : Seen) (sight : Sight) (kept : Kept) → place < length objects → SeenSo now query bans objects place seen → kept ≡ get_or objects place kept → sight ≡ sight_of now query bans kept → is_end sight ≡ false → new ≡ joined seen (seeing now query (length bans) sight kept nothing_seen) → SeenSo now query bans objects (place + 1) new
+see_more now query bans objects place seen new sight kept below so at_ sees goes is_ =
+    let later : Seen = seen_all now query bans (drop (place + 1) objects) in
+    record {
+      whole = next_whole now query bans objects place seen kept below so at_
+          ∙ ap (λ (s : Sight). joined seen (seeing now query (length bans) s kept later)) (sym sees)
+          ∙ ap (joined seen) (goes_on now query (length bans) sight kept later goes)
+          ∙ sym (joined_joined seen (seeing now query (length bans) sight kept nothing_seen) later)
+          ∙ ap (λ (s : Seen). joined s later) (sym is_);
+      open_ = ap (λ (s : Seen). s.fresh) is_ ∙ rw (so.open_) (still_open now query (length bans) sight kept goes);
+    }
 
-counted_or_not : (number : ℕ) (held : Held) (lives : Bool) (late early : List Held) → late ≡ counted number early → cond lives (counting number held ∷ late) late ≡ counted number (cond lives (held ∷ early) early)
-counted_or_not number held true late early e = ap (λ (rest : List Held). counting number held ∷ rest) e
-counted_or_not number held false late early e = e
+ends_there : (now : ℕ) (query : Query) (count : ℕ) (sight : Sight) (kept : Kept) (later : Seen) → is_end sight ≡ true → seeing now query count sight kept later ≡ seeing now query count sight kept nothing_seen
+ends_there now query count Other kept later e = cc
+ends_there now query count Banned kept later e = cc
+ends_there now query count Unfit kept later e = cc
+ends_there now query count Aged kept later e = cc
+ends_there now query count Fresh kept later e = refl
 
--- a hit changes nothing of an object's time
-pub in_time-counted : (now number : ℕ) (objects : List Held) → those_in_time now (counted number objects) ≡ counted number (those_in_time now objects)
-in_time-counted now number [] = refl
-in_time-counted now number (held ∷ objects) =
-    ap (λ (b : Bool). cond b (counting number held ∷ those_in_time now (counted number objects)) (those_in_time now (counted number objects))) (same_time now (held.view.number == number) held)
-    ∙ counted_or_not number held (in_time now held.view.object) _ _ (in_time-counted now number objects)
+pub see_end : (now : ℕ) (query : Query) (bans : List Issued) (objects : List Kept) (place : ℕ) (seen new : Seen) (sight : Sight) (kept : Kept) → place < length objects → SeenSo now query bans objects place seen → kept ≡ get_or objects place kept → sight ≡ sight_of now query bans kept → is_end sight ≡ true → new ≡ joined seen (seeing now query (length bans) sight kept nothing_seen) → new ≡ seen_all now query bans objects
+see_end now query bans objects place seen new sight kept below so at_ sees ends is_ =
+    let later : Seen = seen_all now query bans (drop (place + 1) objects) in
+    is_
+    ∙ ap (joined seen) (sym (ends_there now query (length bans) sight kept later ends))
+    ∙ ap (λ (s : Sight). joined seen (seeing now query (length bans) s kept later)) sees
+    ∙ sym (next_whole now query bans objects place seen kept below so at_)
 
-or_same : (a later : Bool) → (a || later) ≡ ((a && true) || later)
-or_same true later = refl
-or_same false later = refl
-
-or_none : (a later : Bool) → later ≡ ((a && false) || later)
-or_none true later = refl
-or_none false later = refl
-
-any_or_not : (now stale : ℕ) (view : ObjectView) (lives : Bool) (rest : List Held) (later : Bool) → list_any (λ (held : Held). held.view.number == stale) rest ≡ later → list_any (λ (held : Held). held.view.number == stale) (cond lives (held_of view ∷ rest) rest) ≡ (((view.number == stale) && lives) || later)
-any_or_not now stale view true rest later e = rw e (or_same (view.number == stale) later)
-any_or_not now stale view false rest later e = e ∙ or_none (view.number == stale) later
-
--- an object in time of this number, in memory and by the law
-pub any-in_time : (now stale : ℕ) (views : List ObjectView) → list_any (λ (held : Held). held.view.number == stale) (those_in_time now (held_all views)) ≡ list_any (λ (view : ObjectView). (view.number == stale) && in_time now view.object) views
-any-in_time now stale [] = refl
-any-in_time now stale (view ∷ views) = any_or_not now stale view (in_time now view.object) _ _ (any-in_time now stale views)
-
-kept_of : (b : Bool) (view : ObjectView) (views : List ObjectView) (rest : List Held) → held_all views ≡ rest → held_all (cond b (view ∷ views) views) ≡ cond b (held_of view ∷ rest) rest
-kept_of true view views rest e = ap (λ (hs : List Held). held_of view ∷ hs) e
-kept_of false view views rest e = e
-
--- the objects that stay, in memory and by the law
-pub held_all-stays : (stale : Option ℕ) (views : List ObjectView) → held_all (filter (stays stale) views) ≡ without_stale stale (held_all views)
-held_all-stays None [] = refl
-held_all-stays None (view ∷ views) = ap (λ (hs : List Held). held_of view ∷ hs) (held_all-stays None views)
-held_all-stays (Some stale) [] = refl
-held_all-stays (Some stale) (view ∷ views) = kept_of (not (view.number == stale)) view _ _ (held_all-stays (Some stale) views)
-
-none_pending : (b : Bool) (view : ObjectView) (later : Option Held) → option_map_or (λ (held : Held). held.pending) later [] ≡ [] → option_map_or (λ (held : Held). held.pending) (cond b (Some (held_of view)) later) [] ≡ []
-none_pending true view later e = refl
-none_pending false view later e = e
-
--- no object in memory has bans to be tested on
-pub inherits_none : (stale : Option ℕ) (views : List ObjectView) → inherited stale (held_all views) ≡ []
-inherits_none None views = refl
-inherits_none (Some stale) [] = refl
-inherits_none (Some stale) (view ∷ views) = none_pending (view.number == stale) view _ (inherits_none (Some stale) views)
-
-size_or_not : (b : Bool) (view : ObjectView) (rest : List Held) → sizes_of (cond b (held_of view ∷ rest) rest) ≡ cond b (size_of view.object) 0 + sizes_of rest
-size_or_not true view rest = sum_by-cons (λ (held : Held). size_of held.view.object) (held_of view) rest
-size_or_not false view rest = omega arith
-
--- the sizes of those that stay
-pub sizes_that_stay : (stale : Option ℕ) (views : List ObjectView) → sizes_staying stale views ≡ sizes_of (without_stale stale (held_all views))
-sizes_that_stay None [] = refl
-sizes_that_stay None (view ∷ views) =
-    omega (arith, sum_by-cons (size_staying None) view views, sum_by-cons (λ (held : Held). size_of held.view.object) (held_of view) (held_all views), sizes_that_stay None views)
-sizes_that_stay (Some stale) [] = refl
-sizes_that_stay (Some stale) (view ∷ views) =
-    omega (arith, sum_by-cons (size_staying (Some stale)) view views, size_or_not (not (view.number == stale)) view (without_stale (Some stale) (held_all views)), sizes_that_stay (Some stale) views)
-
--- what is found in a list is found in it and another behind it
-pub find-front : {X : Type 0} (p : X → Bool) (xs ys : List X) (x : X) → Some x ≡ find p xs → Some x ≡ find p (xs ++ ys)
-find-front p xs ys x e = ap (λ o. option_or o (find p ys)) e ∙ sym (find-append p xs ys)
-
-pub find-behind : {X : Type 0} (p : X → Bool) (xs ys : List X) (found : Option X) → None ≡ find p xs → found ≡ find p ys → found ≡ find p (xs ++ ys)
-find-behind p xs ys found none_ e = e ∙ ap (λ o. option_or o (find p ys)) none_ ∙ sym (find-append p xs ys)
+pub seen_whole : (now : ℕ) (query : Query) (bans : List Issued) (objects : List Kept) (place : ℕ) (seen : Seen) → place ≡ length objects → SeenSo now query bans objects place seen → seen ≡ seen_all now query bans objects
+seen_whole now query bans objects place seen end_ so =
+    sym (joined_nothing seen)
+    ∙ ap (λ (rest : List Kept). joined seen (seen_all now query bans rest)) (sym (drop_all objects place end_))
+    ∙ sym so.whole

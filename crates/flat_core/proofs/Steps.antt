@@ -11,7 +11,7 @@ use Rattle.cache_law.specs.declared.state.OpenFetch.{OpenFetch}
 use Rattle.cache_law.specs.State.{State, at_moment, as_seen, reserve, has_round, has_fetch, without_fetch}
 use Rattle.cache_law.specs.Beginning.{Beginning}
 use Rattle.cache_law.specs.Law.{step_of, answered, after, behind, refused, MayAnswer}
-use Rattle.cache_law.specs.History.{HasWaited, bytes_of, next_state, reached, Legal}
+use Rattle.cache_law.specs.History.{HasWaited, bytes_of, is_numbered, next_state, reached, Legal}
 use Rattle.cache_law.specs.Core.{Entered, FitsBehind, entry_of, moment_of, is_kept}
 use Rattle.cache_law.proofs.Growth.{after_grows}
 use Rattle.cache_law.proofs.Histories.{reached-push, bytes_of_all-push, Legal-push}
@@ -62,8 +62,8 @@ same_reserve : (made : Made) → reserve (step_of made.beginning made.old made.c
 same_reserve made = ap (λ (s : State). reserve (answered made.beginning.params.room s made.caller made.call).state) (same_state made)
 
 -- within the limit is what fits, and what fits is within the limit
-pub fits_behind : (made : Made) → made.used + bytes_of made.call + 64 * made.opens ≤ made.beginning.params.history → FitsBehind made.beginning made.entries made.caller made.moment made.call
-fits_behind made h = record { within = omega (arith, h, made.sound.counts, made.reserves, same_reserve made) }
+pub fits_behind : (made : Made) → is_numbered (step_of made.beginning made.old made.caller made.moment made.call).reply ≡ true → made.used + bytes_of made.call + 64 * made.opens ≤ made.beginning.params.history → FitsBehind made.beginning made.entries made.caller made.moment made.call
+fits_behind made number h = record { number = ap (λ (s : State). is_numbered (answered made.beginning.params.room s made.caller made.call).reply) (sym (same_state made)) ∙ number; within = omega (arith, h, made.sound.counts, made.reserves, same_reserve made) }
 
 pub within_limit : (made : Made) → FitsBehind made.beginning made.entries made.caller (moment_of made.beginning made.entries made.reading) made.call → made.used + bytes_of made.call + 64 * made.opens ≤ made.beginning.params.history
 within_limit made fits =
@@ -71,11 +71,19 @@ within_limit made fits =
     let fits_ : FitsBehind made.beginning made.entries made.caller made.moment made.call = subst (λ (m : ℕ). FitsBehind made.beginning made.entries made.caller m made.call) at_ fits in
     omega (arith, fits_.within, made.sound.counts, made.reserves, same_reserve made)
 
+-- what fits has a number of 32 bits
+pub numbered_behind : (made : Made) → FitsBehind made.beginning made.entries made.caller (moment_of made.beginning made.entries made.reading) made.call → is_numbered (step_of made.beginning made.old made.caller made.moment made.call).reply ≡ true
+numbered_behind made fits =
+    let at_ : moment_of made.beginning made.entries made.reading ≡ made.moment = ap (λ (m : ℕ). max m made.reading) (sym (same_moment made)) ∙ sym made.at_ in
+    let fits_ : FitsBehind made.beginning made.entries made.caller made.moment made.call = subst (λ (m : ℕ). FitsBehind made.beginning made.entries made.caller m made.call) at_ fits in
+    ap (λ (s : State). is_numbered (answered made.beginning.params.room s made.caller made.call).reply) (same_state made) ∙ fits_.number
+
 -- the answer, and what is kept behind it
 pub record Answered (made : Made) : Type 0 where
   pub new : State
   pub answer : Answer
   pub answers : Answers made.old new made.moment made.call (step_of made.beginning made.old made.caller made.moment made.call) answer
+  pub number : is_numbered (step_of made.beginning made.old made.caller made.moment made.call).reply ≡ true
   pub within : made.used + bytes_of made.call + 64 * made.opens ≤ made.beginning.params.history
 
 same_after : (made : Made) (reply : Reply) → after made.beginning made.old made.caller made.moment made.call reply ≡ after made.beginning (before made) made.caller made.moment made.call reply
@@ -124,7 +132,7 @@ entered made done place last =
         waited = made.waited;
         answer = subst (λ (s : State). MayAnswer s made.call (answered made.beginning.params.room s made.caller made.call).reply done.answer.told) (same_state made) done.answers.allows;
       };
-      fits = fits_behind made done.within;
+      fits = fits_behind made done.number done.within;
     }
 
 -- an entry that joined a legal history leaves it legal

@@ -1,43 +1,97 @@
--- How the objects in memory stand for those of the law, and the tests and changes of them.
-use Rattle.std.specs.Prelude.{ℕ, Bool, true, not, List, [], ◌&&◌, ◌==◌, Option, Some, None, map, sum_by, if◌then◌else◌}
-use Rattle.cache_law.specs.declared.object.ObjectView.{ObjectView}
-use Rattle.cache_law.specs.declared.call.Query.{Query}
-use Rattle.cache_law.specs.Object.{in_time, can_confirm, size_of}
-use Rattle.cache_law.specs.Lookup.{matches, is_fresh, is_in_grace, raised}
+-- How the objects in memory stand for those of the law, and the changes of them.
+use Rattle.std.specs.Prelude.{ℕ, Bool, true, false, not, List, [], ◌∷◌, ◌++◌, ◌-◌, ◌==◌, ◌≤◌, Option, Some, None, filter, find, map, length, take, sum_by, if◌then◌else◌}
+use Rattle.std.specs.List.{AllByRecursion}
+use Rattle.std.specs.Option.{option_map_or}
+use Rattle.cache_law.specs.declared.object.Object.{Object}
+use Rattle.cache_law.specs.declared.ban.Issued.{Issued}
+use Rattle.cache_law.specs.Object.{size_of}
+use Rattle.cache_law.specs.Bans.{object_only}
+use Rattle.cache_law.specs.BansAtOnce.{cleared}
+use Rattle.cache_law.specs.Lookup.{raised}
 use Rattle.cache_law.specs.State.{Held}
+use Rattle.flat_core.specs.declared.kept.Kept.{Kept}
+use Rattle.flat_core.specs.declared.kept.Fate.{Fate}
+use Rattle.flat_core.specs.declared.kept.Fate.TheVariants.{Stays, Tested, Goes}
 
--- a stored object as the law has it: there is no ban to test it on
-abbrev pub held_of : ObjectView → Held
-held_of view = record { view = view; pending = [] }
+-- a ban that waits for lookups
+abbrev pub is_waiting : Issued → Bool
+is_waiting issued = not (object_only issued.ban)
 
-abbrev pub held_all : List ObjectView → List Held
-held_all views = map held_of views
+-- the bans, newest first, that an object has still to be tested on which was tested when there were so many
+abbrev pub waiting : List Issued → ℕ → List Issued
+waiting bans tested = filter is_waiting (take (length bans - tested) bans)
 
--- the object is in time at the moment and may answer the request
-abbrev pub is_match : ℕ → Query → ObjectView → Bool
-is_match moment query view = in_time moment view.object && matches query view.object
+-- a stored object as the law has it, where these bans were issued
+abbrev pub held_of : List Issued → Kept → Held
+held_of bans kept = record { view = kept.view; pending = waiting bans kept.tested }
 
-abbrev pub is_fresh_match : ℕ → Query → ObjectView → Bool
-is_fresh_match moment query view = is_match moment query view && is_fresh moment query.options view.object
+abbrev pub held_all : List Issued → List Kept → List Held
+held_all bans objects = map (held_of bans) objects
 
-abbrev pub is_grace_match : ℕ → Query → ObjectView → Bool
-is_grace_match moment query view = is_match moment query view && is_in_grace moment query.options view.object
+-- no object was tested on more bans than there are
+abbrev pub AreTested : List Issued → List Kept → Type 0
+AreTested bans objects = AllByRecursion (λ kept. kept.tested ≤ length bans) objects
 
-abbrev pub is_stale_match : ℕ → Query → ObjectView → Bool
-is_stale_match moment query view = is_match moment query view && can_confirm view.object
+-- what is left of an object, where there are so many bans
+abbrev pub left_of : ℕ → Fate → Kept → List Kept
+left_of count Stays kept = kept ∷ []
+left_of count Tested kept = record kept { tested = count } ∷ []
+left_of count Goes kept = []
+
+-- what is left of the objects; those behind the last fate stay
+abbrev pub settled : ℕ → List Fate → List Kept → List Kept
+settled count [] objects = objects
+settled count (fate ∷ fates) [] = []
+settled count (fate ∷ fates) (kept ∷ objects) = left_of count fate kept ++ settled count fates objects
+
+-- the objects once the first is passed on to the end, as its fate leaves it
+abbrev pub moved_on : ℕ → Fate → List Kept → List Kept
+moved_on count fate [] = []
+moved_on count fate (kept ∷ objects) = objects ++ left_of count fate kept
+
+-- it is changed or goes
+abbrev pub is_change : Fate → Bool
+is_change Stays = false
+is_change Tested = true
+is_change Goes = true
+
+-- the same of objects as the law has them
+abbrev pub held_left : Fate → Held → List Held
+held_left Stays held = held ∷ []
+held_left Tested held = cleared held ∷ []
+held_left Goes held = []
+
+abbrev pub settled_held : List Fate → List Held → List Held
+settled_held [] objects = objects
+settled_held (fate ∷ fates) [] = []
+settled_held (fate ∷ fates) (held ∷ objects) = held_left fate held ++ settled_held fates objects
 
 -- the object has one more hit if it has this number
-abbrev pub counted_in : ℕ → ObjectView → ObjectView
-counted_in number view = if view.number == number then raised view else view
+abbrev pub counted_in : ℕ → Kept → Kept
+counted_in number kept = if kept.view.number == number then record kept { view = raised kept.view } else kept
+
+abbrev pub counting_in : Option ℕ → List Kept → List Kept
+counting_in None objects = objects
+counting_in (Some number) objects = map (counted_in number) objects
 
 -- the object stays where one takes the place of the stale one
-abbrev pub stays : Option ℕ → ObjectView → Bool
-stays None view = true
-stays (Some stale) view = not (view.number == stale)
+abbrev pub stays : Option ℕ → Kept → Bool
+stays None kept = true
+stays (Some stale) kept = not (kept.view.number == stale)
 
 -- what it takes of the room then
-abbrev pub size_staying : Option ℕ → ObjectView → ℕ
-size_staying stale view = if stays stale view then size_of view.object else 0
+abbrev pub size_staying : Option ℕ → Kept → ℕ
+size_staying stale kept = if stays stale kept then size_of kept.view.object else 0
 
-abbrev pub sizes_staying : Option ℕ → List ObjectView → ℕ
-sizes_staying stale views = sum_by (size_staying stale) views
+abbrev pub sizes_staying : Option ℕ → List Kept → ℕ
+sizes_staying stale objects = sum_by (size_staying stale) objects
+
+-- how many bans there were when the stale object was last tested, or without one how many there are
+abbrev pub tested_for : ℕ → Option ℕ → List Kept → ℕ
+tested_for count None objects = count
+tested_for count (Some stale) objects = option_map_or (λ kept. kept.tested) (find (λ kept. kept.view.number == stale) objects) count
+
+-- an object that comes first, in the stale one's place
+abbrev pub first_of : ℕ → Object → Option ℕ → ℕ → List Kept → Kept
+first_of token object stale count objects =
+    record { view = record { number = token; hits = 0; object = object }; tested = tested_for count stale objects }

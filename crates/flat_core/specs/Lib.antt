@@ -1,4 +1,7 @@
 pub mod Kept
+pub mod Scans
+pub mod Banning
+pub mod Purging
 pub mod Found
 pub mod Step
 pub mod Plain

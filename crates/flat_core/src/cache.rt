@@ -4,12 +4,12 @@ ghost use Rattle.std.specs.Vec.{vec_capacity};
 ghost use Rattle.cache_law.specs.State.{at_moment, reserve};
 ghost use Rattle.cache_law.specs.Law.{answered};
 ghost use Rattle.cache_law.specs.Core.{is_kept};
-ghost use Rattle.cache_law.specs.History.{bytes_of};
+ghost use Rattle.cache_law.specs.History.{bytes_of, is_numbered};
 ghost use Rattle.flat_core.specs.Found.{FindsFor};
 ghost use Rattle.flat_core.specs.Step.{Answers};
 
 use crate::answer::Answer;
-use crate::finding::Finding;
+use crate::finding::Found;
 use crate::store::Store;
 use cache_law::{Boot, CacheCore, Call, Entry, Params, StepError, Told, entry_bytes};
 use std::alloc::{AllocError, Global};
@@ -63,11 +63,14 @@ impl CacheCore for FlatCore {
         call: Call,
     ) -> Result<Told, StepError> {
         let moment = self.store.moment().max(reading);
-        let finding = match self.store.find(caller, moment, &call) {
-            Ok(finding) => finding,
+        let found = match self.store.find(alloc, caller, moment, &call) {
+            Ok(found) => found,
             Err(_) => return Err(StepError::NoMemory),
         };
-        let open = self.store.open_after(caller, moment, &call, &finding);
+        let open = self.store.open_after(caller, moment, &call, &found);
+        if !self.store.is_numbered(&call) {
+            return Err(StepError::HistoryFull);
+        }
         if !fits(self.params.history, self.used, &call, open) {
             return Err(StepError::HistoryFull);
         }
@@ -80,7 +83,7 @@ impl CacheCore for FlatCore {
             caller,
             moment,
             &call,
-            finding,
+            found,
             open,
         );
         let answer = match answered {
@@ -130,11 +133,12 @@ fn answer_within(
     caller: u32,
     moment: u64,
     call: &Call,
-    finding: Option<Finding>,
+    found: Option<Found>,
     closings: usize,
 ) -> Result<Answer, AllocError>
-    requires found { FindsFor (at_moment moment store.old) caller call.now finding }
+    requires found { FindsFor store.old moment caller call.now found }
     requires numbers { store.old.next + 1 < 2 ^ 64 }
+    requires vcls { is_numbered (answered room (at_moment moment store.old) caller call.now).reply ≡ true }
     requires bound { closings < 2 ^ 63 }
     requires reserves { 64 * closings ≡ reserve (answered room (at_moment moment store.old) caller call.now).state }
     requires reserved { length entries.old.items + length store.old.rounds + length store.old.fetches ≤ vec_capacity entries.old }
@@ -151,7 +155,7 @@ fn answer_within(
             None => return Err(AllocError),
         }
     }
-    store.answer(alloc, room, caller, moment, call, finding)
+    store.answer(alloc, room, caller, moment, call, found)
 }
 
 /// Whether the limit isn't passed by a history of this many bytes, with the call's entry and what is reserved for so

@@ -1,19 +1,17 @@
-// What a lookup finds among the objects in memory.
-ghost use Rattle.std.specs.Prelude.{◌≡◌, ◌++◌, find, IfOk};
-ghost use Rattle.std.specs.Option.{option_copied};
-ghost use Rattle.cache_law.specs.Law.{busy as busy_with};
-ghost use Rattle.flat_core.specs.Kept.{is_match as matched, is_fresh_match, is_grace_match, is_stale_match};
-ghost use Rattle.flat_core.specs.Found.{fetch_finding, is_such, finding_of, given_by as given, opens_fetch, graced_by as graced, other_finding};
+// What a lookup finds in an open round.
+ghost use Rattle.std.specs.Prelude.{◌≡◌, IfOk};
+ghost use Rattle.cache_law.specs.Law.{busy as busy_with, wait_in as told_to_wait};
+ghost use Rattle.cache_law.specs.Lookup.{raised};
+ghost use Rattle.flat_core.specs.Found.{fetch_finding, finding_by, found_in, given_by as given, graced_by as graced, hit_in as hit_by, opens_fetch, other_finding, reply_of as reply_by};
 
+use crate::kept::{Fate, Kept};
 use crate::lists::least_token;
-use cache_law::{
-    Object, ObjectView, OpenFetch, Query, can_confirm, is_fresh_for, is_in_grace_for, is_in_time,
-    matches,
-};
-use std::alloc::AllocError;
+use crate::scan::scan;
+use cache_law::{Issued, Object, ObjectView, OpenFetch, Query, Reply};
+use std::alloc::{AllocError, Global};
 use std::collections::VecDeque;
+use units::Sequence;
 
-/// What a lookup finds in an open round.
 #[derive(Drop)]
 pub(crate) enum Finding {
     /// A fresh object.
@@ -31,99 +29,11 @@ pub(crate) enum Finding {
     Miss(Option<ObjectView>),
 }
 
-/// Whether the object is in time at the moment and may answer the request.
-fn is_match(moment: u64, query: &Query, view: &ObjectView) -> bool
-    ensures { result ≡ matched moment query.now view.now }
-{
-    is_in_time(moment, &view.object) && matches(query, &view.object)
-}
-
-fn is_fresh(moment: u64, query: &Query, view: &ObjectView) -> bool
-    ensures { result ≡ is_fresh_match moment query.now view.now }
-{
-    is_match(moment, query, view) && is_fresh_for(moment, &query.options, &view.object)
-}
-
-fn is_in_grace(moment: u64, query: &Query, view: &ObjectView) -> bool
-    ensures { result ≡ is_grace_match moment query.now view.now }
-{
-    is_match(moment, query, view) && is_in_grace_for(moment, &query.options, &view.object)
-}
-
-fn is_stale(moment: u64, query: &Query, view: &ObjectView) -> bool
-    ensures { result ≡ is_stale_match moment query.now view.now }
-{
-    is_match(moment, query, view) && can_confirm(&view.object)
-}
-
-/// What is looked for among the objects.
-#[derive(Clone, Copy, Debug)]
-enum Wanted {
-    Fresh,
-    InGrace,
-    Stale,
-}
-
-fn is_wanted(wanted: Wanted, moment: u64, query: &Query, view: &ObjectView) -> bool
-    ensures { result ≡ is_such wanted moment query.now view.now }
-{
-    match wanted {
-        Wanted::Fresh => is_fresh(moment, query, view),
-        Wanted::InGrace => is_in_grace(moment, query, view),
-        Wanted::Stale => is_stale(moment, query, view),
-    }
-}
-
-fn first_among<'a>(
-    views: &'a [ObjectView],
-    wanted: Wanted,
-    moment: u64,
-    query: &Query,
-) -> Option<&'a ObjectView>
-    ensures { option_copied result ≡ find (is_such wanted moment query.now) views.now }
-{
-    views
-        .iter()
-        .find(|view| is_wanted(wanted, moment, query, view))
-}
-
-/// The first such object in one list, and else in the other.
-fn first_of<'a>(
-    newer: &'a [ObjectView],
-    older: &'a [ObjectView],
-    wanted: Wanted,
-    moment: u64,
-    query: &Query,
-) -> Option<&'a ObjectView>
-    ensures { option_copied result ≡ find (is_such wanted moment query.now) (newer.now ++ older.now) }
-{
-    match first_among(newer, wanted, moment, query) {
-        Some(view) => Some(view),
-        None => first_among(older, wanted, moment, query),
-    }
-}
-
-fn copy_of(found: Option<&ObjectView>) -> Result<Option<ObjectView>, AllocError>
-    ensures { IfOk result (λ copy. copy ≡ option_copied found.entry) }
-{
-    match found {
-        Some(view) => Ok(Some(view.copy()?)),
-        None => Ok(None),
-    }
-}
-
-/// The newest such object.
-fn find_first(
-    objects: &VecDeque<ObjectView>,
-    wanted: Wanted,
-    moment: u64,
-    query: &Query,
-) -> Result<Option<ObjectView>, AllocError>
-    ensures { IfOk result (λ found. found ≡ find (is_such wanted moment query.now) objects.now.items) }
-{
-    let (newer, older) = objects.as_slices();
-    let found = first_of(newer, older, wanted, moment, query);
-    copy_of(found)
+/// What was found, and what becomes of the objects that the scan came to.
+#[derive(Drop)]
+pub(crate) struct Found {
+    pub finding: Finding,
+    pub fates: Sequence<Fate>,
 }
 
 /// What a fresh object gives: itself, or what it is a marker of.
@@ -161,51 +71,68 @@ fn busy(query: &Query, under_way: Option<u64>) -> Option<u64>
     }
 }
 
-fn seek_fetch(
-    objects: &VecDeque<ObjectView>,
-    moment: u64,
-    query: &Query,
-    under_way: Option<u64>,
-) -> Result<Finding, AllocError>
-    ensures { IfOk result (λ found. found ≡ fetch_finding moment query.now under_way objects.now.items) }
+fn fetch_finding(stale: Option<ObjectView>, under_way: Option<u64>) -> Finding
+    ensures { result ≡ fetch_finding stale under_way }
 {
     match under_way {
-        Some(token) => Ok(Finding::Wait(token)),
-        None => Ok(Finding::Miss(find_first(objects, Wanted::Stale, moment, query)?)),
+        Some(token) => Finding::Wait(token),
+        None => Finding::Miss(stale),
     }
 }
 
-fn seek_other(
-    objects: &VecDeque<ObjectView>,
-    moment: u64,
+fn other_finding(
     query: &Query,
     under_way: Option<u64>,
-) -> Result<Finding, AllocError>
-    ensures { IfOk result (λ found. found ≡ other_finding moment query.now under_way (find (is_grace_match moment query.now) objects.now.items) objects.now.items) }
+    grace: Option<ObjectView>,
+    stale: Option<ObjectView>,
+) -> Finding
+    ensures { result ≡ other_finding query.now under_way grace stale }
 {
-    match find_first(objects, Wanted::InGrace, moment, query)? {
-        Some(view) => Ok(graced_by(view, under_way)),
-        None => seek_fetch(objects, moment, query, busy(query, under_way)),
+    match grace {
+        Some(view) => graced_by(view, under_way),
+        None => fetch_finding(stale, busy(query, under_way)),
+    }
+}
+
+/// What is found by a scan's fresh object, the one in grace and the one that the backend may confirm.
+fn finding_by(
+    query: &Query,
+    under_way: Option<u64>,
+    fresh: Option<ObjectView>,
+    grace: Option<ObjectView>,
+    stale: Option<ObjectView>,
+) -> Finding
+    ensures { result ≡ finding_by query.now under_way fresh grace stale }
+{
+    match fresh {
+        Some(view) => given_by(view),
+        None => other_finding(query, under_way, grace, stale),
     }
 }
 
 /// What a lookup finds in an open round.
 pub(crate) fn seek(
-    objects: &VecDeque<ObjectView>,
+    alloc: Global,
+    objects: &VecDeque<Kept>,
+    bans: &VecDeque<Issued>,
     fetches: &VecDeque<OpenFetch>,
     moment: u64,
     query: &Query,
-) -> Result<Finding, AllocError>
-    ensures { IfOk result (λ found. found ≡ finding_of moment query.now fetches.now.items objects.now.items) }
+) -> Result<Found, AllocError>
+    ensures { IfOk result (λ found. found ≡ found_in moment query.now bans.now.items fetches.now.items objects.now.items) }
 {
     if query.options.always_miss {
-        return Ok(Finding::Miss(None));
+        return Ok(Found {
+            finding: Finding::Miss(None),
+            fates: Sequence::new(alloc),
+        });
     }
+    let seen = scan(alloc, objects, bans, moment, query)?;
     let under_way = least_token(fetches, query.key.as_slice());
-    match find_first(objects, Wanted::Fresh, moment, query)? {
-        Some(view) => Ok(given_by(view)),
-        None => seek_other(objects, moment, query, under_way),
-    }
+    Ok(Found {
+        finding: finding_by(query, under_way, seen.fresh, seen.grace, seen.stale),
+        fates: seen.fates,
+    })
 }
 
 /// Whether what was found opens a fetch.
@@ -215,5 +142,57 @@ pub(crate) fn opens_fetch(found: &Finding) -> bool
     match found {
         Finding::Hit(_) | Finding::HitPass | Finding::GraceAlone(_) | Finding::Wait(_) => false,
         Finding::HitMiss | Finding::Grace(_) | Finding::Miss(_) => true,
+    }
+}
+
+/// The number of the object whose hit is counted.
+pub(crate) fn hit_in(found: &Finding) -> Option<u64>
+    ensures { result ≡ hit_by found.now }
+{
+    match found {
+        Finding::Hit(view) | Finding::Grace(view) | Finding::GraceAlone(view) => Some(view.number),
+        Finding::HitMiss | Finding::HitPass | Finding::Wait(_) | Finding::Miss(_) => None,
+    }
+}
+
+/// The view with one more hit.
+fn raised(view: ObjectView) -> ObjectView
+    ensures { result ≡ raised view }
+{
+    ObjectView {
+        number: view.number,
+        hits: view.hits.saturating_add(1),
+        object: view.object,
+    }
+}
+
+/// The reply to a lookup that found so, where the next number is this.
+pub(crate) fn reply_of(token: u64, finding: Finding) -> Reply
+    ensures { result ≡ reply_by token finding }
+{
+    match finding {
+        Finding::Hit(view) => Reply::Hit(raised(view)),
+        Finding::HitMiss => Reply::HitMiss { token },
+        Finding::HitPass => Reply::HitPass,
+        Finding::Grace(view) => Reply::Grace {
+            object: raised(view),
+            token: Some(token),
+        },
+        Finding::GraceAlone(view) => Reply::Grace {
+            object: raised(view),
+            token: None,
+        },
+        Finding::Wait(token) => Reply::Wait(token),
+        Finding::Miss(stale) => Reply::Miss { token, stale },
+    }
+}
+
+/// The token that a reply tells its caller to wait for.
+pub(crate) fn wait_in(reply: &Reply) -> Option<u64>
+    ensures { result ≡ told_to_wait reply.now }
+{
+    match reply {
+        Reply::Wait(token) => Some(*token),
+        _ => None,
     }
 }

@@ -6,12 +6,16 @@
 #![tactic(auto)]
 
 mod answer;
+mod banning;
 mod cache;
 mod finding;
+mod kept;
 mod lists;
+mod picking;
+mod purging;
+mod scan;
+mod sight;
 mod store;
+mod vcls;
 
 pub use cache::FlatCore;
-
-#[cfg(test)]
-mod tests;

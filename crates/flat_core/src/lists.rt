@@ -1,12 +1,15 @@
 // The law's tests of the lists that a cache holds, and the changes that it makes to them.
-ghost use Rattle.std.specs.Prelude.{◌≡◌, ◌==◌, ◌&&◌, ◌+◌, ◌-◌, ◌^◌, ◌≤◌, ◌∷◌, ◌++◌, find, Some, None, min, map, length, filter, option_and_then, OnOk, OnErr, if◌then◌else◌};
+ghost use Rattle.std.specs.Prelude.{◌≡◌, ◌==◌, ◌&&◌, ◌+◌, ◌-◌, ◌^◌, ◌<◌, ◌≤◌, ◌∷◌, ◌++◌, List, find, get_or, Some, None, min, map, length, filter, option_and_then, OnOk, OnErr, if◌then◌else◌};
 ghost use Rattle.std.specs.List.{list_all, list_any};
-ghost use Rattle.std.specs.Option.{option_copied};
+ghost use Rattle.std.specs.Option.{option_copied, option_map_or, option_to_list};
 ghost use Rattle.std.specs.VecDeque.{deque_len, deque_capacity};
+ghost use Rattle.cache_law.specs.declared.ban.Issued.{Issued as IssuedBan};
 ghost use Rattle.cache_law.specs.Object.{in_time};
 ghost use Rattle.cache_law.specs.State.{has_round, has_fetch, is_closed, is_gone, is_open, least_of, least_token, least_with, remembering, those_in_time, told_to_wait, with_wait, without_fetch, without_fetches_of, without_round_of};
-ghost use Rattle.flat_core.specs.Kept.{counted_in, held_all, size_staying, sizes_staying, stays};
+ghost use Rattle.flat_core.specs.Kept.{counted_in, counting_in, first_of, held_all, is_change, left_of, moved_on, settled, size_staying, sizes_staying, stays, tested_for};
+ghost use Rattle.flat_core.specs.Found.{next_after, opened_for};
 
+use crate::kept::{Fate, Kept};
 use cache_law::{Object, ObjectView, OpenFetch, OpenRound, Shared, is_in_time, object_size};
 use std::alloc::{AllocError, Global};
 use std::collections::VecDeque;
@@ -149,16 +152,16 @@ pub(crate) fn remember(rounds: &mut VecDeque<OpenRound>, caller: u32, token: Opt
 }
 
 /// Counts a hit of the object if it has this number.
-fn count_in(view: &mut ObjectView, number: u64)
-    ensures { view.new ≡ counted_in number view.old }
+fn count_in(kept: &mut Kept, number: u64)
+    ensures { kept.new ≡ counted_in number kept.old }
 {
-    if view.number == number {
-        view.hits = view.hits.saturating_add(1);
+    if kept.view.number == number {
+        kept.view.hits = kept.view.hits.saturating_add(1);
     }
 }
 
 /// Counts a hit of the object of this number.
-pub(crate) fn count_hit(objects: &mut VecDeque<ObjectView>, number: u64)
+fn count_hit(objects: &mut VecDeque<Kept>, number: u64)
     ensures { objects.new.items ≡ map (counted_in number) objects.old.items }
 {
     for place in 0..objects.len() {
@@ -166,21 +169,102 @@ pub(crate) fn count_hit(objects: &mut VecDeque<ObjectView>, number: u64)
     }
 }
 
+/// Counts a hit of the object of this number, if there is one.
+pub(crate) fn count_hit_of(objects: &mut VecDeque<Kept>, number: Option<u64>)
+    ensures { objects.new.items ≡ counting_in number objects.old.items }
+{
+    if let Some(number) = number {
+        count_hit(objects, number);
+    }
+}
+
+/// What becomes of the object at the place. Those behind the last fate stay.
+fn fate_at(fates: &[Fate], place: usize) -> Fate
+    ensures { result ≡ get_or fates.now place Fate.Stays }
+{
+    match fates.get(place) {
+        Some(fate) => *fate,
+        None => Fate::Stays,
+    }
+}
+
+/// What is left of the object, where there are so many bans.
+fn left_of(count: usize, fate: Fate, kept: Kept) -> Option<Kept>
+    ensures { option_to_list result ≡ left_of count fate kept }
+{
+    match fate {
+        Fate::Stays => Some(kept),
+        Fate::Tested => Some(Kept {
+            view: kept.view,
+            tested: count,
+        }),
+        Fate::Goes => None,
+    }
+}
+
+/// Puts what is left of an object behind the others, where there is room for it.
+fn put_last(objects: &mut VecDeque<Kept>, left: Option<Kept>)
+    requires { deque_len objects.old < deque_capacity objects.old }
+    ensures items { objects.new.items ≡ objects.old.items ++ option_to_list left }
+    ensures capacity { deque_capacity objects.new ≡ deque_capacity objects.old }
+    ensures len { deque_len objects.new ≤ deque_len objects.old + 1 }
+{
+    if let Some(kept) = left {
+        objects.push_back_reserved(kept);
+    }
+}
+
+/// Passes the first object on to the end, as its fate leaves it.
+fn settle_first(objects: &mut VecDeque<Kept>, fate: Fate, count: usize)
+    ensures { objects.new.items ≡ moved_on count fate objects.old.items }
+{
+    if let Some(kept) = objects.pop_front() {
+        put_last(objects, left_of(count, fate, kept));
+    }
+}
+
+fn is_change(fate: Fate) -> bool
+    ensures { result ≡ is_change fate }
+{
+    match fate {
+        Fate::Stays => false,
+        Fate::Tested | Fate::Goes => true,
+    }
+}
+
+fn has_change(fates: &[Fate]) -> bool
+    ensures { result ≡ list_any is_change fates.now }
+{
+    fates.iter().any(|fate| is_change(*fate))
+}
+
+/// Leaves of the objects what their fates leave, where there are so many bans. Where all stay, nothing moves.
+pub(crate) fn settle(objects: &mut VecDeque<Kept>, fates: &[Fate], count: usize)
+    ensures { objects.new.items ≡ settled count fates.now objects.old.items }
+{
+    if !has_change(fates) {
+        return;
+    }
+    for place in 0..objects.len() {
+        settle_first(objects, fate_at(fates, place), count);
+    }
+}
+
 /// Whether the object stays where one takes the place of the stale one.
-fn stays(stale: Option<u64>, view: &ObjectView) -> bool
-    ensures { result ≡ stays stale view.now }
+fn stays(stale: Option<u64>, kept: &Kept) -> bool
+    ensures { result ≡ stays stale kept.now }
 {
     match stale {
-        Some(stale) => view.number != stale,
+        Some(stale) => kept.view.number != stale,
         None => true,
     }
 }
 
-fn size_staying(stale: Option<u64>, view: &ObjectView) -> u128
-    ensures { result ≡ min (size_staying stale view.now) (2 ^ 128 - 1) }
+fn size_staying(stale: Option<u64>, kept: &Kept) -> u128
+    ensures { result ≡ min (size_staying stale kept.now) (2 ^ 128 - 1) }
 {
-    if stays(stale, view) {
-        object_size(&view.object)
+    if stays(stale, kept) {
+        object_size(&kept.view.object)
     } else {
         0
     }
@@ -188,18 +272,18 @@ fn size_staying(stale: Option<u64>, view: &ObjectView) -> u128
 
 /// What the objects but the stale one take of the room beside what is counted already, or the greatest number of 128
 /// bits where that is less.
-fn sizes_from(start: u128, stale: Option<u64>, objects: &[ObjectView]) -> u128
+fn sizes_from(start: u128, stale: Option<u64>, objects: &[Kept]) -> u128
     ensures { result ≡ min (start + sizes_staying stale objects.now) (2 ^ 128 - 1) }
 {
     let mut total = start;
-    for view in objects {
-        total = total.saturating_add(size_staying(stale, view));
+    for kept in objects {
+        total = total.saturating_add(size_staying(stale, kept));
     }
     total
 }
 
 /// What the objects but the stale one take of the room, or the greatest number of 128 bits where that is less.
-pub(crate) fn sizes_without(objects: &VecDeque<ObjectView>, stale: Option<u64>) -> u128
+pub(crate) fn sizes_without(objects: &VecDeque<Kept>, stale: Option<u64>) -> u128
     ensures { result ≡ min (sizes_staying stale objects.now.items) (2 ^ 128 - 1) }
 {
     let (newer, older) = objects.as_slices();
@@ -207,15 +291,15 @@ pub(crate) fn sizes_without(objects: &VecDeque<ObjectView>, stale: Option<u64>) 
 }
 
 /// Whether an object in time has the number.
-fn has_number(objects: &VecDeque<ObjectView>, moment: u64, number: u64) -> bool
-    ensures { result ≡ list_any (λ view. (view.number == number) && in_time moment view.object) objects.now.items }
+fn has_number(objects: &VecDeque<Kept>, moment: u64, number: u64) -> bool
+    ensures { result ≡ list_any (λ kept. (kept.view.number == number) && in_time moment kept.view.object) objects.now.items }
 {
-    objects.iter().any(|view| view.number == number && is_in_time(moment, &view.object))
+    objects.iter().any(|kept| kept.view.number == number && is_in_time(moment, &kept.view.object))
 }
 
 /// Whether a stale object is named that isn't in time, or isn't there.
-pub(crate) fn is_gone(objects: &VecDeque<ObjectView>, moment: u64, stale: Option<u64>) -> bool
-    ensures { result ≡ is_gone stale (those_in_time moment (held_all objects.now.items)) }
+pub(crate) fn is_gone(objects: &VecDeque<Kept>, moment: u64, stale: Option<u64>) -> bool
+    ensures { (bans : List IssuedBan) → result ≡ is_gone stale (those_in_time moment (held_all bans objects.now.items)) }
 {
     match stale {
         Some(stale) => !has_number(objects, moment, stale),
@@ -223,53 +307,96 @@ pub(crate) fn is_gone(objects: &VecDeque<ObjectView>, moment: u64, stale: Option
     }
 }
 
-fn are_in_time(objects: &VecDeque<ObjectView>, moment: u64) -> bool
-    ensures { result ≡ list_all (λ view. in_time moment view.object) objects.now.items }
+fn are_in_time(objects: &VecDeque<Kept>, moment: u64) -> bool
+    ensures { result ≡ list_all (λ kept. in_time moment kept.view.object) objects.now.items }
 {
-    objects.iter().all(|view| is_in_time(moment, &view.object))
+    objects
+        .iter()
+        .all(|kept| is_in_time(moment, &kept.view.object))
 }
 
 /// Drops the objects that aren't in time any more. Where there are none, nothing moves.
-pub(crate) fn keep_in_time(objects: &mut VecDeque<ObjectView>, moment: u64)
-    ensures { objects.new.items ≡ filter (λ view. in_time moment view.object) objects.old.items }
+pub(crate) fn keep_in_time(objects: &mut VecDeque<Kept>, moment: u64)
+    ensures { objects.new.items ≡ filter (λ kept. in_time moment kept.view.object) objects.old.items }
 {
     if !are_in_time(objects, moment) {
-        objects.retain(|view| is_in_time(moment, &view.object));
+        objects.retain(|kept| is_in_time(moment, &kept.view.object));
     }
 }
 
 /// Drops the stale object.
-fn drop_stale(objects: &mut VecDeque<ObjectView>, stale: Option<u64>)
+fn drop_stale(objects: &mut VecDeque<Kept>, stale: Option<u64>)
     ensures items { objects.new.items ≡ filter (stays stale) objects.old.items }
     ensures len { deque_len objects.new ≤ deque_len objects.old }
     ensures capacity { deque_capacity objects.new ≡ deque_capacity objects.old }
 {
-    objects.retain(|view| stays(stale, view));
+    objects.retain(|kept| stays(stale, kept));
 }
 
-/// Puts the object before the others, under the number of its fetch and in the stale one's place.
+fn kept_among(objects: &[Kept], number: u64) -> Option<&Kept>
+    ensures { option_copied result ≡ find (λ kept. kept.view.number == number) objects.now }
+{
+    objects.iter().find(|kept| kept.view.number == number)
+}
+
+/// The object of the number in one list, and else in the other.
+fn kept_of<'a>(newer: &'a [Kept], older: &'a [Kept], number: u64) -> Option<&'a Kept>
+    ensures { option_copied result ≡ find (λ kept. kept.view.number == number) (newer.now ++ older.now) }
+{
+    match kept_among(newer, number) {
+        Some(kept) => Some(kept),
+        None => kept_among(older, number),
+    }
+}
+
+fn tested_or(kept: Option<&Kept>, count: usize) -> usize
+    ensures { result ≡ option_map_or (λ one. one.tested) (option_copied kept.entry) count }
+{
+    match kept {
+        Some(kept) => kept.tested,
+        None => count,
+    }
+}
+
+/// How many bans there were when the stale object was last tested, or without one how many there are.
+fn tested_for(count: usize, stale: Option<u64>, objects: &VecDeque<Kept>) -> usize
+    ensures { result ≡ tested_for count stale objects.now.items }
+{
+    let Some(stale) = stale else {
+        return count;
+    };
+    let (newer, older) = objects.as_slices();
+    tested_or(kept_of(newer, older, stale), count)
+}
+
+/// Puts the object before the others, under the number of its fetch and in the stale one's place, where there are so many
+/// bans.
 pub(crate) fn put_first(
-    objects: &mut VecDeque<ObjectView>,
+    objects: &mut VecDeque<Kept>,
     token: u64,
     object: &Shared<Object>,
     stale: Option<u64>,
+    count: usize,
 ) -> Result<(), AllocError>
-    ensures ok { OnOk result (objects.new.items ≡ record { number = token; hits = 0; object = object.now } ∷ filter (stays stale) objects.old.items) }
+    ensures ok { OnOk result (objects.new.items ≡ first_of token object.now stale count objects.old.items ∷ filter (stays stale) objects.old.items) }
     ensures err { OnErr result (objects.new.items ≡ objects.old.items) }
 {
-    let view = ObjectView {
-        number: token,
-        hits: 0,
-        object: object.copy()?,
+    let kept = Kept {
+        view: ObjectView {
+            number: token,
+            hits: 0,
+            object: object.copy()?,
+        },
+        tested: tested_for(count, stale, objects),
     };
     objects.try_reserve(1)?;
     drop_stale(objects, stale);
-    objects.push_front_reserved(view);
+    objects.push_front_reserved(kept);
     Ok(())
 }
 
 /// Opens a fetch of the key.
-pub(crate) fn open_fetch(
+fn open_fetch(
     alloc: Global,
     fetches: &mut VecDeque<OpenFetch>,
     token: u64,
@@ -282,6 +409,32 @@ pub(crate) fn open_fetch(
     let key = key.copied(alloc)?;
     fetches.push_front(OpenFetch { token, caller, key })?;
     Ok(())
+}
+
+/// Opens a fetch of the key, if one is to be opened.
+pub(crate) fn open_fetch_if(
+    alloc: Global,
+    fetches: &mut VecDeque<OpenFetch>,
+    opens: bool,
+    token: u64,
+    caller: u32,
+    key: &Sequence<Text>,
+) -> Result<(), AllocError>
+    ensures ok { OnOk result (fetches.new.items ≡ opened_for opens token caller key.now fetches.old.items) }
+    ensures err { OnErr result (fetches.new.items ≡ fetches.old.items) }
+{
+    if opens {
+        open_fetch(alloc, fetches, token, caller, key)?;
+    }
+    Ok(())
+}
+
+/// The next number, where one is drawn or not.
+pub(crate) fn next_after(opens: bool, next: u64) -> u64
+    requires { next + 1 < 2 ^ 64 }
+    ensures { result ≡ next_after opens next }
+{
+    if opens { next + 1 } else { next }
 }
 
 pub(crate) fn close_fetch(fetches: &mut VecDeque<OpenFetch>, token: u64)

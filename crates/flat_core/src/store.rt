@@ -1,35 +1,44 @@
 // What the plain cache holds, and how each call changes it.
 ghost use Rattle.std.specs.Prelude.{◌≡◌, ℕ, ◌+◌, ◌*◌, ◌<◌, ◌^◌, true, false, Option, length, if◌then◌else◌, Some, None, IfOk, IfSome, OnErr, OnSome, IfNone, IsOk, ◌≤◌};
 ghost use Rattle.cache_law.specs.declared.object.Object.{Object as Made};
-ghost use Rattle.cache_law.specs.declared.call.Call.TheVariants.{Begin as BeginCall, Draw as DrawCall, Lookup as LookupCall, Pick as PickCall, Insert as InsertCall, Drop as DropCall, End as EndCall};
-ghost use Rattle.cache_law.specs.declared.call.Reply.TheVariants.{Began, Grace, Picked};
+ghost use Rattle.cache_law.specs.declared.target.Target.{Target as Aim};
+ghost use Rattle.cache_law.specs.declared.call.Call.TheVariants.{Begin as BeginCall, Draw as DrawCall, Lookup as LookupCall, Pick as PickCall, Insert as InsertCall, Ban as BanCall, BanList as BanListCall, Purge as PurgeCall, Xkey as XkeyCall, SetHealth as SetHealthCall, Load as LoadCall, Switch as SwitchCall, Discard as DiscardCall, VclList as VclListCall, Drop as DropCall, End as EndCall};
+ghost use Rattle.cache_law.specs.declared.call.Reply.TheVariants.{Began, Bans};
 ghost use Rattle.cache_law.specs.State.{at_moment, awaits, reserve, has_round, has_fetch, is_closed, is_gone, those_in_time, without_fetch, without_fetches_of, without_round_of};
 ghost use Rattle.cache_law.specs.Beginning.{base_of};
-ghost use Rattle.cache_law.specs.Lookup.{raised};
-ghost use Rattle.cache_law.specs.Law.{answered, begun, drawn, dropped, leaving, inserted, ended};
+ghost use Rattle.cache_law.specs.BansAtOnce.{open_lines};
+ghost use Rattle.cache_law.specs.Law.{answered, begun, drawn, dropped, leaving, inserted, banned, purged, purged_by, picked, picked_at, health_set, loaded, switched, discarded, vcls_listed, ended};
+ghost use Rattle.cache_law.specs.History.{is_numbered};
 ghost use Rattle.cache_law.specs.Core.{is_kept};
-ghost use Rattle.flat_core.specs.declared.finding.Finding.TheVariants as findings;
 ghost use Rattle.flat_core.specs.Found.{is_insertion, opens_more, told_so, FindsFor};
 ghost use Rattle.flat_core.specs.Step.{Answers};
 
 use crate::answer::Answer;
-use crate::finding::{Finding, opens_fetch, seek};
+use crate::banning::{ban_fates, ban_lines};
+use crate::finding::{Found, hit_in, opens_fetch, reply_of, seek, wait_in};
+use crate::kept::Kept;
 use crate::lists::{
-    awaits, close_fetch, close_fetches_of, close_round_of, count_fetches_without, count_hit,
+    awaits, close_fetch, close_fetches_of, close_round_of, count_fetches_without, count_hit_of,
     count_rounds_without, count_without, has_fetch, has_round, is_closed, is_gone, keep_in_time,
-    open_fetch, put_first, remember, sizes_without,
+    next_after, open_fetch_if, put_first, remember, settle, sizes_without,
 };
+use crate::picking::{chosen, count_on, name_at, set_health_of};
+use crate::purging::{count_of_key, count_of_xkeys, drop_key, drop_xkeys, softened_all};
+use crate::vcls::{called, discard, has_backend, is_taken, keep_used, numbered, vcl_lines};
 use cache_law::{
-    Boot, Call, Object, ObjectView, OpenFetch, OpenRound, Query, Reply, Shared, Vcl, is_in_time,
-    object_size,
+    Ban, Boot, Call, Counter, ForcedHealth, Health, Issued, LoadedVcl, Object, OpenFetch,
+    OpenRound, Query, Reply, Shared, Target, Vcl, VclSource, is_in_time, object_size,
 };
 use std::alloc::{AllocError, Global};
 use std::collections::VecDeque;
 use std::marker::Model;
-use units::{Copied, Text};
+use units::{Copied, Sequence, Text};
 
 /// The number of the opening VCL.
 const BOOT_VCL: u32 = 1;
+
+/// The numbers of VCLs are below this.
+const VCL_NUMBERS: u64 = 1 << 32;
 
 /// What is kept, with the newest of each list first. Objects that aren't in time any more stand here until the
 /// next insertion: the law answers from those in time alone.
@@ -37,47 +46,65 @@ const BOOT_VCL: u32 = 1;
 pub(crate) struct Store {
     moment: u64,
     next: u64,
-    active: Vcl,
-    objects: VecDeque<ObjectView>,
+    next_vcl: u64,
+    active: Shared<Vcl>,
+    vcls: Vec<LoadedVcl>,
+    counters: Vec<Counter>,
+    health: Vec<ForcedHealth>,
+    bans: VecDeque<Issued>,
+    objects: VecDeque<Kept>,
     fetches: VecDeque<OpenFetch>,
     rounds: VecDeque<OpenRound>,
 }
 
 impl Model for Store {
-    ghost use Rattle.std.specs.Prelude.{[]};
     ghost use Rattle.cache_law.specs.State.{State};
-    ghost use Rattle.flat_core.specs.Kept.{held_all};
+    ghost use Rattle.flat_core.specs.Kept.{AreTested, held_all};
 
     ghost Value = { State };
 
     ghost view = { λ s. record {
       moment = s.moment;
       next = s.next;
+      next_vcl = s.next_vcl;
       active = s.active;
-      others = [];
-      counters = [];
-      health = [];
-      bans = [];
-      objects = held_all s.objects.items;
+      vcls = s.vcls.items;
+      counters = s.counters.items;
+      health = s.health.items;
+      bans = s.bans.items;
+      objects = held_all s.bans.items s.objects.items;
       fetches = s.fetches.items;
       rounds = s.rounds.items;
     } };
+
+    ghost invariant = { λ s. AreTested s.bans.items s.objects.items };
 }
 
 impl Store {
     pub fn new(alloc: Global, boot: &Boot) -> Result<Store, AllocError>
         ensures { IfOk result (λ store. store ≡ base_of boot.now) }
     {
-        let active = Vcl {
+        let vcl = Vcl {
             number: BOOT_VCL,
             name: Text::of(alloc, b"boot")?,
             text: boot.text.copy()?,
             backends: boot.backends.copied(alloc)?,
         };
+        let active = Shared::new(alloc, vcl)?;
+        let mut vcls = Vec::new(alloc);
+        vcls.push(LoadedVcl {
+            vcl: active.copy()?,
+            is_discarded: false,
+        })?;
         Ok(Store {
             moment: 0,
             next: 1,
+            next_vcl: u64::from(BOOT_VCL) + 1,
             active,
+            vcls,
+            counters: Vec::new(alloc),
+            health: Vec::new(alloc),
+            bans: VecDeque::new(alloc),
             objects: VecDeque::new(alloc),
             fetches: VecDeque::new(alloc),
             rounds: VecDeque::new(alloc),
@@ -105,30 +132,46 @@ impl Store {
     }
 
     /// What a call of the caller finds: a lookup in its open round finds something, and no other call does.
-    pub fn find(&self, caller: u32, moment: u64, call: &Call) -> Result<Option<Finding>, AllocError>
-        ensures found { IfOk result (λ finding. FindsFor (at_moment moment self.now) caller call.now finding) }
+    pub fn find(
+        &self,
+        alloc: Global,
+        caller: u32,
+        moment: u64,
+        call: &Call,
+    ) -> Result<Option<Found>, AllocError>
+        ensures found { IfOk result (λ found. FindsFor self.now moment caller call.now found) }
         ensures kept { is_kept self.now caller call.now ≡ true → IsOk result }
     {
         match call {
-            Call::Lookup(query) => self.find_for(caller, moment, query),
-            Call::Begin | Call::Draw | Call::Pick { .. } => Ok(None),
-            Call::Insert { .. } | Call::Drop { .. } | Call::End => Ok(None),
+            Call::Lookup(query) => self.find_for(alloc, caller, moment, query),
+            Call::Begin | Call::Draw | Call::Pick { .. } | Call::Insert { .. } => Ok(None),
+            Call::Ban(_) | Call::BanList | Call::Purge { .. } | Call::Xkey { .. } => Ok(None),
+            Call::SetHealth { .. } | Call::Load(_) | Call::Switch { .. } => Ok(None),
+            Call::Discard { .. } | Call::VclList | Call::Drop { .. } | Call::End => Ok(None),
         }
     }
 
     fn find_for(
         &self,
+        alloc: Global,
         caller: u32,
         moment: u64,
         query: &Query,
-    ) -> Result<Option<Finding>, AllocError>
-        ensures { IfOk result (λ finding. FindsFor (at_moment moment self.now) caller (LookupCall query.now) finding) }
+    ) -> Result<Option<Found>, AllocError>
+        ensures { IfOk result (λ found. FindsFor self.now moment caller (LookupCall query.now) found) }
     {
         if !has_round(&self.rounds, caller) {
             return Ok(None);
         }
-        let finding = seek(&self.objects, &self.fetches, moment, query)?;
-        Ok(Some(finding))
+        let found = seek(
+            alloc,
+            &self.objects,
+            &self.bans,
+            &self.fetches,
+            moment,
+            query,
+        )?;
+        Ok(Some(found))
     }
 
     /// How many rounds and fetches are open.
@@ -140,27 +183,39 @@ impl Store {
     }
 
     /// How many rounds and fetches are open behind the law's answer to the call, which finds so.
-    pub fn open_after(
-        &self,
-        caller: u32,
-        moment: u64,
-        call: &Call,
-        finding: &Option<Finding>,
-    ) -> u128
-        requires { FindsFor (at_moment moment self.now) caller call.now finding.now }
+    pub fn open_after(&self, caller: u32, moment: u64, call: &Call, found: &Option<Found>) -> u128
+        requires { FindsFor self.now moment caller call.now found.now }
         ensures reserve { (room : ℕ) → 64 * result ≡ reserve (answered room (at_moment moment self.now) caller call.now).state }
         ensures bound { result ≤ 2 ^ 65 }
     {
         match call {
             Call::Begin => self.open_with_round(caller),
             Call::Draw => self.open(),
-            Call::Lookup(_) => self.open_with(finding),
-            Call::Pick { .. } => self.open(),
+            Call::Lookup(_) => self.open_with(found),
+            Call::Pick { .. } | Call::Ban(_) | Call::BanList => self.open(),
+            Call::Purge { .. } | Call::Xkey { .. } | Call::SetHealth { .. } => self.open(),
+            Call::Load(_) | Call::Switch { .. } | Call::Discard { .. } => self.open(),
+            Call::VclList => self.open(),
             Call::Insert { token, stale, .. } => {
                 self.open_without_inserted(caller, moment, *token, *stale)
             }
             Call::Drop { token } => self.open_without_fetch(caller, *token),
             Call::End => self.open_without_round(caller),
+        }
+    }
+
+    /// Whether the law gives a VCL that the call loads a number of 32 bits.
+    pub fn is_numbered(&self, call: &Call) -> bool
+        ensures { (room caller moment : ℕ) → result ≡ is_numbered (answered room (at_moment moment self.now) caller call.now).reply }
+    {
+        match call {
+            Call::Load(source) => {
+                is_taken(self.vcls.as_slice(), &source.name) || self.next_vcl < VCL_NUMBERS
+            }
+            Call::Begin | Call::Draw | Call::Lookup(_) | Call::Pick { .. } => true,
+            Call::Insert { .. } | Call::Ban(_) | Call::BanList | Call::Purge { .. } => true,
+            Call::Xkey { .. } | Call::SetHealth { .. } | Call::Switch { .. } => true,
+            Call::Discard { .. } | Call::VclList | Call::Drop { .. } | Call::End => true,
         }
     }
 
@@ -177,13 +232,13 @@ impl Store {
     }
 
     /// What is open behind a lookup that found so.
-    fn open_with(&self, finding: &Option<Finding>) -> u128
-        ensures value { result ≡ length self.now.rounds + length self.now.fetches + (if opens_more finding.now then 1 else 0) }
+    fn open_with(&self, found: &Option<Found>) -> u128
+        ensures value { result ≡ length self.now.rounds + length self.now.fetches + (if opens_more found.now then 1 else 0) }
         ensures bound { result ≤ 2 ^ 65 }
     {
-        match finding {
+        match found {
             Some(found) => {
-                if opens_fetch(found) {
+                if opens_fetch(&found.finding) {
                     self.open() + 1
                 } else {
                     self.open()
@@ -245,10 +300,11 @@ impl Store {
         caller: u32,
         moment: u64,
         call: &Call,
-        finding: Option<Finding>,
+        found: Option<Found>,
     ) -> Result<Answer, AllocError>
-        requires found { FindsFor (at_moment moment self.old) caller call.now finding }
+        requires found { FindsFor self.old moment caller call.now found }
         requires numbers { self.old.next + 1 < 2 ^ 64 }
+        requires vcls { is_numbered (answered room (at_moment moment self.old) caller call.now).reply ≡ true }
         ensures ok { IfOk result (Answers self.old self.new moment call.now (answered room (at_moment moment self.old) caller call.now)) }
         ensures err { OnErr result (self.new ≡ self.old) }
         ensures kept { is_kept self.old caller call.now ≡ true → IsOk result }
@@ -256,13 +312,23 @@ impl Store {
         match call {
             Call::Begin => self.begin(alloc, caller, moment),
             Call::Draw => Ok(self.draw(caller, moment)),
-            Call::Lookup(query) => self.lookup(alloc, caller, moment, query, finding),
-            Call::Pick { target, .. } => self.pick(alloc, moment, target),
+            Call::Lookup(query) => self.lookup(alloc, caller, moment, query, found),
+            Call::Pick { vcl, target, word } => self.pick(alloc, moment, *vcl, target, *word),
             Call::Insert {
                 token,
                 object,
                 stale,
             } => Ok(self.insert(room, caller, moment, *token, object, *stale)),
+            Call::Ban(ban) => self.ban(alloc, moment, ban),
+            Call::BanList => self.list_bans(alloc, moment),
+            Call::Purge { key } => Ok(self.purge(moment, key)),
+            Call::Xkey { keys, soft: false } => Ok(self.purge_by(moment, keys)),
+            Call::Xkey { keys, soft: true } => self.soften_by(alloc, moment, keys),
+            Call::SetHealth { backend, health } => self.set_health(moment, backend, *health),
+            Call::Load(source) => self.load(alloc, moment, source),
+            Call::Switch { name } => self.switch(moment, name),
+            Call::Discard { name } => Ok(self.discard(moment, name)),
+            Call::VclList => self.list_vcls(alloc, moment),
             Call::Drop { token } => Ok(self.drop_fetch(caller, moment, *token)),
             Call::End => Ok(self.end(caller, moment)),
         }
@@ -279,7 +345,9 @@ impl Store {
         match call {
             Call::Insert { token, .. } => self.refuse_insertion(caller, moment, *token),
             Call::Begin | Call::Draw | Call::Lookup(_) | Call::Pick { .. } => None,
-            Call::Drop { .. } | Call::End => None,
+            Call::Ban(_) | Call::BanList | Call::Purge { .. } | Call::Xkey { .. } => None,
+            Call::SetHealth { .. } | Call::Load(_) | Call::Switch { .. } => None,
+            Call::Discard { .. } | Call::VclList | Call::Drop { .. } | Call::End => None,
         }
     }
 
@@ -349,28 +417,22 @@ impl Store {
         caller: u32,
         moment: u64,
         query: &Query,
-        finding: Option<Finding>,
+        found: Option<Found>,
     ) -> Result<Answer, AllocError>
-        requires found { FindsFor (at_moment moment self.old) caller (LookupCall query.now) finding }
+        requires found { FindsFor self.old moment caller (LookupCall query.now) found }
         requires numbers { self.old.next + 1 < 2 ^ 64 }
-        ensures ok { IfOk result (Answers self.old self.new moment (LookupCall query.now) (told_so (at_moment moment self.old) caller query.now.key finding)) }
+        ensures ok { IfOk result (Answers self.old self.new moment (LookupCall query.now) (told_so self.old moment caller query.now.key found)) }
         ensures err { OnErr result (self.new ≡ self.old) }
     {
-        match finding {
-            Some(Finding::Hit(view)) => self.give(alloc, caller, moment, query, &view),
-            Some(Finding::GraceAlone(view)) => self.give_stale(alloc, caller, moment, query, &view),
-            Some(Finding::Grace(view)) => self.give_and_fetch(alloc, caller, moment, query, &view),
-            Some(Finding::HitMiss) => self.fetch_marked(alloc, caller, moment, query),
-            Some(Finding::Miss(stale)) => self.miss(alloc, caller, moment, query, stale),
-            Some(Finding::HitPass) => Ok(self.pass(caller, moment, query)),
-            Some(Finding::Wait(token)) => Ok(self.wait(caller, moment, query, token)),
+        match found {
+            Some(found) => self.look(alloc, caller, moment, query, found),
             None => Ok(self.look_not(moment, query)),
         }
     }
 
     /// Without an open round.
     fn look_not(&mut self, moment: u64, query: &Query) -> Answer
-        ensures { (caller : ℕ) → Answers self.old self.new moment (LookupCall query.now) (told_so (at_moment moment self.old) caller query.now.key None) result }
+        ensures { (caller : ℕ) → Answers self.old self.new moment (LookupCall query.now) (told_so self.old moment caller query.now.key None) result }
     {
         self.moment = moment;
         Answer {
@@ -379,139 +441,280 @@ impl Store {
         }
     }
 
-    fn pass(&mut self, caller: u32, moment: u64, query: &Query) -> Answer
-        ensures { Answers self.old self.new moment (LookupCall query.now) (told_so (at_moment moment self.old) caller query.now.key (Some findings.HitPass)) result }
-    {
-        remember(&mut self.rounds, caller, None);
-        self.moment = moment;
-        Answer {
-            told: Reply::HitPass,
-            kept: Reply::HitPass,
-        }
-    }
-
-    fn wait(&mut self, caller: u32, moment: u64, query: &Query, token: u64) -> Answer
-        ensures { Answers self.old self.new moment (LookupCall query.now) (told_so (at_moment moment self.old) caller query.now.key (Some (findings.Wait token))) result }
-    {
-        remember(&mut self.rounds, caller, Some(token));
-        self.moment = moment;
-        Answer {
-            told: Reply::Wait(token),
-            kept: Reply::Wait(token),
-        }
-    }
-
-    /// Gives an object that is fresh.
-    fn give(
+    /// In an open round.
+    fn look(
         &mut self,
         alloc: Global,
         caller: u32,
         moment: u64,
         query: &Query,
-        view: &ObjectView,
-    ) -> Result<Answer, AllocError>
-        ensures ok { IfOk result (Answers self.old self.new moment (LookupCall query.now) (told_so (at_moment moment self.old) caller query.now.key (Some (findings.Hit view.now)))) }
-        ensures err { OnErr result (self.new ≡ self.old) }
-    {
-        let answer = Answer::twice(alloc, Reply::Hit(raised(view)?))?;
-        count_hit(&mut self.objects, view.number);
-        remember(&mut self.rounds, caller, None);
-        self.moment = moment;
-        Ok(answer)
-    }
-
-    /// Gives an object in grace whose key has an open fetch.
-    fn give_stale(
-        &mut self,
-        alloc: Global,
-        caller: u32,
-        moment: u64,
-        query: &Query,
-        view: &ObjectView,
-    ) -> Result<Answer, AllocError>
-        ensures ok { IfOk result (Answers self.old self.new moment (LookupCall query.now) (told_so (at_moment moment self.old) caller query.now.key (Some (findings.GraceAlone view.now)))) }
-        ensures err { OnErr result (self.new ≡ self.old) }
-    {
-        let answer = Answer::twice(alloc, graced(view, None)?)?;
-        count_hit(&mut self.objects, view.number);
-        remember(&mut self.rounds, caller, None);
-        self.moment = moment;
-        Ok(answer)
-    }
-
-    /// Gives an object in grace, and opens a fetch of its key.
-    fn give_and_fetch(
-        &mut self,
-        alloc: Global,
-        caller: u32,
-        moment: u64,
-        query: &Query,
-        view: &ObjectView,
+        found: Found,
     ) -> Result<Answer, AllocError>
         requires { self.old.next + 1 < 2 ^ 64 }
-        ensures ok { IfOk result (Answers self.old self.new moment (LookupCall query.now) (told_so (at_moment moment self.old) caller query.now.key (Some (findings.Grace view.now)))) }
+        ensures ok { IfOk result (Answers self.old self.new moment (LookupCall query.now) (told_so self.old moment caller query.now.key (Some found))) }
         ensures err { OnErr result (self.new ≡ self.old) }
     {
+        let opens = opens_fetch(&found.finding);
+        let hit = hit_in(&found.finding);
         let token = self.next;
-        let answer = Answer::twice(alloc, graced(view, Some(token))?)?;
-        open_fetch(alloc, &mut self.fetches, token, caller, &query.key)?;
-        self.next += 1;
-        count_hit(&mut self.objects, view.number);
-        remember(&mut self.rounds, caller, None);
+        let answer = Answer::twice(alloc, reply_of(token, found.finding))?;
+        open_fetch_if(alloc, &mut self.fetches, opens, token, caller, &query.key)?;
+        self.next = next_after(opens, token);
+        settle(&mut self.objects, found.fates.as_slice(), self.bans.len());
+        count_hit_of(&mut self.objects, hit);
+        remember(&mut self.rounds, caller, wait_in(&answer.told));
         self.moment = moment;
         Ok(answer)
     }
 
-    /// Opens a fetch of a key that is marked so.
-    fn fetch_marked(
-        &mut self,
-        alloc: Global,
-        caller: u32,
-        moment: u64,
-        query: &Query,
-    ) -> Result<Answer, AllocError>
-        requires { self.old.next + 1 < 2 ^ 64 }
-        ensures ok { IfOk result (Answers self.old self.new moment (LookupCall query.now) (told_so (at_moment moment self.old) caller query.now.key (Some findings.HitMiss))) }
+    /// Issues the ban.
+    fn ban(&mut self, alloc: Global, moment: u64, ban: &Shared<Ban>) -> Result<Answer, AllocError>
+        ensures ok { IfOk result (Answers self.old self.new moment (BanCall ban.now) (banned (at_moment moment self.old) ban.now)) }
         ensures err { OnErr result (self.new ≡ self.old) }
     {
-        let token = self.next;
-        open_fetch(alloc, &mut self.fetches, token, caller, &query.key)?;
-        self.next += 1;
-        remember(&mut self.rounds, caller, None);
+        let fates = ban_fates(alloc, moment, ban, &self.objects)?;
+        let issued = Issued {
+            number: self.bans.len() as u64 + 1,
+            moment,
+            ban: ban.copy()?,
+        };
+        self.bans.push_front(issued)?;
+        settle(&mut self.objects, fates.as_slice(), self.bans.len());
         self.moment = moment;
         Ok(Answer {
-            told: Reply::HitMiss { token },
-            kept: Reply::HitMiss { token },
+            told: Reply::Banned,
+            kept: Reply::Banned,
         })
     }
 
-    fn miss(
-        &mut self,
-        alloc: Global,
-        caller: u32,
-        moment: u64,
-        query: &Query,
-        stale: Option<ObjectView>,
-    ) -> Result<Answer, AllocError>
-        requires { self.old.next + 1 < 2 ^ 64 }
-        ensures ok { IfOk result (Answers self.old self.new moment (LookupCall query.now) (told_so (at_moment moment self.old) caller query.now.key (Some (findings.Miss stale)))) }
+    /// Lists all bans.
+    fn list_bans(&mut self, alloc: Global, moment: u64) -> Result<Answer, AllocError>
+        ensures ok { IfOk result (Answers self.old self.new moment BanListCall (leaving (at_moment moment self.old) (Bans (open_lines self.old.bans)))) }
         ensures err { OnErr result (self.new ≡ self.old) }
     {
-        let token = self.next;
-        let answer = Answer::twice(alloc, Reply::Miss { token, stale })?;
-        open_fetch(alloc, &mut self.fetches, token, caller, &query.key)?;
-        self.next += 1;
-        remember(&mut self.rounds, caller, None);
+        let answer = Answer::twice(alloc, Reply::Bans(ban_lines(alloc, &self.bans)?))?;
         self.moment = moment;
         Ok(answer)
     }
 
-    /// So far a target is the name of one backend.
-    fn pick(&mut self, alloc: Global, moment: u64, target: &Text) -> Result<Answer, AllocError>
-        ensures ok { (vcl word : ℕ) → IfOk result (Answers self.old self.new moment (PickCall vcl target.now word) (leaving (at_moment moment self.old) (Picked (Some target.now)))) }
+    /// Picks a member of the target by the health of the VCL's backends and the director's counter.
+    fn pick(
+        &mut self,
+        alloc: Global,
+        moment: u64,
+        vcl: u32,
+        target: &Target,
+        word: u64,
+    ) -> Result<Answer, AllocError>
+        ensures ok { IfOk result (Answers self.old self.new moment (PickCall vcl target.now word) (picked (at_moment moment self.old) vcl target.now word)) }
         ensures err { OnErr result (self.new ≡ self.old) }
     {
-        let answer = Answer::twice(alloc, Reply::Picked(Some(target.copy()?)))?;
+        let place = chosen(
+            alloc,
+            self.health.as_slice(),
+            self.counters.as_slice(),
+            vcl,
+            target,
+            word,
+        )?;
+        match place {
+            Some(place) => self.pick_at(alloc, moment, vcl, target, place),
+            None => Ok(self.pick_none(moment)),
+        }
+    }
+
+    /// Picks the member at the place.
+    fn pick_at(
+        &mut self,
+        alloc: Global,
+        moment: u64,
+        vcl: u32,
+        target: &Target,
+        place: usize,
+    ) -> Result<Answer, AllocError>
+        requires { place < length target.now.members }
+        ensures ok { (word : ℕ) → IfOk result (Answers self.old self.new moment (PickCall vcl target.now word) (picked_at (at_moment moment self.old) vcl target.now (Some place))) }
+        ensures err { OnErr result (self.new ≡ self.old) }
+    {
+        let name = name_at(target.members.as_slice(), place)?;
+        let answer = Answer::twice(alloc, Reply::Picked(name))?;
+        count_on(&mut self.counters, vcl, target, place)?;
+        self.moment = moment;
+        Ok(answer)
+    }
+
+    /// No member is healthy.
+    fn pick_none(&mut self, moment: u64) -> Answer
+        ensures { (vcl word : ℕ) (target : Aim) → Answers self.old self.new moment (PickCall vcl target word) (picked_at (at_moment moment self.old) vcl target None) result }
+    {
+        self.moment = moment;
+        Answer {
+            told: Reply::Picked(None),
+            kept: Reply::Picked(None),
+        }
+    }
+
+    /// Removes the objects of the key.
+    fn purge(&mut self, moment: u64, key: &Sequence<Text>) -> Answer
+        ensures { Answers self.old self.new moment (PurgeCall key.now) (purged (at_moment moment self.old) key.now) result }
+    {
+        let count = count_of_key(&self.objects, moment, key.as_slice()) as u64;
+        drop_key(&mut self.objects, moment, key.as_slice());
+        self.moment = moment;
+        Answer {
+            told: Reply::Purged(count),
+            kept: Reply::Purged(count),
+        }
+    }
+
+    /// Removes the objects that have one of the xkeys.
+    fn purge_by(&mut self, moment: u64, keys: &Sequence<Text>) -> Answer
+        ensures { Answers self.old self.new moment (XkeyCall keys.now false) (purged_by (at_moment moment self.old) keys.now false) result }
+    {
+        let count = count_of_xkeys(&self.objects, moment, keys.as_slice()) as u64;
+        drop_xkeys(&mut self.objects, moment, keys.as_slice());
+        self.moment = moment;
+        Answer {
+            told: Reply::Purged(count),
+            kept: Reply::Purged(count),
+        }
+    }
+
+    /// Ends the lifetime of the objects that have one of the xkeys.
+    fn soften_by(
+        &mut self,
+        alloc: Global,
+        moment: u64,
+        keys: &Sequence<Text>,
+    ) -> Result<Answer, AllocError>
+        ensures ok { IfOk result (Answers self.old self.new moment (XkeyCall keys.now true) (purged_by (at_moment moment self.old) keys.now true)) }
+        ensures err { OnErr result (self.new ≡ self.old) }
+    {
+        let count = count_of_xkeys(&self.objects, moment, keys.as_slice()) as u64;
+        let left = softened_all(alloc, moment, keys.as_slice(), &self.objects)?;
+        self.objects = left;
+        self.moment = moment;
+        Ok(Answer {
+            told: Reply::Purged(count),
+            kept: Reply::Purged(count),
+        })
+    }
+
+    /// Sets the health of a backend of the active VCL.
+    fn set_health(
+        &mut self,
+        moment: u64,
+        backend: &Text,
+        given: Health,
+    ) -> Result<Answer, AllocError>
+        ensures ok { IfOk result (Answers self.old self.new moment (SetHealthCall backend.now given) (health_set (at_moment moment self.old) backend.now given)) }
+        ensures err { OnErr result (self.new ≡ self.old) }
+    {
+        if !has_backend(self.active.backends.as_slice(), backend) {
+            self.moment = moment;
+            return Ok(Answer {
+                told: Reply::HealthSet(false),
+                kept: Reply::HealthSet(false),
+            });
+        }
+        set_health_of(&mut self.health, self.active.number, backend, given)?;
+        self.moment = moment;
+        Ok(Answer {
+            told: Reply::HealthSet(true),
+            kept: Reply::HealthSet(true),
+        })
+    }
+
+    /// Loads the VCL, where its name is free.
+    fn load(&mut self, alloc: Global, moment: u64, source: &VclSource) -> Result<Answer, AllocError>
+        requires { is_numbered (loaded (at_moment moment self.old) source.now).reply ≡ true }
+        ensures ok { IfOk result (Answers self.old self.new moment (LoadCall source.now) (loaded (at_moment moment self.old) source.now)) }
+        ensures err { OnErr result (self.new ≡ self.old) }
+    {
+        if is_taken(self.vcls.as_slice(), &source.name) {
+            self.moment = moment;
+            return Ok(Answer {
+                told: Reply::NameTaken,
+                kept: Reply::NameTaken,
+            });
+        }
+        let number = self.next_vcl as u32;
+        let vcl = Shared::new(alloc, numbered(alloc, number, source)?)?;
+        self.vcls.push(LoadedVcl {
+            vcl,
+            is_discarded: false,
+        })?;
+        self.next_vcl += 1;
+        self.moment = moment;
+        Ok(Answer {
+            told: Reply::Loaded(number),
+            kept: Reply::Loaded(number),
+        })
+    }
+
+    /// Makes the VCL of the name the active one.
+    fn switch(&mut self, moment: u64, name: &Text) -> Result<Answer, AllocError>
+        ensures ok { IfOk result (Answers self.old self.new moment (SwitchCall name.now) (switched (at_moment moment self.old) name.now)) }
+        ensures err { OnErr result (self.new ≡ self.old) }
+    {
+        let vcl = match called(self.vcls.as_slice(), name) {
+            Some(found) => found.vcl.copy()?,
+            None => {
+                self.moment = moment;
+                return Ok(Answer {
+                    told: Reply::NoVcl,
+                    kept: Reply::NoVcl,
+                });
+            }
+        };
+        self.active = vcl;
+        self.moment = moment;
+        Ok(Answer {
+            told: Reply::Switched,
+            kept: Reply::Switched,
+        })
+    }
+
+    /// Discards the VCL of the name, unless it is active.
+    fn discard(&mut self, moment: u64, name: &Text) -> Answer
+        ensures { Answers self.old self.new moment (DiscardCall name.now) (discarded (at_moment moment self.old) name.now) result }
+    {
+        self.moment = moment;
+        let number = match called(self.vcls.as_slice(), name) {
+            Some(found) => found.vcl.number,
+            None => {
+                return Answer {
+                    told: Reply::NoVcl,
+                    kept: Reply::NoVcl,
+                };
+            }
+        };
+        if number == self.active.number {
+            return Answer {
+                told: Reply::IsActive,
+                kept: Reply::IsActive,
+            };
+        }
+        discard(&mut self.vcls, number);
+        keep_used(&mut self.vcls, &self.rounds);
+        Answer {
+            told: Reply::Discarded,
+            kept: Reply::Discarded,
+        }
+    }
+
+    /// Lists the VCLs.
+    fn list_vcls(&mut self, alloc: Global, moment: u64) -> Result<Answer, AllocError>
+        ensures ok { IfOk result (Answers self.old self.new moment VclListCall (vcls_listed (at_moment moment self.old))) }
+        ensures err { OnErr result (self.new ≡ self.old) }
+    {
+        let lines = vcl_lines(
+            alloc,
+            self.active.number,
+            &self.rounds,
+            self.vcls.as_slice(),
+        )?;
+        let answer = Answer::twice(alloc, Reply::Vcls(lines))?;
         self.moment = moment;
         Ok(answer)
     }
@@ -556,7 +759,7 @@ impl Store {
                 kept: Reply::NoRoom,
             };
         }
-        if put_first(&mut self.objects, token, object, stale).is_err() {
+        if put_first(&mut self.objects, token, object, stale, self.bans.len()).is_err() {
             return Answer {
                 told: Reply::Refused,
                 kept: Reply::Refused,
@@ -597,6 +800,7 @@ impl Store {
         }
         close_round_of(&mut self.rounds, caller);
         close_fetches_of(&mut self.fetches, caller);
+        keep_used(&mut self.vcls, &self.rounds);
         Answer {
             told: Reply::Ended,
             kept: Reply::Ended,
@@ -611,25 +815,5 @@ fn began(number: u64, vcl: &Vcl) -> Result<Reply, AllocError>
         number,
         vcl: vcl.number,
         text: vcl.text.copy()?,
-    })
-}
-
-/// The view with one more hit, of the same object.
-fn raised(view: &ObjectView) -> Result<ObjectView, AllocError>
-    ensures { IfOk result (λ copy. copy ≡ raised view.now) }
-{
-    Ok(ObjectView {
-        number: view.number,
-        hits: view.hits.saturating_add(1),
-        object: view.object.copy()?,
-    })
-}
-
-fn graced(view: &ObjectView, token: Option<u64>) -> Result<Reply, AllocError>
-    ensures { IfOk result (λ reply. reply ≡ Grace (raised view.now) token) }
-{
-    Ok(Reply::Grace {
-        object: raised(view)?,
-        token,
     })
 }

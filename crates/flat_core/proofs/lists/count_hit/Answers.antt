@@ -9,7 +9,7 @@ index_mut-requires c = omega (arith, ap length c.loop-place.invariant, length-pa
 pub loop-place-preserved : goal.loop-place-preserved
 loop-place-preserved c =
     let below : c.loop-place.place < length c.args.objects.now.items = omega (arith, c.args.objects.now.ok) in
-    one_passed (counted_in c.args.number) c.loop-place.place c.args.objects.now.items c.loop-place.objects.items c.index_mut.result.now c.count_in.new.view below c.loop-place.invariant c.index_mut.ensures.value c.count_in.ensures
+    one_passed (counted_in c.args.number) c.loop-place.place c.args.objects.now.items c.loop-place.objects.items c.index_mut.result.now c.count_in.new.kept below c.loop-place.invariant c.index_mut.ensures.value c.count_in.ensures
 
 pub returns : goal.returns
 returns c =

@@ -1,6 +1,6 @@
 use Rattle.std.proofs.Common.{rules, ◌==◌}
 use Rattle.cache_law.specs.declared.state.OpenRound.{OpenRound}
-use Rattle.flat_core.proofs.Scans.{find-front, find-behind}
+use Rattle.flat_core.proofs.Objects.{find-front, find-behind}
 use Rattle.flat_core.proofs.lists.round_of.Goals as goal
 
 pub returns-in-Some : goal.returns-in-Some

@@ -3,5 +3,5 @@ use Rattle.flat_core.specs.Kept.{sizes_staying}
 use Rattle.flat_core.proofs.lists.sizes_from.Given as goal
 
 -- the objects so far are counted
-abbrev pub invariant-loop-view : goal.invariant-loop-view
-invariant-loop-view l = l.total ≡ min (l.start + sizes_staying l.stale (take l.view-index l.objects)) (2 ^ 128 - 1)
+abbrev pub invariant-loop-kept : goal.invariant-loop-kept
+invariant-loop-kept l = l.total ≡ min (l.start + sizes_staying l.stale (take l.kept-index l.objects)) (2 ^ 128 - 1)

@@ -1,11 +1,31 @@
-use Rattle.std.proofs.Common.{rules, ◌≡◌, ◌+◌, ◌*◌, ◌≤◌, ◌++◌, ◌∷◌, [], arith, length, refl}
+use Rattle.std.proofs.Common.{rules, ◌≡◌, ◌+◌, ◌*◌, ◌≤◌, ◌++◌, ◌∷◌, [], arith, length, refl, sym, ◌∙◌}
 use Rattle.std.specs.Prelude.{IsTrue}
 use Rattle.std.proofs.lemmas.Bool.{false≢true}
 use Rattle.std.specs.Vec.{vec_capacity}
 use Rattle.cache_law.specs.Beginning.{beginning_of}
 use Rattle.cache_law.specs.History.{bytes_of}
-use Rattle.flat_core.proofs.Steps.{Made, Answered, within_limit, kept_too, sound_behind, entered, legal_behind}
+use Rattle.flat_core.proofs.Steps.{Made, Answered, within_limit, numbered_behind, kept_too, sound_behind, entered, legal_behind}
 use Rattle.flat_core.proofs.cache.FlatCoreCacheCore.step.Goals as goal
+
+pub returns-then-not-is_numbered-clause-full : goal.returns-then-not-is_numbered-clause-full
+returns-then-not-is_numbered-clause-full c =
+    let made : Made = record {
+      beginning = beginning_of c.self.inside.params c.self.inside.boot;
+      entries = c.self.inside.entries.items;
+      room = vec_capacity c.self.inside.entries;
+      used = c.self.inside.used;
+      old = c.self.inside.store;
+      caller = c.args.caller;
+      reading = c.args.reading;
+      moment = c.max-moment.result;
+      call = c.args.call;
+      opens = c.open_after-open.result;
+      sound = c.self.invariant;
+      waited = rw (← c.self.view_is) at c.requires.waited;
+      at_ = search rules;
+      reserves = c.open_after-open.ensures.reserve c.self.inside.params.room;
+    } in
+    rw (← c.self.view_is) (λ full fits. let numbered_ = numbered_behind made fits in absurd (false≢true (sym c.if-not-is_numbered.true ∙ c.is_numbered.ensures c.self.inside.params.room c.args.caller c.max-moment.result ∙ numbered_)))
 
 pub returns-then-not-fits-clause-full : goal.returns-then-not-fits-clause-full
 returns-then-not-fits-clause-full c =
@@ -54,7 +74,7 @@ invariant_of-self-2 c =
       reserves = c.open_after-open.ensures.reserve c.self.inside.params.room;
     } in
     let within : made.used + bytes_of made.call + 64 * made.opens ≤ made.beginning.params.history = search rules in
-    let done : Answered made = record { new = c.answer_within-answered.new.store; answer = c.in-Ok-answered.answer; answers = c.in-Ok-answered.ensures.ok; within = within } in
+    let done : Answered made = record { new = c.answer_within-answered.new.store; answer = c.in-Ok-answered.answer; answers = c.in-Ok-answered.ensures.ok; number = sym (c.is_numbered.ensures c.self.inside.params.room c.args.caller c.max-moment.result) ∙ c.if-not-is_numbered.false; within = within } in
     let bytes : c.entry_bytes.result ≡ bytes_of c.args.call = omega (arith, within) in
     let items : c.push_within_room.new.entries.items ≡ c.self.inside.entries.items ++ record { caller = c.args.caller; moment = c.max-moment.result; call = c.args.call; reply = c.in-Ok-answered.answer.kept } ∷ [] = search rules in
     let room : length c.self.inside.entries.items + 1 + length done.new.rounds + length done.new.fetches ≤ vec_capacity c.push_within_room.new.entries = search rules in
@@ -79,7 +99,7 @@ returns-clause-told c =
       reserves = c.open_after-open.ensures.reserve c.self.inside.params.room;
     } in
     let within : made.used + bytes_of made.call + 64 * made.opens ≤ made.beginning.params.history = search rules in
-    let done : Answered made = record { new = c.answer_within-answered.new.store; answer = c.in-Ok-answered.answer; answers = c.in-Ok-answered.ensures.ok; within = within } in
+    let done : Answered made = record { new = c.answer_within-answered.new.store; answer = c.in-Ok-answered.answer; answers = c.in-Ok-answered.ensures.ok; number = sym (c.is_numbered.ensures c.self.inside.params.room c.args.caller c.max-moment.result) ∙ c.if-not-is_numbered.false; within = within } in
     let bytes : c.entry_bytes.result ≡ bytes_of c.args.call = omega (arith, within) in
     let items : c.push_within_room.new.entries.items ≡ c.self.inside.entries.items ++ record { caller = c.args.caller; moment = c.max-moment.result; call = c.args.call; reply = c.in-Ok-answered.answer.kept } ∷ [] = search rules in
     rw (← c.self.view_is, items) (entered made done c.len-place.result (search rules))
@@ -103,7 +123,7 @@ returns-clause-legal c =
       reserves = c.open_after-open.ensures.reserve c.self.inside.params.room;
     } in
     let within : made.used + bytes_of made.call + 64 * made.opens ≤ made.beginning.params.history = search rules in
-    let done : Answered made = record { new = c.answer_within-answered.new.store; answer = c.in-Ok-answered.answer; answers = c.in-Ok-answered.ensures.ok; within = within } in
+    let done : Answered made = record { new = c.answer_within-answered.new.store; answer = c.in-Ok-answered.answer; answers = c.in-Ok-answered.ensures.ok; number = sym (c.is_numbered.ensures c.self.inside.params.room c.args.caller c.max-moment.result) ∙ c.if-not-is_numbered.false; within = within } in
     let bytes : c.entry_bytes.result ≡ bytes_of c.args.call = omega (arith, within) in
     let items : c.push_within_room.new.entries.items ≡ c.self.inside.entries.items ++ record { caller = c.args.caller; moment = c.max-moment.result; call = c.args.call; reply = c.in-Ok-answered.answer.kept } ∷ [] = search rules in
     rw (← c.self.view_is, items) (legal_behind _ _ _ _ _ _ _ (entered made done _ refl))

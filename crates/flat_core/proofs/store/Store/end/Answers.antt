@@ -8,4 +8,4 @@ returns-then-not-has_round c =
 
 pub returns : goal.returns
 returns c =
-    rw (← c.self.view_is) (ends _ _ _ _ _ _ (search rules) (search rules) (search rules) refl refl)
+    rw (← c.self.view_is) (ends _ _ _ _ _ _ _ (search rules) (search rules) (search rules) (search rules) refl refl)

@@ -15,7 +15,7 @@ returns-in-Draw-clause-reserve c room =
 pub returns-in-Lookup-clause-reserve : goal.returns-in-Lookup-clause-reserve
 returns-in-Lookup-clause-reserve c room =
     rw (c.in-Lookup.is, c.open_with.ensures.value)
-    (lookup_reserve (at_moment c.args.moment c.args.self.now) c.args.caller c.in-Lookup.field-0.key c.args.finding.now
+    (lookup_reserve c.args.self.now c.args.moment c.args.caller c.in-Lookup.field-0.key c.args.found.now
     ∙ ap (λ (step : Step). reserve step.state) (sym (rw c.in-Lookup.is at c.requires)))
 
 pub returns-in-Insert-clause-reserve : goal.returns-in-Insert-clause-reserve

@@ -1,0 +1,10 @@
+use Rattle.std.proofs.Common.{rules, refl}
+use Rattle.flat_core.specs.contracts.store.Store.{the_view}
+use Rattle.flat_core.proofs.Replies.{sets_health, sets_no_health}
+use Rattle.flat_core.proofs.store.Store.set_health.Goals as goal
+
+pub returns-then-not-has_backend-clause-ok : goal.returns-then-not-has_backend-clause-ok
+returns-then-not-has_backend-clause-ok c = rw (← c.self.view_is) (sets_no_health (the_view c.self.inside) _ _ _ _ (search rules) refl refl)
+
+pub returns-clause-ok : goal.returns-clause-ok
+returns-clause-ok c = rw (← c.self.view_is) (sets_health (the_view c.self.inside) _ _ _ _ _ (search rules) (search rules) refl refl)

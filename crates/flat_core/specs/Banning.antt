@@ -1,0 +1,16 @@
+-- What becomes of the objects in memory when a ban is issued.
+use Rattle.std.specs.Prelude.{ℕ, Bool, List, [], ◌&&◌, None, map, if◌then◌else◌}
+use Rattle.cache_law.specs.declared.ban.Ban.{Ban}
+use Rattle.cache_law.specs.Object.{in_time}
+use Rattle.cache_law.specs.Bans.{ban_matches, object_only}
+use Rattle.flat_core.specs.declared.kept.Kept.{Kept}
+use Rattle.flat_core.specs.declared.kept.Fate.{Fate}
+use Rattle.flat_core.specs.declared.kept.Fate.TheVariants.{Stays, Goes}
+
+-- what becomes of an object when a ban is issued that looks at objects alone
+abbrev pub banned_fate : ℕ → Ban → Kept → Fate
+banned_fate now ban kept = if in_time now kept.view.object && ban_matches ban now kept.view.object None then Goes else Stays
+
+-- any other ban waits
+abbrev pub ban_fates : ℕ → Ban → List Kept → List Fate
+ban_fates now ban objects = if object_only ban then map (banned_fate now ban) objects else []
