@@ -1,5 +1,5 @@
 -- Replies behind interim replies, as more and more of the input is read.
-use Rattle.std.proofs.Common.{◌≡◌, ◌⊎◌, inl, inr, ℕ, zero, suc, ◌≤◌, Bool, true, false, IsTrue, not, ◌&&◌, ◌==◌, List, [], ◌++◌, length, drop, Option, Result, Ok, Err, refl, sym, ◌∙◌, ap, subst, arith}
+use Rattle.std.proofs.Common.{◌≡◌, ◌⊎◌, inl, inr, ℕ, zero, suc, ◌≤◌, Bool, true, false, not, ◌&&◌, ◌==◌, List, [], ◌++◌, length, drop, Option, Ok, Err, sym, ◌∙◌, ap, subst, arith}
 use Rattle.std.proofs.lemmas.List.{append_assoc, length-append, drop-append-le}
 use Rattle.http_bodies.specs.Framings.{Frames, reply_kind}
 use Rattle.http_bodies.specs.declared.framing.Framing.{Framing}

@@ -1,5 +1,5 @@
 -- What the parts of a conversation tell of all that went over the link.
-use Rattle.std.proofs.Common.{◌≡◌, ◌⊎◌, inl, inr, ℕ, ◌+◌, ◌<◌, List, [], ◌++◌, length, take, Option, Result, Ok, Err, OnOk, OnErr, is_ok, true, false, refl, sym, ◌∙◌, ap, subst, arith}
+use Rattle.std.proofs.Common.{◌≡◌, inl, inr, ℕ, ◌+◌, ◌<◌, List, [], ◌++◌, length, take, Option, Result, Ok, Err, OnOk, OnErr, is_ok, true, false, refl, sym, ap, subst, arith}
 use Rattle.std.proofs.lemmas.List.{append-nil, length-append}
 use Rattle.std.proofs.Math.Seq.{take-append-add}
 use Rattle.http_heads.specs.declared.exchange.BackendRequest.{BackendRequest}
@@ -11,7 +11,7 @@ use Rattle.message_reader.specs.declared.stop.Stop.{Stop}
 use Rattle.message_reader.specs.declared.stop.Stop.TheVariants as stops
 use Rattle.wire.specs.Flow.{Flow, Moves, MovesPart}
 use Rattle.wire.proofs.Flowing.{Moves-none, Moves-trans}
-use Rattle.backend_link.specs.Exchanges.{sent_text, answer_of, exchange_of, HasReply, IsCutShort, IsUnread, Answers, Conversed}
+use Rattle.backend_link.specs.Exchanges.{sent_text, answer_of, exchange_of, HasReply, Answers, Conversed}
 
 -- the second part was cut short
 pub part_behind : (first second third : Option Flow) (head body : List ℕ) → Moves first second [] head → MovesPart second third body → MovesPart first third (head ++ body)

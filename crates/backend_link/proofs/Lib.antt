@@ -1,5 +1,5 @@
 mod BehindFacts
 mod ConversedFacts
-mod SaidHeads
+pub mod SaidHeads
 mod SaidBodies
-mod SaidFacts
+pub mod SaidFacts

@@ -1,31 +1,32 @@
 -- What was told of the bytes that came is what all of them say, and they say one thing.
-use Rattle.std.proofs.Common.{◌≡◌, ◌≢◌, ◌⊎◌, inl, inr, ℕ, ◌<◌, ◌≤◌, Bool, true, false, ◌==◌, ◌&&◌, not, List, [], ◌++◌, length, drop, Result, Ok, Err, Option, Some, None, refl, sym, ◌∙◌, ap, subst, arith}
+use Rattle.std.proofs.Common.{◌≡◌, ◌≢◌, inl, inr, ℕ, ◌<◌, Bool, true, false, ◌==◌, ◌&&◌, not, List, [], ◌++◌, drop, Ok, Err, Option, Some, None, refl, sym, ◌∙◌, ap, subst, arith}
 use Rattle.std.proofs.lemmas.Bool.{cases_lt}
 use Rattle.std.proofs.lemmas.List.{append-nil, drop-append-le}
 use Rattle.http_bodies.specs.Answers.{IsBroken}
 use Rattle.http_bodies.specs.Bodies.{BeginsWith}
-use Rattle.http_bodies.specs.Framings.{Frames, reply_kind}
-use Rattle.http_bodies.specs.declared.framing.Kind.{Kind}
+use Rattle.http_bodies.specs.Framings.{reply_kind}
+use Rattle.http_bodies.proofs.FramingFacts.{one_framing}
 use Rattle.http_bodies.specs.declared.framing.Framing.{Framing}
 use Rattle.http_heads.specs.Heads.{HasResponse, AnswersResponse, responses}
-use Rattle.http_heads.specs.Lines.{HasTooManyLines}
 use Rattle.http_heads.specs.declared.exchange.Backend.{Backend}
 use Rattle.http_heads.specs.declared.exchange.BackendRequest.{BackendRequest}
 use Rattle.http_heads.specs.declared.exchange.Exchange.{Exchange}
 use Rattle.http_heads.specs.declared.exchange.Exchange.TheVariants as answers
-use Rattle.http_heads.specs.declared.fields.Field.{Field}
 use Rattle.http_heads.specs.declared.message.ResponseHead.{ResponseHead}
+use Rattle.http_heads.proofs.HeadFacts.{few_lines}
+use Rattle.http_heads.proofs.HeadLines.{lines_of_responses}
 use Rattle.http_heads.proofs.SentFacts.{longer_head, one_response}
 use Rattle.message_reader.specs.BodiesTold.{BreaksOff}
 use Rattle.message_reader.specs.declared.stop.Stop.{Stop}
 use Rattle.message_reader.specs.declared.stop.Stop.TheVariants.{Read, Early, BadHead, BadBody, TooLarge, NoMemory}
+use Rattle.message_reader.proofs.LongerBodies.{body_longer, broken_longer}
 use Rattle.wire.specs.Flow.{Flow, IsOver}
 use Rattle.wire.specs.declared.peer.Talk.{Talk}
 use Rattle.backend_link.specs.Exchanges.{exchange_of, answer_of, asks_head, HasReply, Answers, Conversed, Exchanged}
 use Rattle.backend_link.specs.Replies.{body_limit, interim_limit, is_interim, is_passed, Behind, HasFinal, IsRefused, HasFramed, ReplyAt}
-use Rattle.backend_link.specs.Said.{Outcome, NeverHasHead, SaysBody, SaysBehind, SaysAt, Says, SaidBy, IsSaid, HasFewLines}
+use Rattle.backend_link.specs.Said.{Outcome, NeverHasHead, SaysBody, SaysBehind, SaysAt, Says, SaidBy, IsSaid}
 use Rattle.backend_link.proofs.BehindFacts.{behind_longer, head_within}
-use Rattle.backend_link.proofs.SaidBodies.{body_longer, broken_longer, one_said}
+use Rattle.backend_link.proofs.SaidBodies.{one_said}
 use Rattle.backend_link.proofs.SaidHeads.{never_longer, one_behind, passed_at}
 
 -- neither a read failed nor was memory wanting
@@ -147,9 +148,9 @@ exchange_said flow backend request before after answer (inr (inr none)) dials wr
 early_lacks : (bytes : List ℕ) (head : ResponseHead) (count : ℕ) → AnswersResponse bytes (Ok None) → HasResponse bytes head count → ⊥
 early_lacks bytes head count early has = early.1 head count has
 
-never_has : (bytes : List ℕ) (head : ResponseHead) (count : ℕ) → ¬ (HasTooManyLines bytes) → NeverHasHead bytes → HasResponse bytes head count → ⊥
-never_has bytes head count few (inl never) has = never.0 head count has
-never_has bytes head count few (inr many) has = few many
+never_has : (bytes : List ℕ) (head : ResponseHead) (count : ℕ) → NeverHasHead bytes → HasResponse bytes head count → ⊥
+never_has bytes head count (inl never) has = never.0 head count has
+never_has bytes head count (inr many) has = few_lines responses lines_of_responses bytes head count has many
 
 never_early : (bytes : List ℕ) → NeverHasHead bytes → AnswersResponse bytes (Ok None) → ⊥
 never_early bytes (inl never) early = never.1 early
@@ -161,50 +162,46 @@ refused_final k bytes head count refused final =
     let never : true ≡ false = sym refused.interim ∙ ap (λ (h : ResponseHead). is_interim h.status) same.0 ∙ final.final in
     cc
 
--- the fields of a message frame its body in one way at most
-abbrev pub OneFraming : Type 0
-OneFraming = (kind : Kind) (fields : List Field) (a b : Framing) → Frames kind fields a → Frames kind fields b → a ≡ b
-
-one_there : OneFraming → (to_head : Bool) (bytes : List ℕ) (a b : Outcome) (head : ResponseHead) (count : ℕ) → SaysBehind to_head bytes a head count
+one_there : (to_head : Bool) (bytes : List ℕ) (a b : Outcome) (head : ResponseHead) (count : ℕ) → SaysBehind to_head bytes a head count
     → SaysBehind to_head bytes b head count → a ≡ b
-one_there framings to_head bytes a b head count (inl x) (inl y) =
-    let same = framings (reply_kind head.status to_head) head.fields y.0 x.0 y.1 x.1 in
+one_there to_head bytes a b head count (inl x) (inl y) =
+    let same = one_framing (reply_kind head.status to_head) head.fields y.0 x.0 y.1 x.1 in
     one_said x.0 head (drop count bytes) a b x.2 (subst (λ (f : Framing). SaysBody f head (drop count bytes) b) same y.2)
-one_there framings to_head bytes a b head count (inl x) (inr y) = absurd (y.0 x.0 x.1)
-one_there framings to_head bytes a b head count (inr x) (inl y) = absurd (x.0 y.0 y.1)
-one_there framings to_head bytes a b head count (inr x) (inr y) = x.1 ∙ sym y.1
+one_there to_head bytes a b head count (inl x) (inr y) = absurd (y.0 x.0 x.1)
+one_there to_head bytes a b head count (inr x) (inl y) = absurd (x.0 y.0 y.1)
+one_there to_head bytes a b head count (inr x) (inr y) = x.1 ∙ sym y.1
 
-one_here : OneFraming → (to_head : Bool) (k : ℕ) (bytes : List ℕ) (a b : Outcome) → ¬ (HasTooManyLines bytes) → SaysAt to_head k bytes a → SaysAt to_head k bytes b → a ≡ b
-one_here framings to_head k bytes a b few (inl x) (inl y) = x.1 ∙ sym y.1
-one_here framings to_head k bytes a b few (inl x) (inr (inl y)) = absurd (never_early bytes y.0 x.0)
-one_here framings to_head k bytes a b few (inl x) (inr (inr (inl y))) = absurd (early_lacks bytes y.0.head y.0.count x.0 y.0.has)
-one_here framings to_head k bytes a b few (inl x) (inr (inr (inr y))) = absurd (early_lacks bytes y.0 y.1 x.0 y.2.has)
-one_here framings to_head k bytes a b few (inr (inl x)) (inl y) = absurd (never_early bytes x.0 y.0)
-one_here framings to_head k bytes a b few (inr (inl x)) (inr (inl y)) = x.1 ∙ sym y.1
-one_here framings to_head k bytes a b few (inr (inl x)) (inr (inr (inl y))) = absurd (never_has bytes y.0.head y.0.count few x.0 y.0.has)
-one_here framings to_head k bytes a b few (inr (inl x)) (inr (inr (inr y))) = absurd (never_has bytes y.0 y.1 few x.0 y.2.has)
-one_here framings to_head k bytes a b few (inr (inr (inl x))) (inl y) = absurd (early_lacks bytes x.0.head x.0.count y.0 x.0.has)
-one_here framings to_head k bytes a b few (inr (inr (inl x))) (inr (inl y)) = absurd (never_has bytes x.0.head x.0.count few y.0 x.0.has)
-one_here framings to_head k bytes a b few (inr (inr (inl x))) (inr (inr (inl y))) = x.1 ∙ sym y.1
-one_here framings to_head k bytes a b few (inr (inr (inl x))) (inr (inr (inr y))) = absurd (refused_final k bytes y.0 y.1 x.0 y.2)
-one_here framings to_head k bytes a b few (inr (inr (inr x))) (inl y) = absurd (early_lacks bytes x.0 x.1 y.0 x.2.has)
-one_here framings to_head k bytes a b few (inr (inr (inr x))) (inr (inl y)) = absurd (never_has bytes x.0 x.1 few y.0 x.2.has)
-one_here framings to_head k bytes a b few (inr (inr (inr x))) (inr (inr (inl y))) = absurd (refused_final k bytes x.0 x.1 y.0 x.2)
-one_here framings to_head k bytes a b few (inr (inr (inr x))) (inr (inr (inr y))) =
+one_here : (to_head : Bool) (k : ℕ) (bytes : List ℕ) (a b : Outcome) → SaysAt to_head k bytes a → SaysAt to_head k bytes b → a ≡ b
+one_here to_head k bytes a b (inl x) (inl y) = x.1 ∙ sym y.1
+one_here to_head k bytes a b (inl x) (inr (inl y)) = absurd (never_early bytes y.0 x.0)
+one_here to_head k bytes a b (inl x) (inr (inr (inl y))) = absurd (early_lacks bytes y.0.head y.0.count x.0 y.0.has)
+one_here to_head k bytes a b (inl x) (inr (inr (inr y))) = absurd (early_lacks bytes y.0 y.1 x.0 y.2.has)
+one_here to_head k bytes a b (inr (inl x)) (inl y) = absurd (never_early bytes x.0 y.0)
+one_here to_head k bytes a b (inr (inl x)) (inr (inl y)) = x.1 ∙ sym y.1
+one_here to_head k bytes a b (inr (inl x)) (inr (inr (inl y))) = absurd (never_has bytes y.0.head y.0.count x.0 y.0.has)
+one_here to_head k bytes a b (inr (inl x)) (inr (inr (inr y))) = absurd (never_has bytes y.0 y.1 x.0 y.2.has)
+one_here to_head k bytes a b (inr (inr (inl x))) (inl y) = absurd (early_lacks bytes x.0.head x.0.count y.0 x.0.has)
+one_here to_head k bytes a b (inr (inr (inl x))) (inr (inl y)) = absurd (never_has bytes x.0.head x.0.count y.0 x.0.has)
+one_here to_head k bytes a b (inr (inr (inl x))) (inr (inr (inl y))) = x.1 ∙ sym y.1
+one_here to_head k bytes a b (inr (inr (inl x))) (inr (inr (inr y))) = absurd (refused_final k bytes y.0 y.1 x.0 y.2)
+one_here to_head k bytes a b (inr (inr (inr x))) (inl y) = absurd (early_lacks bytes x.0 x.1 y.0 x.2.has)
+one_here to_head k bytes a b (inr (inr (inr x))) (inr (inl y)) = absurd (never_has bytes x.0 x.1 y.0 x.2.has)
+one_here to_head k bytes a b (inr (inr (inr x))) (inr (inr (inl y))) = absurd (refused_final k bytes x.0 x.1 y.0 x.2)
+one_here to_head k bytes a b (inr (inr (inr x))) (inr (inr (inr y))) =
     let same = one_response bytes x.0 y.0 x.1 y.1 x.2.has y.2.has in
     let counted = subst (λ (n : ℕ). SaysBehind to_head bytes b y.0 n) (sym same.1) y.3 in
-    one_there framings to_head bytes a b x.0 x.1 x.3 (subst (λ (h : ResponseHead). SaysBehind to_head bytes b h x.1) (sym same.0) counted)
+    one_there to_head bytes a b x.0 x.1 x.3 (subst (λ (h : ResponseHead). SaysBehind to_head bytes b h x.1) (sym same.0) counted)
 
 first_of_both : (p q : Bool) → (p && q) ≡ true → p ≡ true
 first_of_both true q both = refl
 first_of_both false q both = both
 
 -- where an interim reply is passed over, nothing else is said
-only_passed : (to_head : Bool) (k : ℕ) (bytes : List ℕ) (a : Outcome) (head : ResponseHead) (count : ℕ) → ¬ (HasTooManyLines bytes) → k < interim_limit
+only_passed : (to_head : Bool) (k : ℕ) (bytes : List ℕ) (a : Outcome) (head : ResponseHead) (count : ℕ) → k < interim_limit
     → HasResponse bytes head count → is_passed head.status ≡ true → SaysAt to_head k bytes a → ⊥
-only_passed to_head k bytes a head count few low has passed (inl x) = early_lacks bytes head count x.0 has
-only_passed to_head k bytes a head count few low has passed (inr (inl x)) = never_has bytes head count few x.0 has
-only_passed to_head k bytes a head count few low has passed (inr (inr (inl x))) =
+only_passed to_head k bytes a head count low has passed (inl x) = early_lacks bytes head count x.0 has
+only_passed to_head k bytes a head count low has passed (inr (inl x)) = never_has bytes head count x.0 has
+only_passed to_head k bytes a head count low has passed (inr (inr (inl x))) =
     let r = x.0 in
     let same = one_response bytes r.head head r.count count r.has has in
     elim r.last [
@@ -213,27 +210,27 @@ only_passed to_head k bytes a head count few low has passed (inr (inr (inl x))) 
           cc
       | inr many ↦ omega (arith, many, low)
     ]
-only_passed to_head k bytes a head count few low has passed (inr (inr (inr x))) =
+only_passed to_head k bytes a head count low has passed (inr (inr (inr x))) =
     let same = one_response bytes x.0 head x.1 count x.2.has has in
     let interim = first_of_both (is_interim head.status) (not (head.status == 101)) passed in
     let never : true ≡ false = sym interim ∙ sym (ap (λ (h : ResponseHead). is_interim h.status) same.0) ∙ x.2.final in
     cc
 
-not_later : (to_head : Bool) (bytes : List ℕ) (a b : Outcome) → HasFewLines bytes → (x : Says to_head bytes a) (y : Says to_head bytes b) → ¬ (x.0 < y.0)
-not_later to_head bytes a b few x y less =
+not_later : (to_head : Bool) (bytes : List ℕ) (a b : Outcome) (x : Says to_head bytes a) (y : Says to_head bytes b) → ¬ (x.0 < y.0)
+not_later to_head bytes a b x y less =
     let p = passed_at x.0 y.0 bytes x.1 y.1 less x.3 y.3 in
-    only_passed to_head x.0 x.1 a p.0 p.1 (few x.0 x.1 x.3) (omega (arith, less, y.2)) p.2 p.3 x.4
+    only_passed to_head x.0 x.1 a p.0 p.1 (omega (arith, less, y.2)) p.2 p.3 x.4
 
-pub one_answer : OneFraming → (to_head : Bool) (bytes : List ℕ) (a b : Outcome) → HasFewLines bytes → Says to_head bytes a → Says to_head bytes b → a ≡ b
-one_answer framings to_head bytes a b few x y = elim (cases_lt x.0 y.0) [
-  | inl less ↦ absurd (not_later to_head bytes a b few x y less)
+pub one_answer : (to_head : Bool) (bytes : List ℕ) (a b : Outcome) → Says to_head bytes a → Says to_head bytes b → a ≡ b
+one_answer to_head bytes a b x y = elim (cases_lt x.0 y.0) [
+  | inl less ↦ absurd (not_later to_head bytes a b x y less)
   | inr first ↦ elim (cases_lt y.0 x.0) [
-    | inl less ↦ absurd (not_later to_head bytes b a few y x less)
+    | inl less ↦ absurd (not_later to_head bytes b a y x less)
     | inr second ↦
         let same : y.0 ≡ x.0 = omega (arith, first, second) in
         let there : Behind x.0 bytes y.1 = subst (λ (n : ℕ). Behind n bytes y.1) same y.3 in
         let texts : y.1 ≡ x.1 = one_behind x.0 bytes y.1 x.1 there x.3 in
         let numbered = subst (λ (n : ℕ). SaysAt to_head n y.1 b) same y.4 in
-        one_here framings to_head x.0 x.1 a b (few x.0 x.1 x.3) x.4 (subst (λ (t : List ℕ). SaysAt to_head x.0 t b) texts numbered)
+        one_here to_head x.0 x.1 a b x.4 (subst (λ (t : List ℕ). SaysAt to_head x.0 t b) texts numbered)
   ]
 ]

@@ -1,5 +1,5 @@
 -- What the bytes of a backend say: the one answer to a request, where these are all that come.
-use Rattle.std.specs.Prelude.{◌≡◌, ◌⊎◌, ℕ, ◌≤◌, Bool, true, false, List, [], length, drop, Result, Ok, Err, Option, Some, None}
+use Rattle.std.specs.Prelude.{◌≡◌, ◌⊎◌, ℕ, ◌≤◌, Bool, List, length, drop, Result, Ok, Err, Option, Some, None}
 use Rattle.http_bodies.specs.Answers.{CanEndWithin, IsBroken}
 use Rattle.http_bodies.specs.Bodies.{IsBody, BeginsWith}
 use Rattle.http_bodies.specs.Framings.{Frames, reply_kind}
@@ -13,7 +13,7 @@ use Rattle.http_heads.specs.declared.exchange.Exchange.{Exchange}
 use Rattle.http_heads.specs.declared.message.ResponseHead.{ResponseHead}
 use Rattle.message_reader.specs.Causes.{body_stop}
 use Rattle.message_reader.specs.declared.stop.Stop.{Stop}
-use Rattle.message_reader.specs.declared.stop.Stop.TheVariants.{Read, Early, BadHead, BadBody, TooLarge, NoMemory}
+use Rattle.message_reader.specs.declared.stop.Stop.TheVariants.{Early, BadHead, BadBody}
 use Rattle.wire.specs.Flow.{Flow}
 use Rattle.wire.specs.declared.peer.Talk.{Talk}
 use Rattle.backend_link.specs.Exchanges.{exchange_of, asks_head, HasTalk}
@@ -53,10 +53,6 @@ SaysAt to_head passed bytes outcome =
 abbrev pub Says : Bool → List ℕ → Outcome → Type 0
 Says to_head bytes outcome =
     (passed : ℕ) × (text : List ℕ) × (passed ≤ interim_limit) × Behind passed bytes text × SaysAt to_head passed text outcome
-
--- no head in the bytes has more lines than a head may have
-abbrev pub HasFewLines : List ℕ → Type 0
-HasFewLines bytes = (passed : ℕ) (text : List ℕ) → Behind passed bytes text → ¬ (HasTooManyLines text)
 
 -- the answer is the one that the bytes say which the link gives from here to its end, where these are told
 abbrev pub SaidBy : BackendRequest → Option Flow → Exchange → Type 0

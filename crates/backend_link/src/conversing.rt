@@ -69,7 +69,8 @@ fn answer_of_stop(stop: Stop) -> Exchange
     }
 }
 
-fn answered(outcome: Result<(ResponseHead, Text), Stop>) -> Exchange
+/// What the reading of a reply comes to as an exchange: the reply, a fault from 3 on, or want of memory.
+pub fn answered(outcome: Result<(ResponseHead, Text), Stop>) -> Exchange
     ensures { result ≡ exchange_of outcome }
 {
     match outcome {

@@ -5,16 +5,12 @@ ghost use Rattle.http_heads.specs.declared.exchange.Exchange.{Exchange as Answer
 ghost use Rattle.http_heads.specs.declared.exchange.Exchange.TheVariants.{Fault, NoMemory};
 ghost use Rattle.wire.specs.Flow.{Flow};
 ghost use Rattle.backend_link.specs.Exchanges.{Conversed};
-ghost use Rattle.backend_link.specs.Said.{Outcome, Says, SaidBy, HasFewLines};
+ghost use Rattle.backend_link.specs.Said.{Outcome, Says, SaidBy};
 
-use http_bodies::one_framing;
-
-/// Bytes say one answer at most, where no head in them has more lines than a head may have. Where neither a write nor a read
-/// failed and memory was there, the answer of a conversation is the one that the bytes say which the link had left.
+/// Bytes say one answer at most. Where neither a write nor a read failed and memory was there, the answer of a conversation is
+/// the one that the bytes say which the link had left.
 pub fn one_answer()
-    ensures one { (to_head : Bool) (bytes : List ℕ) (a b : Outcome) → HasFewLines bytes → Says to_head bytes a → Says to_head bytes b → a ≡ b }
+    ensures one { (to_head : Bool) (bytes : List ℕ) (a b : Outcome) → Says to_head bytes a → Says to_head bytes b → a ≡ b }
     ensures said { (request : Request) (before after : Option Flow) (answer : Answer) → Conversed request before after answer
         → answer ≢ Fault 2 → answer ≢ Fault 3 → answer ≢ NoMemory → SaidBy request before answer }
-{
-    one_framing();
-}
+{}

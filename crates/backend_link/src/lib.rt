@@ -12,6 +12,7 @@ mod replies;
 #[cfg(test)]
 mod tests;
 
-pub use conversing::converse;
+pub use conversing::{answered, converse};
 pub use dialing::exchange;
 pub use laws::one_answer;
+pub use replies::is_interim;

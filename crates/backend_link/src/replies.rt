@@ -17,7 +17,8 @@ const MOST_INTERIM: u8 = 8;
 /// The most bytes of a reply's body.
 const LONGEST_BODY: u64 = 8_388_608;
 
-fn is_interim(status: u16) -> bool
+/// Whether a reply of this status stands in front of another (RFC 9110, section 15.2).
+pub fn is_interim(status: u16) -> bool
     ensures { result ≡ interim_status status }
 {
     (100..200).contains(&status)

@@ -1,5 +1,5 @@
 -- What a reader of a body tells of all that came.
-use Rattle.std.proofs.Common.{◌≡◌, ◌≢◌, ◌⊎◌, inl, inr, ℕ, ◌+◌, ◌≤◌, Bool, true, List, [], ◌∷◌, ◌++◌, length, take, drop, Option, Some, None, Result, Ok, Err, refl, sym, ◌∙◌, ap, subst}
+use Rattle.std.proofs.Common.{◌≡◌, ◌⊎◌, inl, inr, ℕ, ◌+◌, List, [], ◌∷◌, ◌++◌, length, take, drop, Option, Some, None, Result, Ok, Err, refl, sym, ◌∙◌, ap, subst}
 use Rattle.std.proofs.lemmas.List.{append-nil, append_assoc, take-append-drop}
 use Rattle.std.proofs.Math.Seq.{take-append-add, drop-append-add}
 use Rattle.http_bodies.specs.declared.framing.Framing.{Framing}
@@ -8,14 +8,14 @@ use Rattle.http_bodies.specs.declared.framing.BodyError.{BodyError}
 use Rattle.http_bodies.specs.declared.framing.BodyError.TheVariants as bodies
 use Rattle.http_bodies.specs.Bodies.{BeginsWith}
 use Rattle.http_bodies.specs.Reading.{ReaderState, Makes, Follows, Starts, refusal}
-use Rattle.http_bodies.specs.Answers.{IsBroken, HasEndWithin, GoesOn, Takes, Refuses}
-use Rattle.http_bodies.proofs.AnswerFacts.{Follows-nil, Follows-trans, has_end_after}
+use Rattle.http_bodies.specs.Answers.{IsBroken, HasEndWithin, GoesOn, Takes}
+use Rattle.http_bodies.proofs.AnswerFacts.{Follows-trans, has_end_after}
 use Rattle.http_bodies.proofs.LawFacts.{cut_taken, cut_refused}
 use Rattle.http_bodies.proofs.Fronts.{text_found, text_broken, text_early, early_none, not_refused, none_made}
 use Rattle.wire.specs.Flow.{Flow, IsOver}
 use Rattle.message_reader.specs.Causes.{body_stop}
 use Rattle.message_reader.specs.Inputs.{Fills}
-use Rattle.message_reader.specs.BodiesTold.{HasBody, EndsEarly, BreaksOff, BodyTold, TakesAll, Denies, HeldTold, FeedStops, Fed}
+use Rattle.message_reader.specs.BodiesTold.{HasBody, EndsEarly, BodyTold, TakesAll, Denies, FeedStops, Fed}
 use Rattle.message_reader.specs.declared.stop.Stop.{Stop}
 use Rattle.message_reader.specs.declared.stop.Stop.TheVariants.{Read, Early, BadHead, BadBody, TooLarge, NoMemory}
 

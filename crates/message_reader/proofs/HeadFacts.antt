@@ -1,11 +1,9 @@
 -- What a head's answer is as a stop.
-use Rattle.std.proofs.Common.{◌≡◌, ℕ, Bool, true, List, Option, Result, Ok, Err, refl, sym, subst}
+use Rattle.std.proofs.Common.{ℕ, List, Option, Result, Err}
 use Rattle.http_heads.specs.declared.message.HeadError.{HeadError}
-use Rattle.http_heads.specs.declared.message.HeadError.TheVariants as heads
-use Rattle.wire.specs.Flow.{Flow, IsOver}
-use Rattle.message_reader.specs.Causes.{head_stop}
+use Rattle.wire.specs.Flow.{Flow}
 use Rattle.message_reader.specs.Inputs.{Fills}
-use Rattle.message_reader.specs.HeadsTold.{HeadTold, TryTold}
+use Rattle.message_reader.specs.HeadsTold.{HeadTold}
 use Rattle.message_reader.specs.declared.stop.Stop.{Stop}
 use Rattle.message_reader.specs.declared.stop.Stop.TheVariants.{Read, Early, BadHead, BadBody, TooLarge, NoMemory}
 

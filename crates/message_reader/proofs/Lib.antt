@@ -1,3 +1,5 @@
 pub mod Errors
 mod HeadFacts
 mod BodyFacts
+pub mod LongerHeads
+pub mod LongerBodies

@@ -4,7 +4,7 @@ use Rattle.http_bodies.specs.declared.framing.BodyError.TheVariants as bodies
 use Rattle.http_heads.specs.declared.message.HeadError.{HeadError}
 use Rattle.http_heads.specs.declared.message.HeadError.TheVariants as heads
 use Rattle.message_reader.specs.declared.stop.Stop.{Stop}
-use Rattle.message_reader.specs.declared.stop.Stop.TheVariants.{Read, Early, BadHead, BadBody, TooLarge, NoMemory}
+use Rattle.message_reader.specs.declared.stop.Stop.TheVariants.{Early, BadHead, BadBody, TooLarge, NoMemory}
 
 abbrev pub head_stop : HeadError → Stop
 head_stop heads.Bad = BadHead

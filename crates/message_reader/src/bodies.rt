@@ -29,7 +29,7 @@ pub fn read_body<L: Link>(
 {
     let mut reader = BodyReader::of(alloc, framing, limit);
     feed_all(link, held, room, &mut reader)?;
-    match reader.finish(alloc) {
+    match reader.finish() {
         Ok(body) => Ok(body),
         Err(error) => Err(stop_of_body(error)),
     }

@@ -1,4 +1,2 @@
-mod Bodies
 mod Heads
 pub mod Once
-mod Passing

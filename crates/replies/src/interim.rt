@@ -1,8 +1,9 @@
 // The interim replies in front of a reply.
 ghost use Rattle.std.specs.Prelude.{◌≡◌, IfOk};
-ghost use Rattle.backend_link.specs.Replies.{is_interim as interim_status, is_passed as passed_status};
+ghost use Rattle.backend_link.specs.Replies.{is_passed as passed_status};
 ghost use Rattle.replies.specs.Replies.{IsBehindAll, IsHeadAt};
 
+use backend_link::is_interim;
 use http_heads::{HeadError, ResponseHead, read_response};
 use message_reader::Stop;
 use std::alloc::{AllocError, Global};
@@ -28,12 +29,6 @@ pub(crate) fn read_head(
             }
         }
     }
-}
-
-pub(crate) fn is_interim(status: u16) -> bool
-    ensures { result ≡ interim_status status }
-{
-    (100..200).contains(&status)
 }
 
 // 101 changes the protocol, so no reply stands behind it.

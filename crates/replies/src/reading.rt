@@ -1,9 +1,10 @@
 // A reply as all its bytes.
-ghost use Rattle.std.specs.Prelude.{◌≡◌, IfOk};
-ghost use Rattle.backend_link.specs.Exchanges.{answer_of, exchange_of};
-ghost use Rattle.replies.specs.Replies.{IsBodyOf, IsFramedAs, IsReplyAt, IsReplyTo};
+ghost use Rattle.std.specs.Prelude.{◌≡◌, ◌≤◌, ℕ, List, length, IfOk};
+ghost use Rattle.backend_link.specs.Said.{SaysBody, SaysBehind, SaysAt};
+ghost use Rattle.replies.specs.Replies.{IsBehindAll, IsReplyTo};
 
-use crate::interim::{is_interim, pass_interim, read_head};
+use crate::interim::{pass_interim, read_head};
+use backend_link::{answered, is_interim};
 use http_bodies::{BodyError, Framing, frame, kind_of_reply, read_body};
 use http_heads::{Exchange, ResponseHead};
 use message_reader::Stop;
@@ -13,16 +14,17 @@ use units::Text;
 /// The most bytes of a reply's body.
 const LONGEST_BODY: u64 = 8_388_608;
 
-// The body with this framing, or why there is none.
+// The head with its body, which has this framing; or why there is no body.
 fn read_framed(
     alloc: Global,
+    head: ResponseHead,
     framing: Framing,
     text: &[u8],
-) -> Result<Result<Text, Stop>, AllocError>
-    ensures { IfOk result (IsBodyOf framing text.now) }
+) -> Result<Result<(ResponseHead, Text), Stop>, AllocError>
+    ensures { IfOk result (λ reply. SaysBody framing head text.now reply) }
 {
     match read_body(alloc, framing, LONGEST_BODY, text) {
-        Ok((body, _)) => Ok(Ok(body)),
+        Ok((body, _)) => Ok(Ok((head, body))),
         Err(BodyError::NoMemory) => Err(AllocError),
         Err(BodyError::Early) => Ok(Err(Stop::Early)),
         Err(BodyError::TooLarge) => Ok(Err(Stop::TooLarge)),
@@ -30,28 +32,30 @@ fn read_framed(
     }
 }
 
-// What stands behind a reply's head, or why it is no body.
+// The head with what stands behind it, or why that is no body.
 fn read_behind(
     alloc: Global,
-    head: &ResponseHead,
+    head: ResponseHead,
+    count: usize,
     to_head: bool,
     text: &[u8],
-) -> Result<Result<Text, Stop>, AllocError>
-    ensures { IfOk result (IsFramedAs to_head head.now text.now) }
+) -> Result<Result<(ResponseHead, Text), Stop>, AllocError>
+    requires { count ≤ length text.now }
+    ensures { IfOk result (λ reply. SaysBehind to_head text.now reply head count) }
 {
     match frame(&head.fields, kind_of_reply(head.status, to_head)) {
-        Ok(framing) => read_framed(alloc, framing, text),
+        Ok(framing) => read_framed(alloc, head, framing, &text[count..]),
         Err(_) => Ok(Err(Stop::BadBody)),
     }
 }
 
-// The reply that isn't interim, or why it isn't read.
+// The reply behind all interim ones, or why it isn't read.
 fn read_final(
     alloc: Global,
     text: &[u8],
     to_head: bool,
 ) -> Result<Result<(ResponseHead, Text), Stop>, AllocError>
-    ensures { IfOk result (IsReplyAt to_head text.now) }
+    ensures { IfOk result (λ reply. (bytes : List ℕ) (passed : ℕ) → IsBehindAll bytes text.now passed → SaysAt to_head passed text.now reply) }
 {
     let (head, count) = match read_head(alloc, text)? {
         Ok(found) => found,
@@ -60,32 +64,7 @@ fn read_final(
     if is_interim(head.status) {
         return Ok(Err(Stop::BadHead));
     }
-    match read_behind(alloc, &head, to_head, &text[count..])? {
-        Ok(body) => Ok(Ok((head, body))),
-        Err(stop) => Ok(Err(stop)),
-    }
-}
-
-fn fault_of(stop: Stop) -> Exchange
-    ensures { result ≡ answer_of stop }
-{
-    match stop {
-        Stop::Read => Exchange::Fault(3),
-        Stop::Early => Exchange::Fault(4),
-        Stop::BadHead => Exchange::Fault(5),
-        Stop::BadBody => Exchange::Fault(6),
-        Stop::TooLarge => Exchange::Fault(7),
-        Stop::NoMemory => Exchange::NoMemory,
-    }
-}
-
-fn answered(outcome: Result<(ResponseHead, Text), Stop>) -> Exchange
-    ensures { result ≡ exchange_of outcome }
-{
-    match outcome {
-        Ok((head, body)) => Exchange::Reply(head, body),
-        Err(stop) => fault_of(stop),
-    }
+    read_behind(alloc, head, count, to_head, text)
 }
 
 /// What the bytes of a reply and their end come to, where the request was HEAD or not: the first reply that isn't

@@ -1,5 +1,5 @@
 -- One more head behind the interim replies.
-use Rattle.std.proofs.Common.{◌≡◌, ◌+◌, sym, ◌∙◌, refl, arith}
+use Rattle.std.proofs.Common.{◌+◌, sym, ◌∙◌, arith}
 use Rattle.message_reader.specs.Inputs.{Hears}
 use Rattle.message_reader.proofs.Errors.{at_err}
 use Rattle.backend_link.specs.Replies.{BehindInterim, FinalAt}

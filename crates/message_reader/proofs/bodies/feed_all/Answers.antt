@@ -1,5 +1,5 @@
 -- What was fed, and what came behind it.
-use Rattle.std.proofs.Common.{◌≡◌, ◌++◌, [], List, ℕ, take, inl, inr, ◌∙◌, ap, arith}
+use Rattle.std.proofs.Common.{◌++◌, [], List, ℕ, take, inl, inr, ◌∙◌, ap, arith}
 use Rattle.wire.proofs.Flowing.{Moves-trans}
 use Rattle.message_reader.specs.BodiesTold.{FeedTold}
 use Rattle.message_reader.specs.Inputs.{Hears}

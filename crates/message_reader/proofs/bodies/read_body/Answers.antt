@@ -1,5 +1,5 @@
 -- What the reader told of all that came.
-use Rattle.std.proofs.Common.{◌++◌, List, ℕ, Err, refl, sym, subst}
+use Rattle.std.proofs.Common.{◌++◌, Err, refl, sym, subst}
 use Rattle.message_reader.specs.BodiesTold.{BodyTold}
 use Rattle.message_reader.specs.Inputs.{Hears}
 use Rattle.message_reader.specs.declared.stop.Stop.{Stop}

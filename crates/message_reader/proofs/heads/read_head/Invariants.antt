@@ -1,5 +1,5 @@
 -- All that came is held, and `ended` is told at the end alone.
-use Rattle.std.proofs.Common.{◌≡◌, ℕ, ◌+◌, ◌-◌, ◌*◌, ◌≤◌, List, length, true, if◌then◌else◌}
+use Rattle.std.proofs.Common.{◌≡◌, ◌+◌, ◌-◌, ◌*◌, ◌≤◌, length, true, if◌then◌else◌}
 use Rattle.wire.specs.Flow.{IsOver}
 use Rattle.message_reader.specs.Inputs.{Hears}
 use Rattle.message_reader.proofs.heads.read_head.Given as goal

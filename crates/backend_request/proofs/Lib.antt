@@ -1,0 +1,3 @@
+mod AskedFacts
+mod HostFacts
+mod ReceivedFacts
