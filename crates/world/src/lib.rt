@@ -16,8 +16,6 @@ mod listener;
 mod planned_kit;
 mod port_listener;
 mod system_world;
-#[cfg(test)]
-mod tests;
 mod worlds;
 
 pub use failing_listener::{AcceptedLink, Coming, FailingListener};

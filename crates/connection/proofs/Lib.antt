@@ -1,0 +1,3 @@
+mod RequestFacts
+mod TurnFacts
+pub mod ReadingFacts

@@ -1,0 +1,66 @@
+// The next request of a connection.
+ghost use Rattle.std.specs.Prelude.{◌≡◌, ◌<◌, ◌≤◌, length, IsErrOf};
+ghost use Rattle.wire.specs.Causes.{Rose};
+ghost use Rattle.message_reader.specs.Inputs.{Hears};
+ghost use Rattle.connection.specs.Reading.{RequestTold, MoreTold, FramedTold};
+
+use http_bodies::{Framing, Kind, frame};
+use http_heads::{Fields, RequestHead};
+use message_reader::{Intake, Stop, fill, read_body, read_head};
+use std::alloc::Global;
+use units::Text;
+use wire::Link;
+
+/// The most bytes of a request's body.
+const LONGEST_BODY: u64 = 1_048_576;
+
+// Whether a byte is held or comes.
+fn has_more<L: Link>(link: &mut L, held: &mut Intake, room: &mut [u8]) -> Result<bool, Stop>
+    requires { 0 < length room.old }
+    ensures told { Hears (L.flow link.old) (L.flow link.new) held.old (MoreTold (L.flow link.new) held.new result) }
+    ensures later { L.read_faults link.old ≤ L.read_faults link.new }
+    ensures failed { IsErrOf result Stop.Read → Rose (L.read_faults link.old) (L.read_faults link.new) }
+    ensures other { L.write_faults link.new ≡ L.write_faults link.old }
+    ensures peer { L.peer link.new ≡ L.peer link.old }
+{
+    if !held.bytes().is_empty() {
+        return Ok(true);
+    }
+    let count = fill(link, held, room)?;
+    Ok(count > 0)
+}
+
+// Where the body of a request with these fields ends. A request with two Host fields is refused (RFC 9112, section 3.2).
+fn frame_request(fields: &Fields) -> Result<Framing, Stop>
+    ensures { FramedTold fields.now result }
+{
+    if fields.count(b"host") > 1 {
+        return Err(Stop::BadHead);
+    }
+    frame(fields, Kind::Request).map_err(|_| Stop::BadBody)
+}
+
+/// Reads the next request, whose body has at most 1,048,576 bytes. What stands behind it is held. None is the end of the
+/// input between requests. `Early`, `BadHead`, `BadBody` and `TooLarge` say that no request stands there: the input ends
+/// inside it; its head is refused or has two Host fields; its fields frame no body, or the body breaks; it is too large.
+pub fn read_request<L: Link>(
+    alloc: Global,
+    link: &mut L,
+    held: &mut Intake,
+    room: &mut [u8],
+) -> Result<Option<(RequestHead, Text)>, Stop>
+    requires { 0 < length room.old }
+    ensures told { Hears (L.flow link.old) (L.flow link.new) held.old (RequestTold (L.flow link.new) held.new result) }
+    ensures later { L.read_faults link.old ≤ L.read_faults link.new }
+    ensures failed { IsErrOf result Stop.Read → Rose (L.read_faults link.old) (L.read_faults link.new) }
+    ensures other { L.write_faults link.new ≡ L.write_faults link.old }
+    ensures peer { L.peer link.new ≡ L.peer link.old }
+{
+    if !has_more(link, held, room)? {
+        return Ok(None);
+    }
+    let head: RequestHead = read_head(alloc, link, held, room)?;
+    let framing = frame_request(&head.fields)?;
+    let body = read_body(alloc, link, held, room, framing, LONGEST_BODY)?;
+    Ok(Some((head, body)))
+}
