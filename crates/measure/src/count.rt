@@ -1,5 +1,6 @@
 // Counting the bytes of a body and the tokens of a text.
 ghost use Rattle.std.specs.Prelude.{◌≡◌, ◌≢◌, ◌≤◌, ◌<◌, ◌⊎◌, ℕ, true, Some, None, Ok, Err, length, take, IfOk, IfErr};
+ghost use Rattle.units.specs.Outcomes.{Gives};
 ghost use Rattle.http_bodies.specs.Reading.{Follows, refusal, is_whole};
 ghost use Rattle.http_bodies.specs.Answers.{Refuses};
 ghost use Rattle.http_bodies.specs.declared.framing.BodyError.TheVariants as Fault;
@@ -33,14 +34,17 @@ impl From<AllocError> for CountError {
 }
 
 /// The number that the task asks for.
-pub fn count(alloc: Global, task: Task, input: &[u8]) -> Result<u64, CountError>
-    ensures given { IfOk result (IsCount task input.now) }
-    ensures found { (n : ℕ) → IsCount task input.now n → (result ≡ Ok n) ⊎ (result ≡ Err NoMemory) }
+pub fn count(alloc: Global, task: Task, input: Vec<u8>) -> Result<u64, CountError>
+    ensures given { IfOk result (IsCount task input.items) }
+    ensures found { (n : ℕ) → IsCount task input.items n → Gives NoMemory result n }
 {
     match task {
         Task::Bodies { shape, piece } => match shape {
-            Shape::Chunked => body_bytes(alloc, Framing::Chunked, input, piece),
-            Shape::Sized => body_bytes(alloc, Framing::Length(input.len() as u64), input, piece),
+            Shape::Chunked => body_bytes(alloc, Framing::Chunked, input.as_slice(), piece),
+            Shape::Sized => {
+                let length = input.len() as u64;
+                body_bytes(alloc, Framing::Length(length), input.as_slice(), piece)
+            }
         },
         Task::Tokens => token_count(alloc, input),
     }
@@ -49,13 +53,13 @@ pub fn count(alloc: Global, task: Task, input: &[u8]) -> Result<u64, CountError>
 // The bytes of the body that stands at the front of the input, fed in pieces of so many bytes.
 fn body_bytes(alloc: Global, framing: Framing, input: &[u8], piece: u64) -> Result<u64, CountError>
     ensures given { IfOk result (HasBody framing input.now) }
-    ensures found { (n : ℕ) → HasBody framing input.now n → (result ≡ Ok n) ⊎ (result ≡ Err NoMemory) }
+    ensures found { (n : ℕ) → HasBody framing input.now n → Gives NoMemory result n }
 {
     let mut reader = BodyReader::of(alloc, framing, BODY_LIMIT);
     if let Err(error) = feed_pieces(&mut reader, input, piece) {
         return Err(counted_error(error));
     }
-    match reader.finish(alloc) {
+    match reader.finish() {
         Ok(body) => Ok(body.bytes().len() as u64),
         Err(error) => Err(counted_error(error)),
     }
@@ -94,14 +98,12 @@ fn counted_error(error: BodyError) -> CountError
     }
 }
 
-fn token_count(alloc: Global, input: &[u8]) -> Result<u64, CountError>
-    ensures given { IfOk result (HasTokens input.now) }
-    ensures found { (n : ℕ) → HasTokens input.now n → (result ≡ Ok n) ⊎ (result ≡ Err NoMemory) }
+fn token_count(alloc: Global, input: Vec<u8>) -> Result<u64, CountError>
+    ensures given { IfOk result (HasTokens input.items) }
+    ensures found { (n : ℕ) → HasTokens input.items n → Gives NoMemory result n }
 {
     one_reading();
-    let Ok(text) = Text::of(alloc, input) else {
-        return Err(CountError::NoMemory);
-    };
+    let text = Text::from_vec(input)?;
     match tokens(alloc, &text) {
         Ok(tokens) => Ok(tokens.as_slice().len() as u64),
         Err(VclError::NoMemory) => Err(CountError::NoMemory),

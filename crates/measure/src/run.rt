@@ -67,7 +67,7 @@ pub fn run<S: Source, K: Sink>(
         Err(ReadError::Failed) => return Status::ReadFault,
         Err(ReadError::NoMemory) => return Status::NoMemory,
     };
-    let line = match line_for(alloc, task, input.as_slice()) {
+    let line = match line_for(alloc, task, input) {
         Ok(line) => line,
         Err(CountError::Refused) => return Status::Refused,
         Err(CountError::NoMemory) => return Status::NoMemory,
@@ -79,10 +79,10 @@ pub fn run<S: Source, K: Sink>(
 }
 
 // The line with the number that the task asks for.
-fn line_for(alloc: Global, task: Task, input: &[u8]) -> Result<Vec<u8>, CountError>
-    ensures short { OnOk result (length input.now ≤ input_limit) }
-    ensures line { IfOk result (λ line. (n : ℕ) × IsCount task input.now n × (line.items ≡ line_of n)) }
-    ensures refused { IsErrOf result Cause.Refused → length input.now ≤ input_limit → (n : ℕ) → ¬ (IsCount task input.now n) }
+fn line_for(alloc: Global, task: Task, input: Vec<u8>) -> Result<Vec<u8>, CountError>
+    ensures short { OnOk result (length input.items ≤ input_limit) }
+    ensures line { IfOk result (λ line. (n : ℕ) × IsCount task input.items n × (line.items ≡ line_of n)) }
+    ensures refused { IsErrOf result Cause.Refused → length input.items ≤ input_limit → (n : ℕ) → ¬ (IsCount task input.items n) }
 {
     if input.len() > INPUT_LIMIT {
         return Err(CountError::Refused);

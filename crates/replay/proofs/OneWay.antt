@@ -1,6 +1,7 @@
 -- A session has one text, one scene, one history and one ending.
-use Rattle.std.proofs.Common.{◌≡◌, ◌≢◌, inl, inr, ℕ, List, [], ◌∷◌, ◌++◌, Option, Some, None, refl, sym, ◌∙◌, ap, subst, append_assoc}
+use Rattle.std.proofs.Common.{◌≡◌, ◌≢◌, true, false, inl, inr, ℕ, List, [], ◌∷◌, ◌++◌, Option, Some, None, refl, sym, ◌∙◌, ap, subst, append_assoc}
 use Rattle.std.proofs.lemmas.List.{append-nil, append_cancel_left, map-append}
+use Rattle.std.proofs.lemmas.Bool.{true≢false}
 use Rattle.std.specs.List.{flat_map}
 use Rattle.std.specs.Io.KnownBytes.{Appends}
 use Rattle.cache_law.specs.declared.call.Call.{Call}
@@ -8,7 +9,7 @@ use Rattle.cache_law.specs.declared.call.Entry.{Entry}
 use Rattle.cache_law.specs.declared.call.Reply.{Reply}
 use Rattle.cache_law.specs.declared.call.Reply.TheVariants.{Refused}
 use Rattle.cache_law.specs.State.{State, at_moment}
-use Rattle.cache_law.specs.declared.call.Call.TheVariants.{Insert}
+use Rattle.cache_law.specs.declared.call.Call.TheVariants.{Insert, BanList}
 use Rattle.cache_law.specs.Beginning.{Beginning}
 use Rattle.cache_law.specs.Law.{step_of, MayAnswer}
 use Rattle.cache_law.specs.Core.{FitsBehind}
@@ -29,7 +30,7 @@ use Rattle.replay.specs.Scene.{Scene, Round, Move, hears, calls, fetches, sends,
 use Rattle.replay.specs.Endings.{IsIdle, WantsTooMuch}
 use Rattle.replay.specs.Went.{Went, events_in}
 use Rattle.replay.specs.Replayed.{EndsSo, NobodyWaits}
-use Rattle.replay.specs.Laws.{NoneRefused, OneText, OneHistory, OneEnding, IsOwnEnding}
+use Rattle.replay.specs.Laws.{asks_bans, AllBound, OneText, OneHistory, OneEnding, IsOwnEnding}
 use Rattle.replay.proofs.Unique.{IsStuck, one_way, same_round, stuck_at_rest, only_hears}
 
 -- these entries stand behind those before them in the whole list
@@ -56,10 +57,10 @@ one_text wants one_want beginning events entries scene other text said r q rests
     (stuck_at_rest wants one_want beginning (IsWithin entries) (within_on entries) (λ before e f more others s t who when what. within_one entries before e f more others s t) other [] _ stops refl) in
     (way.1, sym q.writes ∙ (ap (λ (ms : List Move). flat_map text_of ms) way.0 ∙ r.writes))
 
--- these entries may follow those before them, and none is a refused insertion
+-- these entries may follow those before them, and the law leaves each one answer
 record IsLawful (beginning : Beginning) (before more : List Entry) : Type 0 where
   legal : LegalFrom beginning (reached beginning before) (bytes_of_all before) more
-  kept : NoneRefused more
+  kept : AllBound more
 
 legal_on : (beginning : Beginning) (before : List Entry) (entry : Entry) (more : List Entry) → LegalFrom beginning (reached beginning before) (bytes_of_all before) (entry ∷ more) → LegalFrom beginning (reached beginning (before ++ entry ∷ [])) (bytes_of_all (before ++ entry ∷ [])) more
 legal_on beginning before entry more legal =
@@ -69,11 +70,12 @@ legal_on beginning before entry more legal =
 lawful_on : (beginning : Beginning) (before : List Entry) (entry : Entry) (more : List Entry) → IsLawful beginning before (entry ∷ more) → IsLawful beginning (before ++ entry ∷ []) more
 lawful_on beginning before entry more is = record { legal = legal_on beginning before entry more is.legal; kept = is.kept.1 }
 
--- what may be answered, but for Refused, is the law's answer
-told : (state : State) (call : Call) (law answer : Reply) → MayAnswer state call law answer → answer ≢ Refused → answer ≡ law
-told state (Insert token object stale) law answer (inl same) other = same
-told state (Insert token object stale) law answer (inr refused) other = absurd (other refused.0)
-told state call law answer may other = may
+-- where the law leaves one answer, it is the law's
+told : (state : State) (call : Call) (law answer : Reply) → MayAnswer state call law answer → answer ≢ Refused → asks_bans call ≡ false → answer ≡ law
+told state (Insert token object stale) law answer (inl same) other one = same
+told state (Insert token object stale) law answer (inr refused) other one = absurd (other refused.0)
+told state BanList law answer may other one = absurd (true≢false one)
+told state call law answer may other one = may
 
 same_entry : (entry other : Entry) → other.caller ≡ entry.caller → other.moment ≡ entry.moment → other.call ≡ entry.call → other.reply ≡ entry.reply → other ≡ entry
 same_entry entry other who when what reply =
@@ -87,8 +89,8 @@ law_of beginning before caller moment call = (step_of beginning (reached beginni
 lawful_one : (beginning : Beginning) (before : List Entry) (entry other : Entry) (more others : List Entry) → IsLawful beginning before (entry ∷ more) → IsLawful beginning before (other ∷ others) → other.caller ≡ entry.caller → other.moment ≡ entry.moment → other.call ≡ entry.call → other ≡ entry
 unfolding law_of
 lawful_one beginning before entry other more others p q who when what =
-    let mine : entry.reply ≡ law_of beginning before entry.caller entry.moment entry.call = told (at_moment entry.moment (reached beginning before)) entry.call _ entry.reply p.legal.0.answer p.kept.0 in
-    let its : other.reply ≡ law_of beginning before other.caller other.moment other.call = told (at_moment other.moment (reached beginning before)) other.call _ other.reply q.legal.0.answer q.kept.0 in
+    let mine : entry.reply ≡ law_of beginning before entry.caller entry.moment entry.call = told (at_moment entry.moment (reached beginning before)) entry.call _ entry.reply p.legal.0.answer p.kept.0.0 p.kept.0.1 in
+    let its : other.reply ≡ law_of beginning before other.caller other.moment other.call = told (at_moment other.moment (reached beginning before)) other.call _ other.reply q.legal.0.answer q.kept.0.0 q.kept.0.1 in
     let same : law_of beginning before other.caller other.moment other.call ≡ law_of beginning before entry.caller entry.moment entry.call =
     ap (λ (n : ℕ). law_of beginning before n other.moment other.call) who
     ∙ (ap (λ (n : ℕ). law_of beginning before entry.caller n other.call) when ∙ ap (λ (c : Call). law_of beginning before entry.caller entry.moment c) what) in

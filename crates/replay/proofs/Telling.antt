@@ -3,18 +3,18 @@ use Rattle.std.proofs.Common.{◌≡◌, ◌⊎◌, inl, inr, ℕ, Bool, true, f
 use Rattle.std.proofs.lemmas.Bool.{ne_eqb, eq-eqb, eqb-true}
 use Rattle.cache_law.specs.declared.object.Object.{Object}
 use Rattle.cache_law.specs.declared.call.Call.{Call}
-use Rattle.cache_law.specs.declared.call.Call.TheVariants.{Begin, Draw, Lookup, Pick, Insert, Drop, End}
+use Rattle.cache_law.specs.declared.call.Call.TheVariants.{Begin, Draw, Lookup, Pick, Insert, Ban, BanList, Purge, Xkey, SetHealth, Load, Switch, Discard, VclList, Drop, End}
 use Rattle.cache_law.specs.declared.call.Query.{Query}
 use Rattle.cache_law.specs.declared.call.Reply.{Reply}
-use Rattle.cache_law.specs.declared.call.Reply.TheVariants.{Refused}
+use Rattle.cache_law.specs.declared.call.Reply.TheVariants.{Refused, Bans}
 use Rattle.cache_law.specs.declared.call.Entry.{Entry}
 use Rattle.cache_law.specs.declared.state.OpenRound.{OpenRound}
 use Rattle.cache_law.specs.Beginning.{Beginning}
 use Rattle.cache_law.specs.History.{next_state}
-use Rattle.cache_law.specs.Law.{Step, MayAnswer, answered, refused, behind, sought, wait_in}
+use Rattle.cache_law.specs.Law.{Step, MayAnswer, IsBanList, answered, refused, behind, sought, wait_in}
 use Rattle.cache_law.specs.State.{State, at_moment, has_round, has_fetch, told_to_wait, with_wait, without_round_of}
 use Rattle.cache_law.proofs.Growth.{behind_either}
-use Rattle.cache_law.proofs.Leaves.{either, looked_leaf, inserted_leaf, sought_leaf}
+use Rattle.cache_law.proofs.Leaves.{either, looked_leaf, inserted_leaf, sought_leaf, picked_leaf, health_leaf, loaded_leaf, switched_leaf, discarded_leaf}
 use Rattle.replay.specs.Policy.{ends_wait, is_reply_to}
 use Rattle.replay.proofs.Replies.{lawful_reply}
 
@@ -108,7 +108,16 @@ module _ (state : State) (caller other : ℕ) (apart : other ≡ caller → ⊥)
         graces_alone = λ objects view. others_remembered caller other apart _ state.rounds;
         waits = λ objects token. others_remembered caller other apart _ state.rounds;
       })
-  others_answered room (Pick vcl target word) = refl
+  others_answered room (Pick vcl target word) = picked_leaf Others state vcl target word refl (λ place. refl)
+  others_answered room (Ban ban) = refl
+  others_answered room BanList = refl
+  others_answered room (Purge key) = refl
+  others_answered room (Xkey keys soft) = refl
+  others_answered room (SetHealth backend given) = health_leaf Others state backend given refl refl
+  others_answered room (Load source) = loaded_leaf Others state source refl refl
+  others_answered room (Switch name) = switched_leaf Others state name refl (λ vcl. refl)
+  others_answered room (Discard name) = discarded_leaf Others state name refl refl (λ number. refl)
+  others_answered room VclList = refl
   others_answered room (Insert token object stale) =
       inserted_leaf Others room state caller token object stale (record { opens_not = refl; gone = refl; late = refl; full = refl; stores = refl })
   others_answered room (Drop token) = either Others (has_fetch state.fetches caller token) _ _ refl refl
@@ -161,6 +170,15 @@ module _ (state : State) (caller : ℕ) where
   own_anew room Begin ends = absurd (cc)
   own_anew room Draw ends = absurd (cc)
   own_anew room (Pick vcl target word) ends = absurd (cc)
+  own_anew room (Ban ban) ends = absurd (cc)
+  own_anew room BanList ends = absurd (cc)
+  own_anew room (Purge key) ends = absurd (cc)
+  own_anew room (Xkey keys soft) ends = absurd (cc)
+  own_anew room (SetHealth backend given) ends = absurd (cc)
+  own_anew room (Load source) ends = absurd (cc)
+  own_anew room (Switch name) ends = absurd (cc)
+  own_anew room (Discard name) ends = absurd (cc)
+  own_anew room VclList ends = absurd (cc)
   own_anew room (Insert token object stale) ends = absurd (cc)
   own_anew room (Drop token) ends = absurd (cc)
 
@@ -172,7 +190,16 @@ module _ (state : State) (caller : ℕ) where
   own_answered room Begin none = either Own (has_round state.rounds caller) _ _ none begun_none
   own_answered room Draw none = either Own (has_round state.rounds caller) _ _ none none
   own_answered room (Lookup query) none = own_anew room (Lookup query) refl
-  own_answered room (Pick vcl target word) none = none
+  own_answered room (Pick vcl target word) none = picked_leaf Own state vcl target word none (λ place. none)
+  own_answered room (Ban ban) none = none
+  own_answered room BanList none = none
+  own_answered room (Purge key) none = none
+  own_answered room (Xkey keys soft) none = none
+  own_answered room (SetHealth backend given) none = health_leaf Own state backend given none none
+  own_answered room (Load source) none = loaded_leaf Own state source none none
+  own_answered room (Switch name) none = switched_leaf Own state name none (λ vcl. none)
+  own_answered room (Discard name) none = discarded_leaf Own state name none none (λ number. none)
+  own_answered room VclList none = none
   own_answered room (Insert token object stale) none =
       inserted_leaf Own room state caller token object stale (record { opens_not = none; gone = none; late = none; full = none; stores = none })
   own_answered room (Drop token) none = either Own (has_fetch state.fetches caller token) _ _ none none
@@ -192,6 +219,11 @@ module _ (room : ℕ) (state : State) (caller : ℕ) where
   insertion_waits_not token object stale answer same =
       ap wait_in same ∙ inserted_leaf (λ (step : Step). wait_in step.reply ≡ None) room state caller token object stale (record { opens_not = refl; gone = refl; late = refl; full = refl; stores = refl })
 
+  -- a list of bans tells nothing
+  own_listed : (answer : Reply) → told_to_wait state.rounds caller ≡ None → IsBanList state answer → told_to_wait (behind answer state state).rounds caller ≡ wait_in answer
+  own_listed (Bans lines) none shows = none
+  own_listed answer none shows = absurd shows
+
   own_may : (call : Call) (answer : Reply) → (told_to_wait state.rounds caller ≡ None) ⊎ (ends_wait call ≡ true) → MayAnswer state call (answered room state caller call).reply answer → told_to_wait (behind answer (refused state call) (answered room state caller call).state).rounds caller ≡ wait_in answer
   own_may Begin answer (inl none) may = own_lawful room state caller Begin answer _ (not_refused Begin answer (lawful_reply room state caller Begin answer may) refl) may (own_answered state caller room Begin none)
   own_may Begin answer (inr ends) may = absurd (cc)
@@ -200,6 +232,24 @@ module _ (room : ℕ) (state : State) (caller : ℕ) where
   own_may (Lookup query) answer how may = own_lawful room state caller (Lookup query) answer _ (not_refused (Lookup query) answer (lawful_reply room state caller (Lookup query) answer may) refl) may (own_anew state caller room (Lookup query) refl)
   own_may (Pick vcl target word) answer (inl none) may = own_lawful room state caller (Pick vcl target word) answer _ (not_refused (Pick vcl target word) answer (lawful_reply room state caller (Pick vcl target word) answer may) refl) may (own_answered state caller room (Pick vcl target word) none)
   own_may (Pick vcl target word) answer (inr ends) may = absurd (cc)
+  own_may (Ban ban) answer (inl none) may = own_lawful room state caller (Ban ban) answer _ (not_refused (Ban ban) answer (lawful_reply room state caller (Ban ban) answer may) refl) may (own_answered state caller room (Ban ban) none)
+  own_may (Ban ban) answer (inr ends) may = absurd (cc)
+  own_may BanList answer (inl none) may = own_listed answer none may
+  own_may BanList answer (inr ends) may = absurd (cc)
+  own_may (Purge key) answer (inl none) may = own_lawful room state caller (Purge key) answer _ (not_refused (Purge key) answer (lawful_reply room state caller (Purge key) answer may) refl) may (own_answered state caller room (Purge key) none)
+  own_may (Purge key) answer (inr ends) may = absurd (cc)
+  own_may (Xkey keys soft) answer (inl none) may = own_lawful room state caller (Xkey keys soft) answer _ (not_refused (Xkey keys soft) answer (lawful_reply room state caller (Xkey keys soft) answer may) refl) may (own_answered state caller room (Xkey keys soft) none)
+  own_may (Xkey keys soft) answer (inr ends) may = absurd (cc)
+  own_may (SetHealth backend given) answer (inl none) may = own_lawful room state caller (SetHealth backend given) answer _ (not_refused (SetHealth backend given) answer (lawful_reply room state caller (SetHealth backend given) answer may) refl) may (own_answered state caller room (SetHealth backend given) none)
+  own_may (SetHealth backend given) answer (inr ends) may = absurd (cc)
+  own_may (Load source) answer (inl none) may = own_lawful room state caller (Load source) answer _ (not_refused (Load source) answer (lawful_reply room state caller (Load source) answer may) refl) may (own_answered state caller room (Load source) none)
+  own_may (Load source) answer (inr ends) may = absurd (cc)
+  own_may (Switch name) answer (inl none) may = own_lawful room state caller (Switch name) answer _ (not_refused (Switch name) answer (lawful_reply room state caller (Switch name) answer may) refl) may (own_answered state caller room (Switch name) none)
+  own_may (Switch name) answer (inr ends) may = absurd (cc)
+  own_may (Discard name) answer (inl none) may = own_lawful room state caller (Discard name) answer _ (not_refused (Discard name) answer (lawful_reply room state caller (Discard name) answer may) refl) may (own_answered state caller room (Discard name) none)
+  own_may (Discard name) answer (inr ends) may = absurd (cc)
+  own_may VclList answer (inl none) may = own_lawful room state caller VclList answer _ (not_refused VclList answer (lawful_reply room state caller VclList answer may) refl) may (own_answered state caller room VclList none)
+  own_may VclList answer (inr ends) may = absurd (cc)
   own_may (Insert token object stale) answer (inl none) (inl same) =
       behind_either (λ (s : State). told_to_wait s.rounds caller ≡ wait_in answer) answer _ _ (none ∙ sym (insertion_waits_not token object stale answer same)) (own_answered state caller room (Insert token object stale) none ∙ ap wait_in (sym same))
   own_may (Insert token object stale) answer (inl none) (inr both) =

@@ -4,7 +4,8 @@ use Rattle.std.proofs.lemmas.List.{take_all, length-drop}
 use Rattle.http_heads.specs.declared.message.RequestHead.{RequestHead}
 use Rattle.http_heads.specs.declared.message.HeadError.{HeadError}
 use Rattle.http_heads.specs.declared.message.HeadError.TheVariants.{NoMemory}
-use Rattle.http_heads.specs.Heads.{HasRequest, LacksRequest, AnswersRequest, GivesUnlessNoMemory}
+use Rattle.http_heads.specs.Heads.{HasRequest, LacksRequest, AnswersRequest}
+use Rattle.units.specs.Outcomes.{Gives}
 use Rattle.http_heads.specs.declared.fields.Field.{Field}
 use Rattle.http_bodies.specs.declared.framing.Kind.{Kind}
 use Rattle.http_bodies.specs.declared.framing.Kind.TheVariants as kinds
@@ -15,24 +16,24 @@ use Rattle.http_bodies.specs.Bodies.{BeginsWith}
 use Rattle.std.specs.declared.alloc.AllocError.{AllocError}
 use Rattle.replay.specs.Whole.{HasFramedBody, LacksWholeRequest, IsTheRequest, IsTheWholeRequest}
 
-not_none : (A : Type 0) (value : A) → GivesUnlessNoMemory {T = Option A} (Ok None) (Some value) → ⊥
+not_none : (A : Type 0) (value : A) → Gives {T = Option A} NoMemory (Ok None) (Some value) → ⊥
 not_none A value (inl e) = cc
 not_none A value (inr e) = cc
 
-not_error : (A : Type 0) (value : A) (error : HeadError) → error ≢ NoMemory → GivesUnlessNoMemory {T = Option A} (Err error) (Some value) → ⊥
+not_error : (A : Type 0) (value : A) (error : HeadError) → error ≢ NoMemory → Gives {T = Option A} NoMemory (Err error) (Some value) → ⊥
 not_error A value error other (inl e) = cc
 not_error A value error other (inr e) = other cc
 
-the_same : (A : Type 0) (a b : A) → GivesUnlessNoMemory {T = Option A} (Ok (Some a)) (Some b) → b ≡ a
+the_same : (A : Type 0) (a b : A) → Gives {T = Option A} NoMemory (Ok (Some a)) (Some b) → b ≡ a
 the_same A a b (inl e) = cc
 the_same A a b (inr e) = cc
 
-pub the_request : (text : List ℕ) (found : Option (RequestHead × ℕ)) → AnswersRequest text (Ok found) → ((head : RequestHead) (count : ℕ) → HasRequest text head count → GivesUnlessNoMemory (Ok found) (Some (head, count))) → MatchOption found (LacksRequest text) (λ x. IsTheRequest text x.0 x.1)
+pub the_request : (text : List ℕ) (found : Option (RequestHead × ℕ)) → AnswersRequest text (Ok found) → ((head : RequestHead) (count : ℕ) → HasRequest text head count → Gives NoMemory (Ok found) (Some (head, count))) → MatchOption found (LacksRequest text) (λ x. IsTheRequest text x.0 x.1)
 the_request text None answer gives = λ head count has. not_none (RequestHead × ℕ) (head, count) (gives head count has)
 the_request text (Some x) answer gives =
     (answer.0, λ head count has. let same = the_same (RequestHead × ℕ) x (head, count) (gives head count has) in (ap (λ (y : RequestHead × ℕ). y.0) same, ap (λ (y : RequestHead × ℕ). y.1) same))
 
-pub no_request : (text : List ℕ) (error : HeadError) → error ≢ NoMemory → ((head : RequestHead) (count : ℕ) → HasRequest text head count → GivesUnlessNoMemory {T = Option (RequestHead × ℕ)} (Err error) (Some (head, count))) → LacksRequest text
+pub no_request : (text : List ℕ) (error : HeadError) → error ≢ NoMemory → ((head : RequestHead) (count : ℕ) → HasRequest text head count → Gives {T = Option (RequestHead × ℕ)} NoMemory (Err error) (Some (head, count))) → LacksRequest text
 no_request text error other gives = λ head count has. not_error (RequestHead × ℕ) (head, count) error other (gives head count has)
 
 -- without a head there is no message

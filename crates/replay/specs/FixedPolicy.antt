@@ -15,8 +15,10 @@ use Rattle.cache_law.specs.declared.object.Response.{Response}
 use Rattle.cache_law.specs.declared.call.Options.{Options}
 use Rattle.cache_law.specs.declared.call.RequestView.{RequestView}
 use Rattle.cache_law.specs.declared.call.Query.{Query}
+use Rattle.cache_law.specs.declared.target.Target.{Target}
+use Rattle.directors.specs.declared.director.DirectorKind.TheVariants.{One}
 use Rattle.cache_law.specs.declared.call.Call.TheVariants.{Begin, Lookup, Pick, Insert, End}
-use Rattle.cache_law.specs.declared.call.Reply.TheVariants.{Began, NoRound, Drawn, Hit, HitMiss, HitPass, Grace, Wait, Miss, Picked, Stored, NotOpen, StaleGone, NotInTime, NoRoom, Refused, Dropped, Ended}
+use Rattle.cache_law.specs.declared.call.Reply.TheVariants.{Began, NoRound, Drawn, Hit, HitMiss, HitPass, Grace, Wait, Miss, Picked, Stored, NotOpen, StaleGone, NotInTime, NoRoom, Refused, Banned, Bans, Purged, HealthSet, Loaded, NameTaken, Switched, NoVcl, Discarded, IsActive, Vcls, Dropped, Ended}
 use Rattle.replay.specs.declared.policy.Request.{Request}
 use Rattle.replay.specs.declared.policy.Message.{Message}
 use Rattle.replay.specs.declared.policy.Message.TheVariants.{Whole, Unreadable}
@@ -116,6 +118,10 @@ insertion token (Some response) = Ask (Insert token (Ordinary response) None)
 abbrev pub plain : Options
 plain = record { always_miss = false; ignore_busy = false; ignore_vary = false; ttl = None; grace = None }
 
+-- one backend as a target
+abbrev pub single : List ℕ → Target
+single name = record { kind = One; name = name; members = record { name = name; weight = 1 } ∷ [] }
+
 -- what a visit looks up
 abbrev pub query_of : ℕ → RequestHead → Query
 query_of client head = record { key = key_of head; request = view_of client head; options = plain }
@@ -127,7 +133,7 @@ page_want client head Start before = Ask Begin
 page_want client head (Told moment (Began number vcl text)) before = Ask (Lookup (query_of client head))
 page_want client head (Told moment (Hit view)) before = hit_response (number_in before) view.number moment view.object
 page_want client head (Told moment (Wait token)) before = Await token
-page_want client head (Told moment (Miss token stale)) before = Ask (Pick (vcl_in before) (codes "default") 0)
+page_want client head (Told moment (Miss token stale)) before = Ask (Pick (vcl_in before) (single (codes "default")) 0)
 page_want client head (Told moment (Picked (Some name))) before =
     Exchange (token_in before) name (backend_request head.url (request_fields client head) (token_in before))
 page_want client head (Came got) before = insertion (token_in before) (made_of head got.moment got.exchange)
@@ -146,6 +152,17 @@ page_want client head (Told moment (HitMiss token)) before = Done
 page_want client head (Told moment HitPass) before = Done
 page_want client head (Told moment (Grace view token)) before = Done
 page_want client head (Told moment StaleGone) before = Done
+page_want client head (Told moment Banned) before = Done
+page_want client head (Told moment (Bans lines)) before = Done
+page_want client head (Told moment (Purged count)) before = Done
+page_want client head (Told moment (HealthSet found)) before = Done
+page_want client head (Told moment (Loaded number)) before = Done
+page_want client head (Told moment NameTaken) before = Done
+page_want client head (Told moment Switched) before = Done
+page_want client head (Told moment NoVcl) before = Done
+page_want client head (Told moment Discarded) before = Done
+page_want client head (Told moment IsActive) before = Done
+page_want client head (Told moment (Vcls lines)) before = Done
 page_want client head (Told moment Dropped) before = Done
 
 -- a request that is no message gets the answer for such a one, with no call made

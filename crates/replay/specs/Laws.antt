@@ -1,9 +1,11 @@
 -- What is one of a session: its text and its scene over given entries, its history where no insertion was refused,
 -- and its ending.
-use Rattle.std.specs.Prelude.{◌≡◌, ◌≢◌, ◌⊎◌, ℕ, Option, Some, None, List}
+use Rattle.std.specs.Prelude.{◌≡◌, ◌≢◌, ◌⊎◌, ℕ, Bool, true, false, Option, Some, None, List}
 use Rattle.std.specs.List.{AllByRecursion}
 use Rattle.std.specs.Io.KnownBytes.{Appends}
 use Rattle.cache_law.specs.Beginning.{Beginning}
+use Rattle.cache_law.specs.declared.call.Call.{Call}
+use Rattle.cache_law.specs.declared.call.Call.TheVariants.{BanList}
 use Rattle.cache_law.specs.declared.call.Entry.{Entry}
 use Rattle.cache_law.specs.declared.call.Reply.TheVariants.{Refused}
 use Rattle.cache_law.specs.History.{Legal}
@@ -18,9 +20,17 @@ use Rattle.replay.specs.Scene.{Scene, AtRest, Run, opening_scene}
 use Rattle.session_text.specs.declared.session.Session.{Session}
 use Rattle.replay.specs.Replayed.{EndsSo, PlayedTo}
 
--- no insertion was refused for want of memory
-abbrev pub NoneRefused : List Entry → Type 0
-NoneRefused entries = AllByRecursion (λ entry. entry.reply ≢ Refused) entries
+-- the call asks for the list of bans, of which the law allows several
+abbrev pub asks_bans : Call → Bool
+asks_bans BanList = true
+asks_bans call = false
+
+-- the law leaves the entry one answer: it is no insertion that was refused for want of memory, and no list of bans
+abbrev pub IsBound : Entry → Type 0
+IsBound entry = (entry.reply ≢ Refused) × (asks_bans entry.call ≡ false)
+
+abbrev pub AllBound : List Entry → Type 0
+AllBound entries = AllByRecursion IsBound entries
 
 -- Over given entries a session has one scene and one text: two runs that read the same events, enter the same entries
 -- and come to rest are one.
@@ -30,13 +40,13 @@ OneText wants =
     → Run wants beginning (opening_scene beginning) scene events entries text → Run wants beginning (opening_scene beginning) other events entries said
     → AtRest scene → AtRest other → (other ≡ scene) × (said ≡ text)
 
--- A session has one history without a refused insertion, and so one scene and one text with it.
+-- A session has one history in which the law leaves each entry one answer, and so one scene and one text with it.
 abbrev pub OneHistory : (Request → List Given → Want → Type 0) → Type 0
 OneHistory wants =
     (beginning : Beginning) (events : List Event) (entries others : List Entry) (scene other : Scene) (text said : List ℕ)
     → Run wants beginning (opening_scene beginning) scene events entries text → Run wants beginning (opening_scene beginning) other events others said
     → AtRest scene → AtRest other
-    → Legal beginning entries → Legal beginning others → NoneRefused entries → NoneRefused others
+    → Legal beginning entries → Legal beginning others → AllBound entries → AllBound others
     → (others ≡ entries) × (other ≡ scene) × (said ≡ text)
 
 -- an ending that the session itself has: neither the sink's fault nor want of memory
@@ -49,14 +59,14 @@ IsOwnEnding (Some (NotBuilt line)) = ⊥
 IsOwnEnding (Some WriteFault) = ⊥
 IsOwnEnding (Some NoMemory) = ⊥
 
--- A session has one ending over a history, and over all histories without a refused insertion: whole, Idle at one line,
+-- A session has one ending over a history, and over all histories in which the law leaves each entry one answer: whole, Idle at one line,
 -- Unanswered, or a call that doesn't fit at one place. History and text are one with it.
 abbrev pub OneEnding : (Request → List Given → Want → Type 0) → Type 0
 OneEnding wants =
     (beginning : Beginning) (script : Script) (history other : List Entry) (before now before2 now2 : Option (List ℕ)) (ending ending2 : Option ReplayError)
     → EndsSo wants beginning script history before now ending → EndsSo wants beginning script other before2 now2 ending2
     → IsOwnEnding ending → IsOwnEnding ending2
-    → (other ≡ history) ⊎ (NoneRefused history × NoneRefused other)
+    → (other ≡ history) ⊎ (AllBound history × AllBound other)
     → (ending2 ≡ ending) × (other ≡ history) × (text : List ℕ) × Appends before now text × Appends before2 now2 text
 
 -- Over this history nothing stops the session before its end: no line is idle, `end` isn't unanswered, and no call that is

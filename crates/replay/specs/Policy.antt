@@ -3,9 +3,9 @@ use Rattle.std.specs.Prelude.{◌≡◌, ◌⊎◌, Bool, true, false, List, []}
 use Rattle.http_heads.specs.declared.exchange.Exchange.{Exchange as What}
 use Rattle.http_heads.specs.declared.exchange.Exchange.TheVariants as exchanges
 use Rattle.cache_law.specs.declared.call.Call.{Call}
-use Rattle.cache_law.specs.declared.call.Call.TheVariants.{Begin, Draw, Lookup, Pick, Insert, Drop, End}
+use Rattle.cache_law.specs.declared.call.Call.TheVariants.{Begin, Draw, Lookup, Pick, Insert, Ban, BanList, Purge, Xkey, SetHealth, Load, Switch, Discard, VclList, Drop, End}
 use Rattle.cache_law.specs.declared.call.Reply.{Reply}
-use Rattle.cache_law.specs.declared.call.Reply.TheVariants.{Began, NoRound, Drawn, Hit, HitMiss, HitPass, Grace, Wait, Miss, Picked, Stored, NotOpen, StaleGone, NotInTime, NoRoom, Refused, Dropped, Ended}
+use Rattle.cache_law.specs.declared.call.Reply.TheVariants.{Began, NoRound, Drawn, Hit, HitMiss, HitPass, Grace, Wait, Miss, Picked, Stored, NotOpen, StaleGone, NotInTime, NoRoom, Refused, Banned, Bans, Purged, HealthSet, Loaded, NameTaken, Switched, NoVcl, Discarded, IsActive, Vcls, Dropped, Ended}
 use Rattle.replay.specs.declared.policy.Request.{Request}
 use Rattle.replay.specs.declared.policy.Given.{Given}
 use Rattle.replay.specs.declared.policy.Given.TheVariants.{Start, Told, Came, Sent, Closed}
@@ -51,6 +51,19 @@ is_reply_to (Insert token object stale) StaleGone = true
 is_reply_to (Insert token object stale) NotInTime = true
 is_reply_to (Insert token object stale) NoRoom = true
 is_reply_to (Insert token object stale) Refused = true
+is_reply_to (Ban ban) Banned = true
+is_reply_to BanList (Bans lines) = true
+is_reply_to (Purge key) (Purged count) = true
+is_reply_to (Xkey keys soft) (Purged count) = true
+is_reply_to (SetHealth backend given) (HealthSet found) = true
+is_reply_to (Load source) (Loaded number) = true
+is_reply_to (Load source) NameTaken = true
+is_reply_to (Switch name) Switched = true
+is_reply_to (Switch name) NoVcl = true
+is_reply_to (Discard name) Discarded = true
+is_reply_to (Discard name) IsActive = true
+is_reply_to (Discard name) NoVcl = true
+is_reply_to VclList (Vcls lines) = true
 is_reply_to (Drop token) Dropped = true
 is_reply_to (Drop token) NotOpen = true
 is_reply_to End Ended = true

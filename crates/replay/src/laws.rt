@@ -8,12 +8,14 @@ pub fn one_text<P: Policy>()
     ensures { OneText P.wants }
 {}
 
-/// A session that is led by this policy has one history in which no insertion was refused.
+/// A session that is led by this policy has one history in which the law leaves each entry one answer: in
+/// which no insertion was refused and no list of bans asked for.
 pub fn one_history<P: Policy>()
     ensures { OneHistory P.wants }
 {}
 
-/// A session that is led by this policy ends in one way, over a history and over all in which no insertion was refused.
+/// A session that is led by this policy ends in one way, over a history and over all in which the law
+/// leaves each entry one answer.
 pub fn one_ending<P: Policy>()
     ensures { OneEnding P.wants }
 {}

@@ -2,7 +2,7 @@
 ghost use Rattle.std.specs.Prelude.{◌≡◌, ◌++◌, ◌∷◌, [], ℕ, List, Some, IfOk, OnOk, codes, pos, min, true, false};
 ghost use Rattle.std.specs.Fmt.{decimal};
 ghost use Rattle.replay.specs.Messages.{backend_request, delivered, age_of};
-ghost use Rattle.replay.specs.FixedPolicy.{address_of, fetched, hit_response, insertion, key_of, last_moment, kept_fields, made_of, page_want, query_of, request_fields, view_of};
+ghost use Rattle.replay.specs.FixedPolicy.{address_of, fetched, hit_response, insertion, key_of, last_moment, kept_fields, made_of, page_want, query_of, request_fields, single, view_of};
 ghost use Rattle.cache_law.specs.declared.call.Call.TheVariants.{Lookup};
 ghost use Rattle.cache_law.specs.declared.object.Object.TheVariants.{Ordinary};
 ghost use Rattle.replay.specs.Visit.{Keeps};
@@ -12,8 +12,10 @@ use crate::forms::host;
 use crate::messages::{add_field, age_at, deliver, make_backend_request};
 use crate::{Given, Want};
 use cache_law::{
-    Call, Content, Object, ObjectView, Options, Query, Reply, RequestView, Response, Shared,
+    Call, Content, Member, Object, ObjectView, Options, Query, Reply, RequestView, Response,
+    Shared, Target,
 };
+use directors::DirectorKind;
 use freshness::Timing;
 use http_heads::{Exchange, Fields, Got, RequestHead, ResponseHead};
 use std::alloc::{AllocError, Global};
@@ -68,6 +70,22 @@ fn make_view(alloc: Global, client: u32, head: &RequestHead) -> Result<RequestVi
     Ok(RequestView {
         url: head.url.copy()?,
         fields: make_fields(alloc, client, head)?,
+    })
+}
+
+// One backend as a target.
+fn single(alloc: Global, name: &[u8]) -> Result<Target, AllocError>
+    ensures { IfOk result (λ target. target ≡ single name.now) }
+{
+    let mut members = Sequence::new(alloc);
+    members.push(Member {
+        name: Text::of(alloc, name)?,
+        weight: 1,
+    })?;
+    Ok(Target {
+        kind: DirectorKind::One,
+        name: Text::of(alloc, name)?,
+        members,
     })
 }
 
@@ -269,7 +287,7 @@ impl Visit {
                 self.token = token;
                 Ok(Want::Ask(Call::Pick {
                     vcl: self.vcl,
-                    target: Text::of(alloc, b"default")?,
+                    target: Shared::new(alloc, single(alloc, b"default")?)?,
                     word: 0,
                 }))
             }
@@ -284,6 +302,10 @@ impl Visit {
             Reply::Ended | Reply::NoRound | Reply::Picked(None) => Ok(Want::Done),
             Reply::Drawn(_) | Reply::HitMiss { .. } | Reply::HitPass => Ok(Want::Done),
             Reply::Grace { .. } | Reply::StaleGone | Reply::Dropped => Ok(Want::Done),
+            Reply::Banned | Reply::Bans(_) | Reply::Purged(_) => Ok(Want::Done),
+            Reply::HealthSet(_) | Reply::Loaded(_) | Reply::NameTaken => Ok(Want::Done),
+            Reply::Switched | Reply::NoVcl | Reply::Discarded => Ok(Want::Done),
+            Reply::IsActive | Reply::Vcls(_) => Ok(Want::Done),
         }
     }
 

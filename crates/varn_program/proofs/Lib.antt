@@ -1,2 +1,4 @@
 pub mod Asking
 pub mod Outcomes
+mod Options
+mod Texts

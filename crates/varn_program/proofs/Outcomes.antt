@@ -1,8 +1,8 @@
 -- The outcome of a session that was played.
-use Rattle.std.specs.Prelude.{IsTrue, ◌↔◌, IsErrOf}
-use Rattle.std.specs.Cmp.Lexicographic.{pointwise, same_text}
+use Rattle.std.specs.Prelude.{IsErrOf}
+use Rattle.std.specs.Cmp.Lexicographic.{pointwise}
 use Rattle.std.proofs.lemmas.Bool.{eq-eqb}
-use Rattle.std.proofs.Common.{◌≡◌, ◌∙◌, ◌∷◌, ◌++◌, ◌+◌, ◌⊎◌, ◌<◌, ◌≤◌, ◌&&◌, Bool, true, nat_eq, length, get_or, ap, arith, ℕ, List, [], Option, Some, None, Err, refl, sym, subst, inl, inr, length-append}
+use Rattle.std.proofs.Common.{◌≡◌, ◌∙◌, ◌∷◌, ◌++◌, ◌+◌, ◌⊎◌, ◌≤◌, ◌&&◌, Bool, true, nat_eq, length, ap, arith, ℕ, List, [], Option, Some, None, Err, refl, sym, subst, inl, inr, length-append}
 use Rattle.std.proofs.lemmas.List.{append-nil}
 use Rattle.cache_law.specs.declared.setting.Params.{Params}
 use Rattle.cache_law.specs.declared.setting.Boot.{Boot}

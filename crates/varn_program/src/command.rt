@@ -106,8 +106,9 @@ pub fn run<S: Source, K: Sink>(
     ensures read_fault { result.status ≡ Status.ReadFault → Rose (S.faults source.old) (S.faults source.new) }
     ensures write_fault { result.status ≡ Status.WriteFault → Rose (K.faults sink.old) (K.faults sink.new) }
 {
-    match asked(words) {
-        Some(params) => replay(alloc, &params, source, sink),
-        None => stopped(alloc, Status::Words, None),
+    match asked(alloc, words) {
+        Ok(Some(params)) => replay(alloc, &params, source, sink),
+        Ok(None) => stopped(alloc, Status::Words, None),
+        Err(_) => stopped(alloc, Status::NoMemory, None),
     }
 }

@@ -6,6 +6,7 @@
 #![tactic(auto)]
 
 mod command;
+mod limits;
 mod outcome;
 mod process;
 #[cfg(test)]

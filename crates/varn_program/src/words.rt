@@ -1,9 +1,11 @@
 // What the words of the command line ask for.
-ghost use Rattle.std.specs.Prelude.{◌≡◌, ◌↔◌, ◌∷◌, [], ℕ, IsTrue, MatchOption};
+ghost use Rattle.std.specs.Prelude.{◌≡◌, ◌↔◌, ◌∷◌, [], ℕ, IsTrue, IfOk, OnErr, MatchOption};
 ghost use Rattle.cache_law.specs.declared.setting.Params.{Params as Limits};
 ghost use Rattle.varn_program.specs.Words.{AsksReplay, Gives, IsHistory, IsOption, IsRoom};
 
+use crate::limits::read_limits;
 use cache_law::Params;
+use std::alloc::{AllocError, Global};
 use units::{Text, read_number};
 
 /// The greatest room and the greatest history.
@@ -82,8 +84,8 @@ fn limits_by(options: &[Text]) -> Option<Params>
     }
 }
 
-/// The limits of the replay that the words ask for, if they do.
-pub(crate) fn asked(words: &[Text]) -> Option<Params>
+// The limits of the replay that the words ask for, if they do, by the grammar alone.
+fn tested(words: &[Text]) -> Option<Params>
     ensures { MatchOption result ((params : Limits) → AsksReplay words.now params → ⊥) (AsksReplay words.now) }
 {
     match words {
@@ -95,6 +97,17 @@ pub(crate) fn asked(words: &[Text]) -> Option<Params>
             }
         }
         [] => None,
+    }
+}
+
+/// The limits of the replay that the words ask for, if they do. Memory is wanted only where they do.
+pub(crate) fn asked(alloc: Global, words: &[Text]) -> Result<Option<Params>, AllocError>
+    ensures asked { IfOk result (λ found. MatchOption found ((params : Limits) → AsksReplay words.now params → ⊥) (AsksReplay words.now)) }
+    ensures wanting { OnErr result ((params : Limits) × AsksReplay words.now params) }
+{
+    match tested(words) {
+        Some(_) => Ok(Some(read_limits(alloc, words)?)),
+        None => Ok(None),
     }
 }
 

@@ -1,5 +1,5 @@
 -- What the reader told of the input.
-use Rattle.std.proofs.Common.{◌≡◌, inl, inr, length, List, ℕ, refl, sym, ap, subst, Ok, Err}
+use Rattle.std.proofs.Common.{inl, inr, length, List, ℕ, refl, sym, ap, subst, Ok, Err}
 use Rattle.http_bodies.proofs.Fronts.{none_made}
 use Rattle.measure.specs.Tasks.{HasBody}
 use Rattle.measure.proofs.Pieces.{body_counted, same_count, not_broken, not_early, not_refused_later, memory_alone}

@@ -1,5 +1,5 @@
 -- One piece more.
-use Rattle.std.proofs.Common.{◌+◌, ◌-◌, inr, length, drop, arith, length-drop}
+use Rattle.std.proofs.Common.{◌+◌, ◌-◌, inr, drop, arith, length-drop}
 use Rattle.std.proofs.lemmas.List.{length-take}
 use Rattle.http_bodies.proofs.Fronts.{not_refused}
 use Rattle.measure.proofs.Pieces.{piece_fed, piece_refused}

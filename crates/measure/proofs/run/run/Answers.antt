@@ -1,8 +1,7 @@
 -- What was counted, and its line.
-use Rattle.std.proofs.Common.{◌≤◌, ℕ, List, length, Err, ap, refl, subst, ◌∙◌}
+use Rattle.std.proofs.Common.{ℕ, List, Err, ap, refl, subst, ◌∙◌}
 use Rattle.std.specs.Io.KnownBytes.{Appends}
 use Rattle.wire.specs.Content.{AppendsPart}
-use Rattle.measure.specs.Tasks.{IsCount}
 use Rattle.measure.proofs.run.run.Goals as goal
 
 pub returns-in-Ok-write_all-clause-ends : goal.returns-in-Ok-write_all-clause-ends
@@ -10,12 +9,12 @@ returns-in-Ok-write_all-clause-ends g c =
     let line = c.in-Ok-line_for.ensures.line in (
       record {
         asked = record { task = c.in-Some.task; says = c.in-Some.ensures; input = c.in-Ok.input.items; reads = c.in-Ok.ensures.bytes };
-        short = subst (λ (bytes : List ℕ). length bytes ≤ 67108864) c.as_slice.ensures.value c.in-Ok-line_for.ensures.short;
+        short = c.in-Ok-line_for.ensures.short;
         number = line.0;
-        is = subst (λ (bytes : List ℕ). IsCount c.in-Some.task bytes line.0) c.as_slice.ensures.value line.1;
+        is = line.1;
       },
       subst (λ (bytes : List ℕ). Appends (g.K.Sink.held c.args.sink.now) (g.K.Sink.held c.write_all.new.sink) bytes)
-          (c.as_slice-2.ensures.value ∙ line.2) c.in-Ok-write_all.ensures.whole,
+          (c.as_slice.ensures.value ∙ line.2) c.in-Ok-write_all.ensures.whole,
     )
 
 pub returns-clause-ends : goal.returns-clause-ends
@@ -23,20 +22,19 @@ returns-clause-ends g c =
     let line = c.in-Ok-line_for.ensures.line in (
       record {
         asked = record { task = c.in-Some.task; says = c.in-Some.ensures; input = c.in-Ok.input.items; reads = c.in-Ok.ensures.bytes };
-        short = subst (λ (bytes : List ℕ). length bytes ≤ 67108864) c.as_slice.ensures.value c.in-Ok-line_for.ensures.short;
+        short = c.in-Ok-line_for.ensures.short;
         number = line.0;
-        is = subst (λ (bytes : List ℕ). IsCount c.in-Some.task bytes line.0) c.as_slice.ensures.value line.1;
+        is = line.1;
       },
       subst (λ (bytes : List ℕ). AppendsPart (g.K.Sink.held c.args.sink.now) (g.K.Sink.held c.write_all.new.sink) bytes)
-          (c.as_slice-2.ensures.value ∙ line.2) c.in-Err.ensures.part,
+          (c.as_slice.ensures.value ∙ line.2) c.in-Err.ensures.part,
     )
 
 pub returns-in-Err-Refused-clause-ends : goal.returns-in-Err-Refused-clause-ends
 returns-in-Err-Refused-clause-ends g c = (
   record {
     asked = record { task = c.in-Some.task; says = c.in-Some.ensures; input = c.in-Ok.input.items; reads = c.in-Ok.ensures.bytes };
-    none = subst (λ (bytes : List ℕ). length bytes ≤ 67108864 → (n : ℕ) → ¬ (IsCount c.in-Some.task bytes n)) c.as_slice.ensures.value
-        (c.in-Err-Refused.ensures.refused (ap Err c.in-Err-Refused.field-0-is));
+    none = c.in-Err-Refused.ensures.refused (ap Err c.in-Err-Refused.field-0-is);
   },
   refl,
 )

@@ -5,8 +5,8 @@ use Rattle.varn_program.specs.Run.{IsComplete}
 use Rattle.varn_program.proofs.Asking.{one_replay}
 use Rattle.varn_program.proofs.command.run.Goals as goal
 
-pub returns-in-Some-clause-complete : goal.returns-in-Some-clause-complete
-returns-in-Some-clause-complete g c = λ params asks.
+pub returns-in-Ok-Some-clause-complete : goal.returns-in-Ok-Some-clause-complete
+returns-in-Ok-Some-clause-complete g c = λ params asks.
     subst (λ (limits : Params). IsComplete limits (g.S.Source.left c.args.source.now) (g.K.Sink.held c.args.sink.now) (g.K.Sink.held c.replay.new.sink)
     (Rose (g.S.Source.faults c.args.source.now) (g.S.Source.faults c.replay.new.source) ⊎ Rose (g.K.Sink.faults c.args.sink.now) (g.K.Sink.faults c.replay.new.sink)) c.replay.result)
-    (sym (one_replay c.args.words.now c.in-Some.params params c.in-Some.ensures asks)) c.replay.ensures.complete
+    (sym (one_replay c.args.words.now c.in-Ok-Some.params params (rw c.in-Ok-Some.field-0-is at c.in-Ok-Some.ensures.asked) asks)) c.replay.ensures.complete
