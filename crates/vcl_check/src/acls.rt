@@ -80,7 +80,9 @@ fn is_mask(bits: i64) -> bool
     !(bits < 0) && bits < 33
 }
 
-fn mask_bits(mask: Option<Mask>) -> Option<u8>
+/// The number of an address's first bits that an entry with this mask asks for: all 32 where none is written, none where it
+/// isn't from 0 to 32.
+pub fn mask_bits(mask: Option<Mask>) -> Option<u8>
     ensures value { result ≡ mask_bits mask }
     ensures within { IfSome result (λ bits. bits ≤ 32) }
 {

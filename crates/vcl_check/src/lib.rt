@@ -24,11 +24,10 @@ mod statements;
 mod told;
 mod views;
 
+pub use acls::{address_of, mask_bits};
 pub use form::{Form, Use};
 pub use known::{Tables, Thing};
 pub use laws::sound_keeps;
 pub use program::{Program, check};
 pub use seen::{Argument, Arguments, Literal, Meaning, Seen, Sort, Told};
-
-#[cfg(test)]
-mod tests;
+pub use views::whole_part;

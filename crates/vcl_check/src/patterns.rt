@@ -1,7 +1,7 @@
 // The strings of a text that must be patterns, tried in its order.
-ghost use Rattle.std.specs.Prelude.{◌≡◌, ◌∷◌, ◌++◌, [], List, IfOk, IfSome, OnOk, None, is_some, true};
+ghost use Rattle.std.specs.Prelude.{◌≡◌, ◌∷◌, ◌++◌, [], List, IfOk, IfSome, OnOk, None, is_some, true, map, option_map};
 ghost use Rattle.vcl_check.specs.Mentions.{Said};
-ghost use Rattle.vcl_check.specs.Texts.{AreTried, MustRefuse, MayRefuse};
+ghost use Rattle.vcl_check.specs.Texts.{AreTried, MustRefuse, MayRefuse, pattern_of, pattern_texts};
 
 use crate::mentions::{Mention, MentionKind};
 use std::alloc::{AllocError, Global};
@@ -61,4 +61,29 @@ pub fn try_patterns(alloc: Global, mentions: &[Mention<'_>]) -> Result<Tried, Al
         try_pattern(alloc, &mut places, &mut patterns, mention)?;
     }
     Ok(Tried { places, patterns })
+}
+
+fn pattern_of<'t>(mention: &Mention<'t>) -> Option<&'t [u8]>
+    ensures { option_map (λ text. text.now) result ≡ pattern_of mention.now }
+{
+    match mention.kind {
+        MentionKind::Pattern => Some(mention.name),
+        _ => None,
+    }
+}
+
+/// The strings that must be patterns.
+pub fn pattern_texts<'t>(
+    alloc: Global,
+    mentions: &[Mention<'t>],
+) -> Result<Vec<&'t [u8]>, AllocError>
+    ensures { IfOk result (λ texts. map (λ text. text.now) texts.items ≡ pattern_texts mentions.now) }
+{
+    let mut texts = Vec::new(alloc);
+    for mention in mentions {
+        if let Some(text) = pattern_of(mention) {
+            texts.push(text)?;
+        }
+    }
+    Ok(texts)
 }

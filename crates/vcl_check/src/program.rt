@@ -1,27 +1,27 @@
 // Sound texts, with what their runs need.
-ghost use Rattle.std.specs.Prelude.{◌≡◌, ◌<◌, map, length, slice_get, IfOk, IfErr, OnOk, Some};
-ghost use Rattle.vmod_host.specs.Stored.{entry_of};
+ghost use Rattle.std.specs.Prelude.{◌≡◌, IfOk, IfErr, OnOk};
 ghost use Rattle.vcl_check.specs.Texts.{says, pattern_texts, IsSound, IsRefused};
 
 use crate::faults::{first_fault, has_backend};
+use crate::mentions::mentions;
+use crate::patterns::pattern_texts;
 use std::alloc::{AllocError, Global};
 use units::Sequence;
+use vcl_calls::NameIndex;
 use vcl_tree::{Refusal, Tree, VclError};
 use vcl_values::Pattern;
-use vmod_host::{Stored, Vmod, VmodTable};
+use vmod_host::{Stored, VmodTable};
 
-/// A text that is sound with the stored functions of a table. It keeps the patterns that its strings are, built once, and a
-/// copy of each stored function.
+/// A text that is sound with the stored functions of a table. It keeps the patterns that its strings are, built once; the
+/// functions stay in the table, where each has the number of its entry in `stored`.
 #[derive(Drop)]
 pub struct Program {
     pub tree: Tree,
     /// The tags and signatures of the table.
     pub stored: Sequence<Stored>,
     patterns: Vec<Pattern>,
-    functions: Vec<Vmod>,
     pub ghost sound: { ∥ IsSound tree.items stored ∥₁ },
     ghost built: { patterns.items ≡ pattern_texts (says tree.items) },
-    ghost fits: { map (λ vmod. entry_of vmod.tag vmod.signature) functions.items ≡ stored },
 }
 
 impl Program {
@@ -32,12 +32,12 @@ impl Program {
         self.patterns.as_slice()
     }
 
-    /// The stored function of this number.
-    pub fn function(&self, number: usize) -> &Vmod
-        requires { number < length self.now.stored }
-        ensures { slice_get self.now.stored number ≡ Some (entry_of result.now.tag result.now.signature) }
+    /// The texts of these patterns: one that is found in it has the number of its first pattern.
+    pub fn pattern_texts(&self, alloc: Global) -> Result<NameIndex<'_>, AllocError>
+        ensures { IfOk result (λ texts. texts ≡ pattern_texts (says self.entry.now.tree.items)) }
     {
-        &self.functions[number]
+        let mentioned = mentions(alloc, self.tree.items.as_slice())?;
+        NameIndex::of(alloc, pattern_texts(alloc, mentioned.as_slice())?)
     }
 }
 
@@ -50,13 +50,11 @@ pub fn check(alloc: Global, tree: Tree, vmods: &VmodTable) -> Result<Program, Vc
     ensures refused { IfErr result (IsRefused tree.items vmods.now.stored) }
 {
     let patterns = patterns_of(alloc, &tree, vmods.stored.as_slice())?;
-    let functions = copies(alloc, vmods)?;
-    let stored = entries_of(alloc, functions.as_slice())?;
+    let stored = entries_of(alloc, vmods.stored.as_slice())?;
     Ok(Program {
         tree,
         stored,
         patterns,
-        functions,
     })
 }
 
@@ -86,38 +84,15 @@ fn patterns_of(alloc: Global, tree: &Tree, stored: &[Stored]) -> Result<Vec<Patt
     }
 }
 
-fn copies(alloc: Global, vmods: &VmodTable) -> Result<Vec<Vmod>, AllocError>
-    ensures { IfOk result (λ copies. map (λ vmod. entry_of vmod.tag vmod.signature) copies.items ≡ vmods.now.stored) }
-{
-    let mut copies = Vec::new(alloc);
-    for number in 0..vmods.stored.as_slice().len() {
-        let copy = copy_of(alloc, vmods.at(number))?;
-        copies.push(copy)?;
-    }
-    Ok(copies)
-}
-
-// The same function again. The literal stands here since a call of `Vmod::copy` from another crate counts as one that
-// makes a function pointer of its own, and what makes one may not hand it out.
-fn copy_of(alloc: Global, vmod: &Vmod) -> Result<Vmod, AllocError>
-    ensures tag { IfOk result (λ copy. copy.tag ≡ vmod.now.tag) }
-    ensures signature { IfOk result (λ copy. copy.signature ≡ vmod.now.signature) }
-{
-    Ok(Vmod {
-        tag: vmod.tag,
-        signature: vmod.signature.copy(alloc)?,
-        call: vmod.call,
-    })
-}
-
-fn entries_of(alloc: Global, functions: &[Vmod]) -> Result<Sequence<Stored>, AllocError>
-    ensures { IfOk result (λ entries. entries ≡ map (λ vmod. entry_of vmod.tag vmod.signature) functions.now) }
+// The same tags and signatures again.
+fn entries_of(alloc: Global, stored: &[Stored]) -> Result<Sequence<Stored>, AllocError>
+    ensures { IfOk result (λ entries. entries ≡ stored.now) }
 {
     let mut entries = Sequence::new(alloc);
-    for vmod in functions {
+    for entry in stored {
         entries.push(Stored {
-            tag: vmod.tag,
-            signature: vmod.signature.copy(alloc)?,
+            tag: entry.tag,
+            signature: entry.signature.copy(alloc)?,
         })?;
     }
     Ok(entries)

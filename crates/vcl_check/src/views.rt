@@ -1,5 +1,5 @@
 // What is seen of a part by what it belongs to.
-ghost use Rattle.std.specs.Prelude.{◌≡◌, ◌≤◌, ◌<◌};
+ghost use Rattle.std.specs.Prelude.{◌≡◌};
 ghost use Rattle.vcl_check.specs.Views.{at_place, of_sort, written, sort_of, name_seen, given_sort, call_sort, whole_part, weight, integer_weight, decimal_weight, argument_of, seen_together};
 
 use crate::form::Form;
@@ -107,16 +107,15 @@ pub fn integer_weight(number: i64) -> Literal
 pub fn decimal_weight(digits: &[u8]) -> Literal
     ensures { result ≡ decimal_weight digits.now }
 {
-    let number = whole_part(0, digits);
+    let number = whole_part(digits);
     weight(1 <= number && number <= 1000)
 }
 
-// The number that the digits before a point spell, where one over 1,000 counts as 1,001.
-fn whole_part(front: u32, digits: &[u8]) -> u32
-    requires { front ≤ 1001 }
-    ensures { result ≡ whole_part front digits.now }
+/// The number that the digits before a point spell, where one over 1,000 counts as 1,001.
+pub fn whole_part(digits: &[u8]) -> u32
+    ensures { result ≡ whole_part 0 digits.now }
 {
-    let mut number = front;
+    let mut number = 0;
     for byte in digits {
         if *byte == b'.' {
             break;

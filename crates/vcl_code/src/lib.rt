@@ -12,8 +12,6 @@ mod expressions;
 mod names;
 mod node;
 mod statements;
-#[cfg(test)]
-mod tests;
 
 pub use arena::Arena;
 pub use callees::{Builtin, all_callees, builtin_of, word_of};

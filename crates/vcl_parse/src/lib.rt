@@ -16,6 +16,3 @@ mod statements;
 mod stop;
 
 pub use parsing::{one_tree, parse};
-
-#[cfg(test)]
-mod tests;

@@ -1,0 +1,95 @@
+// How signs bind.
+use crate::statements::first_statement;
+use std::alloc::{AllocError, Global};
+use units::Text;
+use vcl_parse::parse;
+use vcl_tree::{Action, Addend, Addition, Expression, Operation};
+
+/// What an expression is made of.
+pub fn expression_shown(alloc: Global, text: &str) -> Result<String, AllocError> {
+    let mut out = String::new(alloc);
+    let whole = format!(in alloc; "vcl 4.1; sub x {{ set y = {text}; }}")?;
+    if let Ok(tree) = parse(alloc, &Text::of(alloc, whole.as_bytes())?) {
+        if let Some(statement) = first_statement(&tree) {
+            if let Action::Set(_, _, value) = &statement.action {
+                push_expression(&mut out, value)?;
+            }
+        }
+    }
+    Ok(out)
+}
+
+// What an expression is, and then its parts.
+fn push_expression(out: &mut String, expression: &Expression) -> Result<(), AllocError> {
+    out.push_str(word_of(expression))?;
+    match &expression.operation {
+        Operation::Any(first, second, others) => {
+            push_pair(out, first, second)?;
+            push_all(out, others.as_slice())
+        }
+        Operation::All(first, second, others) => {
+            push_pair(out, first, second)?;
+            push_all(out, others.as_slice())
+        }
+        Operation::Compare(how, left, right) => {
+            write!(out, " {how:?}")?;
+            push_pair(out, left, right)
+        }
+        Operation::Sum(first, second, others) => {
+            push_part(out, first)?;
+            push_addend(out, second)?;
+            for addend in others.as_slice() {
+                push_addend(out, addend)?;
+            }
+            Ok(())
+        }
+        Operation::Not(_, operand) => push_part(out, operand),
+        Operation::Group(_, operand) => push_part(out, operand),
+        Operation::Call(_, _, arguments) => push_all(out, arguments.as_slice()),
+        _ => Ok(()),
+    }
+}
+
+fn push_all(out: &mut String, parts: &[Expression]) -> Result<(), AllocError> {
+    for part in parts {
+        push_part(out, part)?;
+    }
+    Ok(())
+}
+
+fn push_pair(out: &mut String, left: &Expression, right: &Expression) -> Result<(), AllocError> {
+    push_part(out, left)?;
+    push_part(out, right)
+}
+
+fn push_addend(out: &mut String, addend: &Addend) -> Result<(), AllocError> {
+    out.push_str(match addend.sign {
+        Addition::Plus => " +",
+        Addition::Minus => " -",
+    })?;
+    push_part(out, &addend.term)
+}
+
+fn push_part(out: &mut String, part: &Expression) -> Result<(), AllocError> {
+    out.push_str(" ")?;
+    out.push_str(word_of(part))
+}
+
+fn word_of(expression: &Expression) -> &'static str {
+    match &expression.operation {
+        Operation::Any(_, _, _) => "any",
+        Operation::All(_, _, _) => "all",
+        Operation::Not(_, _) => "not",
+        Operation::Compare(_, _, _) => "compare",
+        Operation::Sum(_, _, _) => "sum",
+        Operation::Group(_, _) => "group",
+        Operation::String(_, _) => "string",
+        Operation::Integer(_, n) if *n < 0 => "-integer",
+        Operation::Integer(_, _) => "integer",
+        Operation::Weight(_, _) => "weight",
+        Operation::Duration(_, n) if *n < 0 => "-duration",
+        Operation::Duration(_, _) => "duration",
+        Operation::Name(_, _) => "name",
+        Operation::Call(_, _, _) => "call",
+    }
+}
