@@ -1,0 +1,9 @@
+pub mod Binds
+pub mod Depths
+pub mod Falling
+pub mod Fits
+pub mod Growing
+pub mod Lists
+pub mod Steps
+pub mod Trees
+pub mod Weights

@@ -1,0 +1,40 @@
+use Rattle.std.proofs.Common.{◌≡◌, ◌<◌, ℕ, None, refl, sym}
+use Rattle.vcl_operands.specs.Nodes.{world}
+use Rattle.vcl_operands.proofs.Steps.{enter-none, enter-first, enter-calls, enter-leaf, first-weighs, calls-weighs, leaf-weighs}
+use Rattle.vcl_operands.proofs.evaluation.Evaluation.entered.Goals as goal
+
+pub returns-in_default-clause-value : goal.returns-in_default-clause-value
+returns-in_default-clause-value g c =
+    λ s. enter-none (world c.args.program.now.code c.args.functions.now.stored c.args.context.now) c.args.number c.args.self.now s (rw c.as_slice.ensures at c.in_default.ensures)
+
+pub returns-in_default-clause-smaller : goal.returns-in_default-clause-smaller
+returns-in_default-clause-smaller g c = leaf-weighs c.args.number None _ c.args.self.now refl
+
+pub returns-in-First-clause-value : goal.returns-in-First-clause-value
+returns-in-First-clause-value g c =
+    enter-first (world c.args.program.now.code c.args.functions.now.stored c.args.context.now) c.compiled_falls.ensures.nodes c.args.number c.in-Some.node c.in-First.part c.in-First.frame
+    c.args.self.now c.first.new.self c.first.result (rw c.as_slice.ensures at c.in-Some.ensures) c.in-First.ensures c.first.ensures
+
+pub returns-in-First-clause-smaller : goal.returns-in-First-clause-smaller
+returns-in-First-clause-smaller g c =
+    first-weighs c.args.number c.in-Some.node c.in-First.part c.in-First.frame c.args.self.now c.first.new.self c.first.result
+    (c.compiled_falls.ensures.nodes c.args.number c.in-Some.node (sym (rw c.as_slice.ensures at c.in-Some.ensures))) c.in-First.ensures c.first.ensures
+
+pub returns-in-Calls-clause-value : goal.returns-in-Calls-clause-value
+returns-in-Calls-clause-value g c =
+    enter-calls (world c.args.program.now.code c.args.functions.now.stored c.args.context.now) c.compiled_falls.ensures.nodes c.args.number c.in-Some.node c.in-Calls.function c.in-Calls.arguments
+    c.new.result c.args.self.now c.called.new.self c.called.result (rw c.as_slice.ensures at c.in-Some.ensures) c.in-Calls.ensures c.new.ensures
+    (c.called.ensures.value (world c.args.program.now.code c.args.functions.now.stored c.args.context.now) refl)
+
+pub returns-in-Calls-clause-smaller : goal.returns-in-Calls-clause-smaller
+returns-in-Calls-clause-smaller g c =
+    calls-weighs c.args.number c.in-Some.node c.in-Calls.function c.in-Calls.arguments c.args.self.now c.called.new.self c.called.result
+    (c.compiled_falls.ensures.nodes c.args.number c.in-Some.node (sym (rw c.as_slice.ensures at c.in-Some.ensures))) c.in-Calls.ensures c.called.ensures.smaller
+
+pub returns-in_ok-leaf-in-Leaf-clause-value : goal.returns-in_ok-leaf-in-Leaf-clause-value
+returns-in_ok-leaf-in-Leaf-clause-value g c =
+    λ s. enter-leaf (world c.args.program.now.code c.args.functions.now.stored c.args.context.now) c.compiled_falls.ensures.nodes c.args.number c.in-Some.node c.in-Leaf.node
+    c.args.self.now c.in_ok-leaf-in-Leaf.field-0 c.given_if.result s (rw c.as_slice.ensures at c.in-Some.ensures) c.in-Leaf.ensures c.in_ok-leaf-in-Leaf.ensures c.given_if.ensures
+
+pub returns-in_ok-leaf-in-Leaf-clause-smaller : goal.returns-in_ok-leaf-in-Leaf-clause-smaller
+returns-in_ok-leaf-in-Leaf-clause-smaller g c = leaf-weighs c.args.number c.in_ok-leaf-in-Leaf.field-0 c.given_if.result c.args.self.now c.given_if.ensures

@@ -1,0 +1,9 @@
+pub mod Falls
+pub mod Later
+pub mod Lists
+pub mod Meaning
+pub mod Nodes
+pub mod Outs
+pub mod Stacks
+pub mod Values
+pub mod Weights

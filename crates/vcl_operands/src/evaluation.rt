@@ -1,0 +1,257 @@
+// The evaluation of an expression, which stops where a purge by keys is wanted.
+ghost use Rattle.std.specs.Prelude.{◌≡◌, ◌<◌, ◌≤◌, ◌+◌, ◌∷◌, [], List, IfOk, length, slice_get};
+ghost use Rattle.vcl_turns.specs.declared.turn.Answer.{Answer};
+ghost use Rattle.vcl_operands.specs.Outs.{and_then};
+ghost use Rattle.vcl_operands.specs.Nodes.{World, world, value_at, left_of, rest_of, came_to, given_number, given_if, with_rest};
+ghost use Rattle.vcl_operands.specs.Weights.{power, weight, frames_weight, arguments_weight, LeavesLess, IsBegun};
+ghost use Rattle.vcl_context.specs.declared.context.Context.{Context as ContextHere};
+
+use crate::calls::applied;
+use crate::frame::{Doing, Frame, Plan, Unary, plan_of};
+use crate::laws::compiled_falls;
+use crate::leaves::leaf;
+use crate::operators::{changed, combined, short_text};
+use crate::stack::Stack;
+use std::alloc::{AllocError, Global};
+use std::marker::Model;
+use units::{Sequence, Text};
+use vcl_code::{Arguments, Node};
+use vcl_context::Context;
+use vcl_program::Compiled;
+use vcl_values::Value;
+use vmod_host::VmodTable;
+
+/// The evaluation of an expression. Clauses see what waits for values, the innermost first.
+#[derive(Drop)]
+pub struct Evaluation {
+    waiting: Stack<Frame>,
+}
+
+impl Model for Evaluation {
+    ghost use Rattle.std.specs.Prelude.{List};
+    ghost use Rattle.vcl_operands.specs.declared.frame.Frame.{Frame};
+
+    ghost Value = { List Frame };
+
+    ghost view = { λ e. e.waiting };
+}
+
+/// What an evaluation comes to.
+#[derive(Drop)]
+pub enum Outcome {
+    Value(Value),
+    /// A purge by these keys, soft or not, whose count is wanted.
+    Purge(Text, bool),
+    /// The run ends as `fail`.
+    Fail,
+}
+
+impl Evaluation {
+    /// One that waits for nothing.
+    pub fn new(alloc: Global) -> Evaluation
+        ensures { result ≡ [] }
+    {
+        Evaluation {
+            waiting: Stack::new(alloc),
+        }
+    }
+
+    /// Evaluates a node. What waits behind a purge that is wanted weighs less than any node.
+    pub fn evaluate(
+        &mut self,
+        alloc: Global,
+        program: &Compiled,
+        functions: &VmodTable,
+        context: &Context,
+        number: usize,
+    ) -> Result<Outcome, AllocError>
+        requires { self.old ≡ [] }
+        ensures value { IfOk result (λ outcome. (s : List Answer) → value_at (world program.now.code functions.now.stored context.now) number s
+            ≡ came_to (world program.now.code functions.now.stored context.now) outcome self.new s) }
+        ensures less { IfOk result (λ outcome. LeavesLess (power (length program.now.code.arena.nodes)) outcome self.new) }
+    {
+        if number >= program.code.arena.nodes.as_slice().len() {
+            return Ok(Outcome::Fail);
+        }
+        self.run(alloc, program, functions, context, Doing::Evaluate(number))
+    }
+
+    /// Goes on with the count of a purge. What waits behind a further one weighs less than what waited behind this.
+    pub fn answer(
+        &mut self,
+        alloc: Global,
+        program: &Compiled,
+        functions: &VmodTable,
+        context: &Context,
+        count: i64,
+    ) -> Result<Outcome, AllocError>
+        ensures value { IfOk result (λ outcome. (s : List Answer) → given_number (world program.now.code functions.now.stored context.now) self.old (Answer.Number count) s
+            ≡ came_to (world program.now.code functions.now.stored context.now) outcome self.new s) }
+        ensures less { IfOk result (λ outcome. LeavesLess (frames_weight self.old) outcome self.new) }
+    {
+        self.run(
+            alloc,
+            program,
+            functions,
+            context,
+            Doing::Give(Value::Int(count)),
+        )
+    }
+
+    fn run(
+        &mut self,
+        alloc: Global,
+        program: &Compiled,
+        functions: &VmodTable,
+        context: &Context,
+        first: Doing,
+    ) -> Result<Outcome, AllocError>
+        ensures value { IfOk result (λ outcome. (s : List Answer) → rest_of (world program.now.code functions.now.stored context.now) first self.old s
+            ≡ came_to (world program.now.code functions.now.stored context.now) outcome self.new s) }
+        ensures less { IsBegun first → IfOk result (λ outcome. LeavesLess (weight first self.old) outcome self.new) }
+    {
+        let mut doing = first;
+        'steps: loop {
+            doing = match doing {
+                Doing::Evaluate(number) => {
+                    self.entered(alloc, program, functions, context, number)?
+                }
+                Doing::Give(value) => match self.waiting.pop() {
+                    None => return Ok(Outcome::Value(value)),
+                    Some(frame) => self.given(alloc, program, functions, frame, value)?,
+                },
+                Doing::Need(keys, soft) => return Ok(Outcome::Purge(keys, soft)),
+                Doing::Fail => return Ok(Outcome::Fail),
+            };
+        }
+    }
+
+    // A node is evaluated: what comes first of it.
+    fn entered(
+        &mut self,
+        alloc: Global,
+        program: &Compiled,
+        functions: &VmodTable,
+        context: &Context,
+        number: usize,
+    ) -> Result<Doing, AllocError>
+        ensures value { IfOk result (λ next. (s : List Answer) → rest_of (world program.now.code functions.now.stored context.now) (Doing.Evaluate number) self.old s
+            ≡ rest_of (world program.now.code functions.now.stored context.now) next self.new s) }
+        ensures smaller { IfOk result (λ next. weight next self.new < weight (Doing.Evaluate number) self.old) }
+    {
+        compiled_falls(program);
+        let Some(node) = node_at(program.code.arena.nodes.as_slice(), number) else {
+            return Ok(Doing::Fail);
+        };
+        match plan_of(node) {
+            Plan::First(part, frame) => self.first(part, frame),
+            Plan::Calls(function, arguments) => {
+                self.called(alloc, functions, function, Sequence::new(alloc), arguments)
+            }
+            Plan::Leaf(node) => Ok(given_if(leaf(alloc, program, context, node)?)),
+        }
+    }
+
+    // A part first, and what waits for it.
+    fn first(&mut self, part: usize, frame: Frame) -> Result<Doing, AllocError>
+        ensures { IfOk result (λ next. (next ≡ Doing.Evaluate part) × (self.new ≡ frame ∷ self.old)) }
+    {
+        self.waiting.push(frame)?;
+        Ok(Doing::Evaluate(part))
+    }
+
+    // A value for what waits on top.
+    fn given(
+        &mut self,
+        alloc: Global,
+        program: &Compiled,
+        functions: &VmodTable,
+        frame: Frame,
+        value: Value,
+    ) -> Result<Doing, AllocError>
+        ensures value { (context : ContextHere) → IfOk result (λ next. (s : List Answer) → left_of (world program.now.code functions.now.stored context) (frame ∷ self.old) value s
+            ≡ rest_of (world program.now.code functions.now.stored context) next self.new s) }
+        ensures smaller { IfOk result (λ next. weight next self.new < frames_weight (frame ∷ self.old)) }
+    {
+        match frame {
+            Frame::One(what) => Ok(given_if(changed(alloc, program, what, &value)?)),
+            Frame::Left(what, right) => self.first(right, Frame::Right(what, value)),
+            Frame::Right(what, left) => {
+                Ok(given_if(combined(alloc, program, what, &left, &value)?))
+            }
+            Frame::Decide(decided, right) => self.decided(decided, right, &value),
+            Frame::Purge(soft) => match short_text(alloc, &value)? {
+                Some(keys) => Ok(Doing::Need(keys, soft)),
+                None => Ok(Doing::Fail),
+            },
+            Frame::Apply(function, mut values, rest) => {
+                values.push(value)?;
+                self.called(alloc, functions, function, values, rest)
+            }
+        }
+    }
+
+    // The right side, unless the left one decides.
+    fn decided(&mut self, decided: bool, right: usize, left: &Value) -> Result<Doing, AllocError>
+        ensures value { (w : World) → IfOk result (λ next. (s : List Answer) → left_of w (Frame.Decide decided right ∷ self.old) left.now s ≡ rest_of w next self.new s) }
+        ensures smaller { IfOk result (λ next. weight next self.new < frames_weight (Frame.Decide decided right ∷ self.old)) }
+    {
+        match left.truth() {
+            None => Ok(Doing::Fail),
+            Some(truth) => {
+                if truth == decided {
+                    Ok(Doing::Give(Value::Bool(decided)))
+                } else {
+                    self.first(right, Frame::One(Unary::Truth))
+                }
+            }
+        }
+    }
+
+    // A stored function with some of its arguments: the next one, or its value.
+    fn called(
+        &mut self,
+        alloc: Global,
+        functions: &VmodTable,
+        function: usize,
+        values: Sequence<Value>,
+        rest: Arguments,
+    ) -> Result<Doing, AllocError>
+        ensures value { (w : World) → w.stored ≡ functions.now.stored
+            → IfOk result (λ next. (s : List Answer) → and_then (with_rest w.stored (value_at w) function rest values s) (left_of w self.old) ≡ rest_of w next self.new s) }
+        ensures smaller { IfOk result (λ next. weight next self.new ≤ arguments_weight rest + frames_weight self.old) }
+    {
+        match rest {
+            Arguments::Zero => Ok(given_if(applied(
+                alloc,
+                functions,
+                function,
+                values.as_slice(),
+            )?)),
+            Arguments::One(x) => self.first(x, Frame::Apply(function, values, Arguments::Zero)),
+            Arguments::Two(x, y) => {
+                self.first(x, Frame::Apply(function, values, Arguments::One(y)))
+            }
+            Arguments::Three(x, y, z) => {
+                self.first(x, Frame::Apply(function, values, Arguments::Two(y, z)))
+            }
+            Arguments::More => Ok(Doing::Fail),
+        }
+    }
+}
+
+// A value is given, if there is one.
+fn given_if(value: Option<Value>) -> Doing
+    ensures { result ≡ given_if value }
+{
+    match value {
+        Some(value) => Doing::Give(value),
+        None => Doing::Fail,
+    }
+}
+
+fn node_at(nodes: &[Node], number: usize) -> Option<Node>
+    ensures { result ≡ slice_get nodes.now number }
+{
+    nodes.get(number).copied()
+}
