@@ -1,10 +1,10 @@
 // Texts and their joined trees as the checker finds them, worked out by hand from the rules.
-use crate::{BUILT_IN, joined_tree};
+use crate::{BUILT_IN, Library, checked, program_of};
 use std::alloc::Global;
 use std::process::Abort;
 use std::test::Fail;
 use units::Text;
-use vcl_check::check;
+use vcl_program::Compiled;
 use vcl_tree::VclError;
 use vmod_host::VmodTable;
 
@@ -12,11 +12,7 @@ use vmod_host::VmodTable;
 fn shown(rt: &impl Abort, alloc: Global, text: &[u8]) -> Result<Result<usize, (u8, u32)>, Fail> {
     let vmods = VmodTable::of(alloc, Vec::new(alloc)).expect(rt, "a table");
     let text = Text::of(alloc, text)?;
-    let checked = match joined_tree(alloc, &text) {
-        Ok(tree) => check(alloc, tree, &vmods),
-        Err(error) => Err(error),
-    };
-    match checked {
+    match checked(alloc, &text, &vmods) {
         Ok(program) => Ok(Ok(program.tree.items.as_slice().len())),
         Err(VclError::Refused { kind, place }) => Ok(Err((kind.number(), place))),
         Err(error) => Err(Fail::from(error)),
@@ -70,5 +66,45 @@ fn joined_texts(rt: HostRuntime) -> Result<(), Fail> {
 #[test]
 fn the_built_in_text_by_itself(rt: HostRuntime) -> Result<(), Fail> {
     assert_eq!(rt; shown(&rt, rt.alloc(), BUILT_IN)?, Err((11, 0)));
+    Ok(())
+}
+
+fn backends(compiled: &Compiled) -> usize {
+    compiled.code.backends.as_slice().len()
+}
+
+#[test]
+fn programs_by_number(rt: HostRuntime) -> Result<(), Fail> {
+    let alloc = rt.alloc();
+    let vmods = VmodTable::of(alloc, Vec::new(alloc)).expect(&rt, "a table");
+    let text = Text::of(alloc, b"vcl 4.1; backend b none;")?;
+    let other = Text::of(alloc, b"vcl 4.1; backend b none; backend c none;")?;
+    let mut library = Library::new(alloc);
+    assert_eq!(rt; backends(library.program(alloc, 1, &text, &vmods)?), 1);
+    assert_eq!(rt; backends(library.program(alloc, 2, &other, &vmods)?), 2);
+    assert_eq!(rt; backends(library.program(alloc, 1, &text, &vmods)?), 1);
+    assert_eq!(rt; backends(library.program(alloc, 1, &other, &vmods)?), 2);
+    assert_eq!(rt; library.kept.len(), 2);
+    Ok(())
+}
+
+// How many directors the program of a text has.
+fn directors(rt: &impl Abort, alloc: Global, text: &[u8]) -> Result<usize, Fail> {
+    let vmods = VmodTable::of(alloc, Vec::new(alloc)).expect(rt, "a table");
+    let compiled = program_of(alloc, &Text::of(alloc, text)?, &vmods)?;
+    Ok(compiled.code.directors.as_slice().len())
+}
+
+#[test]
+fn objects_are_made_in_vcl_init(rt: HostRuntime) -> Result<(), Fail> {
+    let made = b"vcl 4.1; import directors; backend b none;
+        sub vcl_init { new d = directors.hash(); d.add_backend(b, 2.0); }
+        sub vcl_recv { set req.backend_hint = d.backend(req.url); }";
+    // nothing reaches the subroutine, so that the check doesn't refuse it
+    let made_elsewhere = b"vcl 4.1; import directors; backend b none;
+        sub unused { new d = directors.hash(); }
+        sub vcl_recv { set req.backend_hint = d.backend(req.url); }";
+    assert_eq!(rt; directors(&rt, rt.alloc(), made)?, 1);
+    assert_eq!(rt; directors(&rt, rt.alloc(), made_elsewhere)?, 0);
     Ok(())
 }

@@ -1,0 +1,9 @@
+pub mod Clean
+pub mod Declared
+pub mod Expressions
+pub mod Names
+pub mod Refusals
+pub mod Rows
+pub mod Statements
+pub mod Values
+pub mod Whole
