@@ -1,0 +1,9 @@
+pub mod Commands
+pub mod Names
+pub mod Messages
+pub mod Listings
+pub mod Refusals
+pub mod Orders
+pub mod Answers
+pub mod Sources
+pub mod Lines
