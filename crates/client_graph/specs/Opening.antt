@@ -1,0 +1,23 @@
+-- Where a round begins (Varnish Reference Manual, VCL-Steps, "vcl_recv").
+use Rattle.std.specs.Prelude.{ℕ, List, None}
+use Rattle.http_heads.specs.declared.message.RequestHead.{RequestHead}
+use Rattle.cache_law.specs.declared.rounds.Request.{Request}
+use Rattle.client_graph.specs.declared.round.Round.{Round}
+use Rattle.client_graph.specs.declared.round.State.TheVariants as state
+use Rattle.client_graph.specs.declared.round.Next.{Next}
+use Rattle.client_graph.specs.declared.round.Next.TheVariants.{Enter}
+use Rattle.client_graph.specs.Contexts.{first_context}
+use Rattle.message_fields.specs.Forwarded.{forwarded}
+
+abbrev pub first_round : ℕ → ℕ → Request → List ℕ → Round
+first_round number vcl request peer =
+    record { number = number; vcl = vcl; peer = peer; asked = request; restarts = 0; later = None }
+
+-- the request's fields, with the client's address at the end of X-Forwarded-For
+abbrev pub forwarded_head : List ℕ → RequestHead → RequestHead
+forwarded_head peer head = record head { fields = forwarded peer head.fields }
+
+-- the round of this number under this VCL begins with vcl_recv
+abbrev pub opening : ℕ → ℕ → Request → List ℕ → Next
+opening number vcl request peer =
+    Enter state.Recv (first_context peer (forwarded_head peer request.head)) (first_round number vcl request peer)

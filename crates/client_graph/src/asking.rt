@@ -1,0 +1,170 @@
+// What is wanted where a round rests.
+ghost use Rattle.std.specs.Prelude.{◌≡◌, Option, None, Some, IfOk};
+ghost use Rattle.std.specs.Option.{option_copied};
+ghost use Rattle.cache_law.specs.declared.rounds.Order.{Order as Ordered};
+ghost use Rattle.delivery.specs.Finished.{finished};
+ghost use Rattle.client_graph.specs.Wants.{hint_at as hint_in, hint_text as text_of_hint, store_order as store_ordered, pass_order as pass_ordered, order_of as ordered, asks_with};
+
+use crate::{Errand, Held, Round, Spot, Want};
+use cache_law::rounds::{Order, Request};
+use cache_law::{Call, ObjectView, Target};
+use delivery::{failure_page, finish};
+use http_heads::RequestHead;
+use std::alloc::{AllocError, Global};
+use units::{Copied, Text};
+use vcl_context::Context;
+use vcl_values::Backend;
+
+impl Spot {
+    /// The backend or director that VCL chose, where a fetch is asked for here.
+    pub fn hint(&self) -> Option<&Backend>
+        ensures { option_copied result ≡ hint_in self.now }
+    {
+        match self {
+            Spot::Fetch { context, .. } | Spot::Background { context, .. } => {
+                context.request.backend_hint.as_ref()
+            }
+            _ => None,
+        }
+    }
+}
+
+fn hint_text(alloc: Global, hint: &Option<Backend>) -> Result<Text, AllocError>
+    ensures { IfOk result (λ text. text ≡ text_of_hint hint.now) }
+{
+    match hint {
+        Some(Backend { key: Some(key), .. }) => Ok(key.copy()?),
+        _ => Text::of(alloc, b""),
+    }
+}
+
+fn stale_copy(stale: &Option<ObjectView>) -> Result<Option<ObjectView>, AllocError>
+    ensures { IfOk result (λ copy. copy ≡ stale.now) }
+{
+    match stale {
+        Some(view) => Ok(Some(view.copy()?)),
+        None => Ok(None),
+    }
+}
+
+// A fetch of what may be stored.
+fn store_order(
+    alloc: Global,
+    hint: Option<Target>,
+    background: bool,
+    round: &Round,
+    held: &Held,
+    context: &Context,
+) -> Result<Order, AllocError>
+    ensures { IfOk result (λ order. order ≡ store_ordered hint background round.now held.now context.now) }
+{
+    Ok(Order {
+        number: held.token,
+        vcl: round.vcl,
+        peer: round.peer,
+        request: Request {
+            head: context.request.head.copied(alloc)?,
+            body: Text::of(alloc, b"")?,
+        },
+        hint,
+        hint_text: hint_text(alloc, &context.request.backend_hint)?,
+        looked: Some(held.query.copy()?),
+        stale: stale_copy(&held.stale)?,
+        background,
+        moment: held.moment,
+    })
+}
+
+// A fetch of the response to a request that is passed.
+fn pass_order(
+    alloc: Global,
+    hint: Option<Target>,
+    round: &Round,
+    number: u64,
+    moment: u64,
+    context: &Context,
+) -> Result<Order, AllocError>
+    ensures { IfOk result (λ order. order ≡ pass_ordered hint round.now number moment context.now) }
+{
+    Ok(Order {
+        number,
+        vcl: round.vcl,
+        peer: round.peer,
+        request: Request {
+            head: context.request.head.copied(alloc)?,
+            body: round.asked.body.copy()?,
+        },
+        hint,
+        hint_text: hint_text(alloc, &context.request.backend_hint)?,
+        looked: None,
+        stale: None,
+        background: false,
+        moment,
+    })
+}
+
+fn order_of(
+    alloc: Global,
+    hint: Option<Target>,
+    round: &Round,
+    errand: &Errand,
+    context: &Context,
+) -> Result<Order, AllocError>
+    ensures { IfOk result (λ order. order ≡ ordered hint round.now errand.now context.now) }
+{
+    match errand {
+        Errand::Store(held) => store_order(alloc, hint, false, round, held, context),
+        Errand::Pass { number, moment } => {
+            pass_order(alloc, hint, round, *number, *moment, context)
+        }
+    }
+}
+
+// The response that is sent of what VCL left.
+fn send(
+    alloc: Global,
+    asked: &RequestHead,
+    context: &Context,
+    body: &Text,
+) -> Result<Want, AllocError>
+    ensures { IfOk result (λ want. want ≡ Want.Send (finished asked.now context.now.request.head.fields context.now.response body.now)) }
+{
+    let head = context.response.copied(alloc)?;
+    Ok(Want::Send(finish(
+        alloc,
+        asked,
+        &context.request.head.fields,
+        head,
+        body.copy()?,
+    )?))
+}
+
+/// What is wanted where the round rests, by `asks_with` of `specs/Wants.antt`. `hint` is the target that `Spot::hint`
+/// names, where it names one.
+pub fn ask(
+    alloc: Global,
+    hint: Option<Target>,
+    round: &Round,
+    spot: &Spot,
+) -> Result<Want, AllocError>
+    ensures { IfOk result (λ want. want ≡ asks_with hint round.now spot.now) }
+{
+    match spot {
+        Spot::Look { query, .. } => Ok(Want::Cache(Call::Lookup(query.copy()?))),
+        Spot::Purge { context } => Ok(Want::Cache(Call::Purge {
+            key: context.key.copied(alloc)?,
+        })),
+        Spot::Drop { token, .. } => Ok(Want::Cache(Call::Drop { token: *token })),
+        Spot::Draw { .. } => Ok(Want::Cache(Call::Draw)),
+        Spot::Fetch { errand, context } => {
+            Ok(Want::Fetch(order_of(alloc, hint, round, errand, context)?))
+        }
+        Spot::Send { context, body } => send(alloc, &round.asked.head, context, body),
+        Spot::Fail { .. } => Ok(Want::Send(failure_page(alloc)?)),
+        Spot::Background { held, context } => Ok(Want::Background(store_order(
+            alloc, hint, true, round, held, context,
+        )?)),
+        Spot::End => Ok(Want::Cache(Call::End)),
+        Spot::Over => Ok(Want::Done),
+    }
+}

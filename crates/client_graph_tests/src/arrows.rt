@@ -1,0 +1,62 @@
+// Arrows from the end of a subroutine.
+use crate::making::{begun, found, held};
+use crate::names::shown;
+use client_graph::{Next, Round, State, Wish, lead};
+use std::alloc::{AllocError, Global};
+use units::Text;
+use vcl_turns::Return;
+
+/// Where a word of `return` leads from a subroutine, in a round that was restarted so often.
+pub fn led(alloc: Global, words: &str) -> Result<&'static str, AllocError> {
+    let (state, rest) = words.split_once(' ').unwrap_or((words, ""));
+    let (word, restarts) = rest.split_once(' ').unwrap_or((rest, "0"));
+    let restarts = restarts.parse::<u32>().unwrap_or(0);
+    let state = state_of(alloc, state)?;
+    let word = word_of(alloc, word)?;
+    followed(alloc, restarts, state, word)
+}
+
+fn state_of(alloc: Global, name: &str) -> Result<State, AllocError> {
+    Ok(match name {
+        "vcl_recv" => State::Recv,
+        "vcl_hash" => State::Hash(Wish::Lookup),
+        "vcl_hash:purge" => State::Hash(Wish::Purge),
+        "vcl_purge" => State::Purge,
+        "vcl_hit" => State::Hit(found(alloc, None)?),
+        "vcl_hit:token" => State::Hit(found(alloc, Some(held(alloc)?))?),
+        "vcl_miss" => State::Miss(held(alloc)?),
+        "vcl_pass" => State::Pass,
+        "vcl_deliver" => State::Deliver(Text::of(alloc, b"hi")?),
+        _ => State::Synth,
+    })
+}
+
+fn word_of(alloc: Global, name: &str) -> Result<Return, AllocError> {
+    Ok(match name {
+        "hash" => Return::Hash,
+        "pass" => Return::Pass,
+        "purge" => Return::Purge,
+        "restart" => Return::Restart,
+        "synth" => Return::Synth(404, Text::of(alloc, b"No")?),
+        "lookup" => Return::Lookup,
+        "deliver" => Return::Deliver,
+        "fetch" => Return::Fetch,
+        _ => Return::Fail,
+    })
+}
+
+fn followed(
+    alloc: Global,
+    restarts: u32,
+    state: State,
+    word: Return,
+) -> Result<&'static str, AllocError> {
+    match begun(alloc, "GET", 11)? {
+        Next::Enter { context, round, .. } => {
+            let round = Round { restarts, ..round };
+            let next = lead(alloc, state, word, context, round)?;
+            shown(alloc, &next)
+        }
+        Next::Rest { .. } => Ok("no subroutine"),
+    }
+}

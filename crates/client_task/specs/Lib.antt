@@ -1,0 +1,4 @@
+pub mod Commands
+pub mod Rounds
+pub mod Standing
+pub mod Laws

@@ -1,0 +1,235 @@
+// How a step settles where something is wanted.
+ghost use Rattle.std.specs.Prelude.{◌≡◌, IfOk, IsErr, option_and_then};
+ghost use Rattle.vcl_runs.specs.Runs.{Ran, answered};
+ghost use Rattle.client_graph.specs.Wants.{hint_at};
+ghost use Rattle.client_graph.specs.Answers.{over};
+ghost use Rattle.client_task.specs.Rounds.{Node, Inside, Runs, Moves, evaluator, step_of};
+ghost use Rattle.client_task.specs.Standing.{IsAt, IsReady, MayGoOn, Went, SettlesAt, Lowers, weight};
+
+use crate::commands::{Asking, answer_to, take_command};
+use crate::{Asked, Place};
+use cache_law::Target;
+use cache_law::rounds::Given;
+use client_graph::{Next, Round, Spot, State, Want, ask, lead, take};
+use std::alloc::{AllocError, Global};
+use vcl_context::Context;
+use vcl_runs::Runner;
+use vcl_turns::{Answer, Turn};
+
+/// A place, and what is wanted there.
+#[derive(Drop)]
+pub(crate) struct Settled<M> {
+    pub place: Place<M>,
+    pub want: Want,
+}
+
+/// Where a run of a subroutine comes to.
+#[derive(Drop)]
+pub(crate) enum Gone<M> {
+    /// It asks for something.
+    Stops(Settled<M>),
+    /// It ended, and this comes next.
+    Leads(Next),
+}
+
+// A run that asks for a call.
+fn stop<M>(asking: Asking, state: State, run: M, round: Round) -> Gone<M>
+    ensures { result ≡ Gone.Stops (record { place = Place.Inside asking.asked state run round; want = Want.Cache asking.call }) }
+{
+    let Asking { asked, call } = asking;
+    Gone::Stops(Settled {
+        place: Place::Inside {
+            asked,
+            state,
+            run,
+            round,
+        },
+        want: Want::Cache(call),
+    })
+}
+
+// A run goes on by an answer, until it asks for a call or ends.
+fn go<M: Runner>(
+    alloc: Global,
+    program: &M::Program,
+    state: State,
+    mut run: M,
+    round: Round,
+    mut answer: Answer,
+) -> Result<Gone<M>, AllocError>
+    requires stands { (ran : Ran) × M.stands run program.now ran }
+    requires fits { M.fits run answer }
+    ensures went { IfOk result (λ gone. (ran : Ran) → M.stands run program.now ran
+        → Went (evaluator M.turns M.targets program.now) (λ run ran. M.stands run program.now ran) M.fits (Runs state (answered answer ran) round) gone) }
+    ensures lowers { IfOk result (Lowers (weight state round)) }
+{
+    'runs: loop {
+        let turn = run.resume(alloc, program, answer)?;
+        match turn {
+            Turn::Need(command) => {
+                let found = take_command(alloc, command)?;
+                match found {
+                    Some(asking) => return Ok(stop(asking, state, run, round)),
+                    None => answer = Answer::Done,
+                }
+            }
+            Turn::End(word, context) => {
+                let next = lead(alloc, state, word, context, round)?;
+                return Ok(Gone::Leads(next));
+            }
+        }
+    }
+}
+
+// The subroutine of a state begins.
+fn begin<M: Runner>(
+    alloc: Global,
+    program: &M::Program,
+    state: State,
+    context: Context,
+    round: Round,
+) -> Result<Gone<M>, AllocError>
+    ensures went { IfOk result (Went (evaluator M.turns M.targets program.now) (λ run ran. M.stands run program.now ran) M.fits (Moves (Next.Enter state context round))) }
+    ensures lowers { IfOk result (Lowers (weight state round)) }
+{
+    let run = M::start(alloc, program, state.subroutine(), context)?;
+    go(alloc, program, state, run, round, Answer::Begin)
+}
+
+// The target that a fetch is hinted at, where one is asked for.
+fn hint_of<M: Runner>(
+    alloc: Global,
+    program: &M::Program,
+    spot: &Spot,
+) -> Result<Option<Target>, AllocError>
+    ensures { IfOk result (λ hint. hint ≡ option_and_then (M.targets program.now) (hint_at spot.now)) }
+{
+    match spot.hint() {
+        Some(backend) => M::target(alloc, program, backend),
+        None => Ok(None),
+    }
+}
+
+fn rest<M: Runner>(
+    alloc: Global,
+    program: &M::Program,
+    spot: Spot,
+    round: Round,
+) -> Result<Settled<M>, AllocError>
+    ensures { IfOk result (SettlesAt (evaluator M.turns M.targets program.now) (λ run ran. M.stands run program.now ran) M.fits (Moves (Next.Rest spot round))) }
+{
+    let hint = hint_of::<M>(alloc, program, &spot)?;
+    let want = ask(alloc, hint, &round, &spot)?;
+    Ok(Settled {
+        place: Place::Between { spot, round },
+        want,
+    })
+}
+
+// What comes next, until something is wanted.
+fn settle<M: Runner>(
+    alloc: Global,
+    program: &M::Program,
+    mut next: Next,
+) -> Result<Settled<M>, AllocError>
+    ensures { IfOk result (SettlesAt (evaluator M.turns M.targets program.now) (λ run ran. M.stands run program.now ran) M.fits (Moves next)) }
+{
+    'states: loop {
+        match next {
+            Next::Rest { spot, round } => return rest(alloc, program, spot, round),
+            Next::Enter {
+                state,
+                context,
+                round,
+            } => {
+                let gone = begin(alloc, program, state, context, round)?;
+                match gone {
+                    Gone::Stops(settled) => return Ok(settled),
+                    Gone::Leads(later) => next = later,
+                }
+            }
+        }
+    }
+}
+
+fn go_on<M: Runner>(
+    alloc: Global,
+    program: &M::Program,
+    state: State,
+    run: M,
+    round: Round,
+    answer: Answer,
+) -> Result<Settled<M>, AllocError>
+    requires stands { (ran : Ran) × M.stands run program.now ran }
+    requires fits { M.fits run answer }
+    ensures { IfOk result (λ settled. (ran : Ran) → M.stands run program.now ran
+        → SettlesAt (evaluator M.turns M.targets program.now) (λ run ran. M.stands run program.now ran) M.fits (Runs state (answered answer ran) round) settled) }
+{
+    let gone = go(alloc, program, state, run, round, answer)?;
+    match gone {
+        Gone::Stops(settled) => Ok(settled),
+        Gone::Leads(next) => settle(alloc, program, next),
+    }
+}
+
+fn end_round<M: Runner>(
+    alloc: Global,
+    program: &M::Program,
+    round: Round,
+) -> Result<Settled<M>, AllocError>
+    ensures { IfOk result (SettlesAt (evaluator M.turns M.targets program.now) (λ run ran. M.stands run program.now ran) M.fits (Moves (over round))) }
+{
+    rest(alloc, program, Spot::Over, round)
+}
+
+// A subroutine that asked for something is given this.
+fn answer_run<M: Runner>(
+    alloc: Global,
+    program: &M::Program,
+    asked: Asked,
+    state: State,
+    run: M,
+    round: Round,
+    given: Given,
+) -> Result<Settled<M>, AllocError>
+    requires stands { (ran : Ran) × M.stands run program.now ran }
+    requires ready { IsReady (M.fits run) asked }
+    ensures { IfOk result (λ settled. (ran : Ran) → M.stands run program.now ran
+        → SettlesAt (evaluator M.turns M.targets program.now) (λ run ran. M.stands run program.now ran) M.fits (step_of (Inside asked state ran round) given) settled) }
+{
+    match given {
+        Given::Reply(told) => match answer_to(asked, &told.reply) {
+            Some(answer) => go_on(alloc, program, state, run, round, answer),
+            None => end_round(alloc, program, round),
+        },
+        _other => end_round(alloc, program, round),
+    }
+}
+
+/// A place is given something, and settles where something is wanted.
+pub(crate) fn take_up<M: Runner>(
+    alloc: Global,
+    program: &M::Program,
+    place: Place<M>,
+    given: Given,
+) -> Result<Settled<M>, AllocError>
+    requires { MayGoOn (λ run ran. M.stands run program.now ran) M.fits place }
+    ensures broken { place ≡ Place.Broken → IsErr result }
+    ensures settles { IfOk result (λ settled. (node : Node) → IsAt (λ run ran. M.stands run program.now ran) M.fits place node
+        → SettlesAt (evaluator M.turns M.targets program.now) (λ run ran. M.stands run program.now ran) M.fits (step_of node given) settled) }
+{
+    match place {
+        Place::Before(next) => settle(alloc, program, next),
+        Place::Inside {
+            asked,
+            state,
+            run,
+            round,
+        } => answer_run(alloc, program, asked, state, run, round, given),
+        Place::Between { spot, round } => {
+            let next = take(alloc, spot, given, round)?;
+            settle(alloc, program, next)
+        }
+        Place::Broken => Err(AllocError),
+    }
+}
