@@ -1,0 +1,176 @@
+-- Which state follows a subroutine of a fetch by its word (Varnish Reference Manual, VCL-Steps, "Backend side"; Varnish Users
+-- Guide, "Hit-for-miss").
+use Rattle.std.specs.Prelude.{ℕ, ℤ, pos, nat_lt, ◌+◌, Bool, true, false, List, [], Option, Some, None, option_map, codes, if◌then◌else◌}
+use Rattle.http_heads.specs.declared.message.ResponseHead.{ResponseHead}
+use Rattle.freshness.specs.declared.times.Timing.{Timing}
+use Rattle.cache_law.specs.declared.call.Query.{Query}
+use Rattle.cache_law.specs.declared.object.Object.{Object}
+use Rattle.cache_law.specs.declared.object.Object.TheVariants.{Ordinary, HitForMiss, HitForPass}
+use Rattle.cache_law.specs.declared.object.ObjectView.{ObjectView}
+use Rattle.cache_law.specs.declared.object.Response.{Response}
+use Rattle.cache_law.specs.declared.rounds.FetchOutcome.{FetchOutcome}
+use Rattle.cache_law.specs.declared.rounds.FetchOutcome.TheVariants.{Delivered, Failed, Ended}
+use Rattle.vcl_context.specs.declared.context.Context.{Context}
+use Rattle.vcl_context.specs.declared.context.FetchResponse.{FetchResponse}
+use Rattle.vcl_language.specs.declared.scope.Subroutine.{Subroutine}
+use Rattle.vcl_language.specs.declared.scope.Subroutine.TheVariants as subroutine
+use Rattle.vcl_turns.specs.declared.turn.Return.{Return}
+use Rattle.vcl_turns.specs.declared.turn.Return.TheVariants as word
+use Rattle.delivery.specs.declared.pages.Failure.TheVariants.{FetchFailed}
+use Rattle.delivery.specs.Pages.{reason_of}
+use Rattle.backend_request.specs.Timed.{timed, error_head}
+use Rattle.backend_request.specs.Stored.{response_of, marker_of}
+use Rattle.fetch_graph.specs.declared.fetch.Fetch.{Fetch}
+use Rattle.fetch_graph.specs.declared.fetch.Arrived.{Arrived}
+use Rattle.fetch_graph.specs.declared.fetch.State.{State}
+use Rattle.fetch_graph.specs.declared.fetch.State.TheVariants as state
+use Rattle.fetch_graph.specs.declared.fetch.Kept.{Kept}
+use Rattle.fetch_graph.specs.declared.fetch.Kept.TheVariants as kept
+use Rattle.fetch_graph.specs.declared.fetch.Insertion.{Insertion}
+use Rattle.fetch_graph.specs.declared.fetch.Spot.{Spot}
+use Rattle.fetch_graph.specs.declared.fetch.Spot.TheVariants as spot
+use Rattle.fetch_graph.specs.declared.fetch.Next.{Next}
+use Rattle.fetch_graph.specs.declared.fetch.Next.TheVariants.{Enter, Rest}
+use Rattle.fetch_graph.specs.Contexts.{uncounted, with_response, tried, made_body, error_status, age_at, response_with}
+use Rattle.fetch_graph.specs.Opening.{purpose_of}
+
+-- the subroutine that runs in a state
+abbrev pub subroutine_of : State → Subroutine
+subroutine_of state.Request = subroutine.BackendFetch
+subroutine_of (state.Response arrived) = subroutine.BackendResponse
+subroutine_of (state.Error origin) = subroutine.BackendError
+
+-- a subroutine begins to count its statements
+abbrev pub enter : State → Context → Fetch → Next
+enter state context fetch = Enter state (uncounted context) fetch
+
+-- vcl_backend_error begins with a status and a reason, and neither fields nor a body
+unfoldable pub erring : ℕ → List ℕ → Context → Fetch → Next
+erring status reason context fetch =
+    let timing = timed (purpose_of fetch.order.looked) status [] fetch.moment in
+    enter (state.Error timing.origin)
+    (with_response (response_with (error_head status reason) timing (age_at timing.origin fetch.moment) context.fetch_request.uncacheable false fetch.picked) context)
+    fetch
+
+-- no response could be had
+abbrev pub failing : Context → Fetch → Next
+failing context fetch = erring 503 (reason_of FetchFailed) context fetch
+
+-- nothing came of the fetch
+abbrev pub nothing : Fetch → FetchOutcome
+nothing fetch = if fetch.order.background then Ended else Failed
+
+-- what opened the fetch is closed, if it was a lookup
+abbrev pub given_up : Option Query → Fetch → Next
+given_up None fetch = Rest (spot.Over (nothing fetch)) fetch
+given_up (Some query) fetch = Rest spot.Drop fetch
+
+abbrev pub abandoned : Fetch → Next
+abandoned fetch = given_up fetch.order.looked fetch
+
+-- a fetch is tried again at most so often
+abbrev pub most_retries : ℕ
+most_retries = 4
+
+abbrev pub may_retry : Fetch → Bool
+may_retry fetch = nat_lt fetch.retries most_retries
+
+-- vcl_backend_fetch runs once more, on the request as it stands
+abbrev pub retried : Context → Fetch → Next
+retried context fetch = enter state.Request (tried (fetch.retries + 1) context) (record fetch { retries = fetch.retries + 1 })
+
+abbrev pub retried_if : Bool → Context → Fetch → Next
+retried_if true context fetch = retried context fetch
+retried_if false context fetch = failing context fetch
+
+-- a fifth retry in the error state is the end
+abbrev pub last_retry : Bool → Context → Fetch → Next
+last_retry true context fetch = retried context fetch
+last_retry false context fetch = abandoned fetch
+
+-- ---- a response is delivered
+
+-- the times that VCL left
+abbrev pub timing_left : ℤ → FetchResponse → Timing
+timing_left origin response = record { origin = origin; ttl = response.ttl; grace = response.grace; keep = response.keep }
+
+-- the response with the times of a marker
+abbrev pub marked_response : ℤ → Response → Response
+marked_response ttl response = record response { timing = record { origin = response.timing.origin; ttl = ttl; grace = pos 0; keep = pos 0 } }
+
+-- what the cache gets of a response
+abbrev pub object_for : Kept → Response → Object
+object_for kept.Whole response = Ordinary response
+object_for kept.HitForMiss response = HitForMiss (marker_of response response.timing.ttl)
+object_for (kept.HitForPass ttl) response = HitForPass (marker_of response ttl)
+
+-- and what is delivered
+abbrev pub shown_for : Kept → Response → Response
+shown_for kept.Whole response = response
+shown_for kept.HitForMiss response = marked_response response.timing.ttl response
+shown_for (kept.HitForPass ttl) response = marked_response ttl response
+
+abbrev pub is_marked : Kept → Bool
+is_marked kept.Whole = false
+is_marked kept.HitForMiss = true
+is_marked (kept.HitForPass ttl) = true
+
+-- the object that takes the place of a confirmed one names it
+abbrev pub confirmed_number : Bool → Option ObjectView → Option ℕ
+confirmed_number was_304 stale = if was_304 then option_map (λ view. view.number) stale else None
+
+abbrev pub view_of : ℕ → Object → ObjectView
+view_of number object = record { number = number; hits = 0; object = object }
+
+-- what came of a fetch with a response
+abbrev pub outcome_of : Fetch → Object → ℕ → Bool → FetchOutcome
+outcome_of fetch object moment uncacheable =
+    if fetch.order.background then Ended else Delivered (view_of fetch.order.number object) moment uncacheable
+
+-- a response that may be stored is handed to the cache first
+unfoldable pub handed : Option Query → Kept → Response → Context → Fetch → Next
+handed None kept response context fetch = Rest (spot.Over (outcome_of fetch (Ordinary response) fetch.moment true)) fetch
+handed (Some query) kept response context fetch =
+    Rest (spot.Insert (record {
+      object = object_for kept response;
+      delivered = Ordinary (shown_for kept response);
+      is_marker = is_marked kept;
+      stale = confirmed_number context.fetch_response.was_304 fetch.order.stale;
+    }) context) fetch
+
+-- the response that VCL left is delivered, with the body and the origin of what arrived
+unfoldable pub delivered : Kept → Arrived → Context → Fetch → Next
+delivered kept arrived context fetch =
+    handed fetch.order.looked kept
+    (response_of fetch.order.looked context.fetch_response.head arrived.body (timing_left arrived.origin context.fetch_response)) context fetch
+
+-- what vcl_backend_error made, with its own body
+abbrev pub made_at : ℤ → Context → Arrived
+made_at origin context = record { body = made_body context.body; origin = origin }
+
+-- by `deliver`: whole, or that it isn't kept
+abbrev pub kept_by : FetchResponse → Kept
+kept_by response = if response.uncacheable then kept.HitForMiss else kept.Whole
+
+-- Where a subroutine's word leads. What isn't a word there is as `abandon` is.
+abbrev pub behind_request : Return → Context → Fetch → Next
+behind_request word.Fetch context fetch = Rest (spot.Pick context) fetch
+behind_request (word.Error status reason) context fetch = erring (error_status status) reason context fetch
+behind_request word context fetch = abandoned fetch
+
+abbrev pub behind_response : Arrived → Return → Context → Fetch → Next
+behind_response arrived word.Deliver context fetch = delivered (kept_by context.fetch_response) arrived context fetch
+behind_response arrived (word.PassFor ttl) context fetch = delivered (kept.HitForPass ttl) arrived context fetch
+behind_response arrived (word.Error status reason) context fetch = erring (error_status status) reason context fetch
+behind_response arrived word.Retry context fetch = retried_if (may_retry fetch) context fetch
+behind_response arrived word context fetch = abandoned fetch
+
+abbrev pub behind_error : ℤ → Return → Context → Fetch → Next
+behind_error origin word.Deliver context fetch = delivered (kept_by context.fetch_response) (made_at origin context) context fetch
+behind_error origin word.Retry context fetch = last_retry (may_retry fetch) context fetch
+behind_error origin word context fetch = abandoned fetch
+
+abbrev pub leads : State → Return → Context → Fetch → Next
+leads state.Request word context fetch = behind_request word context fetch
+leads (state.Response arrived) word context fetch = behind_response arrived word context fetch
+leads (state.Error origin) word context fetch = behind_error origin word context fetch

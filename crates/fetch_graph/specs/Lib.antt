@@ -1,0 +1,5 @@
+pub mod Contexts
+pub mod Opening
+pub mod Graph
+pub mod Answers
+pub mod Wants

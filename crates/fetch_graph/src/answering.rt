@@ -1,0 +1,251 @@
+// Where an answer leads.
+ghost use Rattle.std.specs.Prelude.{◌≡◌, IfOk};
+ghost use Rattle.backend_request.specs.Asked.{unconditional as without_conditions};
+ghost use Rattle.fetch_graph.specs.Contexts.{with_head as other_head};
+ghost use Rattle.fetch_graph.specs.Answers.{over as over_next, chosen, picked as picked_next, responding, arrived as arrived_next, exchanged, inserted, takes};
+
+use crate::contexts::{response_at, with_head, with_response};
+use crate::keeping::{nothing, outcome_of};
+use crate::leading::{enter, fail};
+use crate::opening::{content_of, purpose_of};
+use crate::{Arrived, Fetch, Insertion, Next, Spot, State};
+use backend_request::{Received, receive, timed, unconditional};
+use cache_law::Reply;
+use cache_law::rounds::Given;
+use http_heads::{Exchange, ResponseHead};
+use std::alloc::{AllocError, Global};
+use units::{Copied, Text};
+use vcl_context::Context;
+
+// What can't be answered here ends the fetch.
+fn over(fetch: Fetch) -> Next
+    ensures { result ≡ over_next fetch }
+{
+    Next::Rest {
+        spot: Spot::Over(nothing(&fetch)),
+        fetch,
+    }
+}
+
+// A backend is asked, or none is healthy.
+fn choose(
+    alloc: Global,
+    name: Option<Text>,
+    context: Context,
+    moment: u64,
+    fetch: Fetch,
+) -> Result<Next, AllocError>
+    ensures { IfOk result (λ next. next ≡ chosen name context moment fetch) }
+{
+    match name {
+        Some(name) => Ok(Next::Rest {
+            spot: Spot::Ask { context },
+            fetch: Fetch {
+                moment,
+                picked: Some(name),
+                ..fetch
+            },
+        }),
+        None => fail(alloc, context, Fetch { moment, ..fetch }),
+    }
+}
+
+fn picked(
+    alloc: Global,
+    context: Context,
+    moment: u64,
+    reply: Reply,
+    fetch: Fetch,
+) -> Result<Next, AllocError>
+    ensures { IfOk result (λ next. next ≡ picked_next context moment reply fetch) }
+{
+    match reply {
+        Reply::Picked(name) => choose(alloc, name, context, moment, fetch),
+        _ => Ok(over(fetch)),
+    }
+}
+
+// vcl_backend_response begins with what was received.
+#[tactic(auto, unfolding(crate::specs::Answers::responding))]
+fn respond(response: Received, context: Context, fetch: Fetch) -> Result<Next, AllocError>
+    ensures { IfOk result (λ next. next ≡ responding response context fetch) }
+{
+    let Received {
+        head,
+        body,
+        was_304,
+    } = response;
+    let timing = timed(
+        purpose_of(&fetch.order.looked),
+        head.status,
+        &head.fields,
+        fetch.moment,
+    );
+    let uncacheable = context.fetch_request.uncacheable;
+    let response = response_at(
+        head,
+        timing,
+        fetch.moment,
+        uncacheable,
+        was_304,
+        &fetch.picked,
+    )?;
+    let state = State::Response(Arrived {
+        body,
+        origin: timing.origin,
+    });
+    Ok(enter(state, with_response(response, context), fetch))
+}
+
+fn arrived(
+    alloc: Global,
+    received: Option<Received>,
+    context: Context,
+    fetch: Fetch,
+) -> Result<Next, AllocError>
+    ensures { IfOk result (λ next. next ≡ arrived_next received context fetch) }
+{
+    match received {
+        None => fail(alloc, context, fetch),
+        Some(response) => respond(response, context, fetch),
+    }
+}
+
+fn replied(
+    alloc: Global,
+    context: Context,
+    head: ResponseHead,
+    body: Text,
+    fetch: Fetch,
+) -> Result<Next, AllocError>
+    ensures { IfOk result (λ next. next ≡ exchanged context (Exchange.Reply head body) fetch) }
+{
+    let received = receive(
+        alloc,
+        &context.fetch_request.head,
+        purpose_of(&fetch.order.looked),
+        content_of(&fetch.order.stale),
+        head,
+        body,
+    )?;
+    arrived(alloc, received, context, fetch)
+}
+
+// The exchange is over.
+fn exchange_over(
+    alloc: Global,
+    context: Context,
+    exchange: Exchange,
+    fetch: Fetch,
+) -> Result<Next, AllocError>
+    ensures { IfOk result (λ next. next ≡ exchanged context exchange fetch) }
+{
+    match exchange {
+        Exchange::Reply(head, body) => replied(alloc, context, head, body, fetch),
+        Exchange::Fault(_) => fail(alloc, context, fetch),
+        Exchange::NoMemory => Ok(over(fetch)),
+    }
+}
+
+// The backend is asked once more, without a condition.
+fn ask_again(alloc: Global, context: Context, fetch: Fetch) -> Result<Next, AllocError>
+    ensures { IfOk result (λ next. next ≡ Next.Rest (Spot.Ask (other_head (without_conditions context.fetch_request.head) context)) fetch) }
+{
+    let head = unconditional(context.fetch_request.head.copied(alloc)?);
+    Ok(Next::Rest {
+        spot: Spot::Ask {
+            context: with_head(head, context),
+        },
+        fetch,
+    })
+}
+
+// The insertion was answered.
+fn insertion_over(
+    alloc: Global,
+    insertion: Insertion,
+    context: Context,
+    moment: u64,
+    reply: Reply,
+    fetch: Fetch,
+) -> Result<Next, AllocError>
+    ensures { IfOk result (λ next. next ≡ inserted insertion context moment reply fetch) }
+{
+    match reply {
+        Reply::Stored(_) | Reply::NotInTime | Reply::NoRoom | Reply::Refused => {
+            let outcome = outcome_of(&fetch, insertion.delivered, moment, insertion.is_marker);
+            Ok(Next::Rest {
+                spot: Spot::Over(outcome),
+                fetch,
+            })
+        }
+        Reply::StaleGone => ask_again(alloc, context, fetch),
+        _ => Ok(over(fetch)),
+    }
+}
+
+// Where an answer leads while a backend is chosen.
+fn take_pick(
+    alloc: Global,
+    context: Context,
+    given: Given,
+    fetch: Fetch,
+) -> Result<Next, AllocError>
+    ensures { IfOk result (λ next. next ≡ takes (Spot.Pick context) given fetch) }
+{
+    match given {
+        Given::Reply(told) => picked(alloc, context, told.moment, told.reply, fetch),
+        _ => Ok(over(fetch)),
+    }
+}
+
+// Where an answer leads while a backend is asked.
+fn take_exchange(
+    alloc: Global,
+    context: Context,
+    given: Given,
+    fetch: Fetch,
+) -> Result<Next, AllocError>
+    ensures { IfOk result (λ next. next ≡ takes (Spot.Ask context) given fetch) }
+{
+    match given {
+        Given::Exchange(got) => {
+            let moment = got.moment;
+            exchange_over(alloc, context, got.exchange, Fetch { moment, ..fetch })
+        }
+        _ => Ok(over(fetch)),
+    }
+}
+
+// Where an answer leads while the response is inserted.
+fn take_insertion(
+    alloc: Global,
+    insertion: Insertion,
+    context: Context,
+    given: Given,
+    fetch: Fetch,
+) -> Result<Next, AllocError>
+    ensures { IfOk result (λ next. next ≡ takes (Spot.Insert insertion context) given fetch) }
+{
+    match given {
+        Given::Reply(told) => {
+            insertion_over(alloc, insertion, context, told.moment, told.reply, fetch)
+        }
+        _ => Ok(over(fetch)),
+    }
+}
+
+/// Where an answer leads from a place, by `takes` of `specs/Answers.antt`.
+pub fn take(alloc: Global, spot: Spot, given: Given, fetch: Fetch) -> Result<Next, AllocError>
+    ensures { IfOk result (λ next. next ≡ takes spot given fetch) }
+{
+    match spot {
+        Spot::Pick { context } => take_pick(alloc, context, given, fetch),
+        Spot::Ask { context } => take_exchange(alloc, context, given, fetch),
+        Spot::Insert { insertion, context } => {
+            take_insertion(alloc, insertion, context, given, fetch)
+        }
+        Spot::Drop => Ok(over(fetch)),
+        Spot::Over(_) => Ok(over(fetch)),
+    }
+}

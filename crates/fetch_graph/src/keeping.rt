@@ -1,0 +1,213 @@
+// A response that is delivered, and what the cache gets of it.
+ghost use Rattle.std.specs.Prelude.{◌≡◌, Option, None, Some, option_map, if◌then◌else◌, IfOk};
+ghost use Rattle.backend_request.specs.Stored.{response_of};
+ghost use Rattle.fetch_graph.specs.Graph.{timing_left as times_left, marked_response as marked, object_for as object_to_keep, shown_for as shown_with, is_marked as marks, confirmed_number as confirmed, view_of as viewed, outcome_of as outcome_with, handed, delivered, kept_by as kept_of, nothing as none_came};
+
+use crate::{Arrived, Fetch, Insertion, Kept, Next, Spot};
+use backend_request::{make_marker, make_response};
+use cache_law::rounds::FetchOutcome;
+use cache_law::{Object, ObjectView, Query, Response, Shared};
+use freshness::Timing;
+use std::alloc::{AllocError, Global};
+use units::Copied;
+use vcl_context::{Context, FetchResponse};
+
+// The times that VCL left.
+fn timing_left(origin: i64, response: &FetchResponse) -> Timing
+    ensures { result ≡ times_left origin response.now }
+{
+    Timing {
+        origin,
+        ttl: response.ttl,
+        grace: response.grace,
+        keep: response.keep,
+    }
+}
+
+fn object_for(alloc: Global, kept: Kept, response: &Response) -> Result<Object, AllocError>
+    ensures { IfOk result (λ object. object ≡ object_to_keep kept response.now) }
+{
+    match kept {
+        Kept::Whole => Ok(Object::Ordinary(Response {
+            timing: response.timing,
+            content: response.content.copy()?,
+        })),
+        Kept::HitForMiss => Ok(Object::HitForMiss(make_marker(
+            alloc,
+            response,
+            response.timing.ttl,
+        )?)),
+        Kept::HitForPass(ttl) => Ok(Object::HitForPass(make_marker(alloc, response, ttl)?)),
+    }
+}
+
+// The response with the times of a marker.
+fn marked_response(ttl: i64, response: Response) -> Response
+    ensures { result ≡ marked ttl response }
+{
+    let timing = Timing {
+        origin: response.timing.origin,
+        ttl,
+        grace: 0,
+        keep: 0,
+    };
+    Response {
+        timing,
+        content: response.content,
+    }
+}
+
+fn shown_for(kept: Kept, response: Response) -> Response
+    ensures { result ≡ shown_with kept response }
+{
+    match kept {
+        Kept::Whole => response,
+        Kept::HitForMiss => marked_response(response.timing.ttl, response),
+        Kept::HitForPass(ttl) => marked_response(ttl, response),
+    }
+}
+
+fn is_marked(kept: Kept) -> bool
+    ensures { result ≡ marks kept }
+{
+    match kept {
+        Kept::Whole => false,
+        Kept::HitForMiss | Kept::HitForPass(_) => true,
+    }
+}
+
+// The number of the object that was confirmed, if one was.
+fn confirmed_number(was_304: bool, stale: &Option<ObjectView>) -> Option<u64>
+    ensures { result ≡ confirmed was_304 stale.now }
+{
+    if !was_304 {
+        return None;
+    }
+    match stale {
+        Some(view) => Some(view.number),
+        None => None,
+    }
+}
+
+/// What came of a fetch that came to nothing.
+pub(crate) fn nothing(fetch: &Fetch) -> FetchOutcome
+    ensures { result ≡ none_came fetch.now }
+{
+    if fetch.order.background {
+        FetchOutcome::Ended
+    } else {
+        FetchOutcome::Failed
+    }
+}
+
+/// What came of a fetch with a response.
+pub(crate) fn outcome_of(
+    fetch: &Fetch,
+    object: Shared<Object>,
+    moment: u64,
+    uncacheable: bool,
+) -> FetchOutcome
+    ensures { result ≡ outcome_with fetch.now object moment uncacheable }
+{
+    if fetch.order.background {
+        return FetchOutcome::Ended;
+    }
+    FetchOutcome::Delivered {
+        object: ObjectView {
+            number: fetch.order.number,
+            hits: 0,
+            object,
+        },
+        moment,
+        uncacheable,
+    }
+}
+
+// What the cache gets, and what is delivered.
+fn insertion_of(
+    alloc: Global,
+    kept: Kept,
+    response: Response,
+    stale: Option<u64>,
+) -> Result<Insertion, AllocError>
+    ensures { IfOk result (λ insertion. insertion ≡ record { object = object_to_keep kept response; delivered = Object.Ordinary (shown_with kept response); is_marker = marks kept; stale = stale }) }
+{
+    let object = object_for(alloc, kept, &response)?;
+    Ok(Insertion {
+        object: Shared::new(alloc, object)?,
+        delivered: Shared::new(alloc, Object::Ordinary(shown_for(kept, response)))?,
+        is_marker: is_marked(kept),
+        stale,
+    })
+}
+
+#[tactic(auto, unfolding(crate::specs::Graph::handed))]
+fn hand_over(
+    alloc: Global,
+    kept: Kept,
+    response: Response,
+    context: Context,
+    fetch: Fetch,
+) -> Result<Next, AllocError>
+    ensures { IfOk result (λ next. next ≡ handed fetch.order.looked kept response context fetch) }
+{
+    let stale = confirmed_number(context.fetch_response.was_304, &fetch.order.stale);
+    match &fetch.order.looked {
+        None => {
+            let object = Shared::new(alloc, Object::Ordinary(response))?;
+            let outcome = outcome_of(&fetch, object, fetch.moment, true);
+            Ok(Next::Rest {
+                spot: Spot::Over(outcome),
+                fetch,
+            })
+        }
+        Some(_) => {
+            let insertion = insertion_of(alloc, kept, response, stale)?;
+            Ok(Next::Rest {
+                spot: Spot::Insert { insertion, context },
+                fetch,
+            })
+        }
+    }
+}
+
+fn response_left(
+    alloc: Global,
+    looked: &Option<Shared<Query>>,
+    arrived: Arrived,
+    response: &FetchResponse,
+) -> Result<Response, AllocError>
+    ensures { IfOk result (λ made. made ≡ response_of looked.now response.now.head arrived.body (times_left arrived.origin response.now)) }
+{
+    let head = response.head.copied(alloc)?;
+    let timing = timing_left(arrived.origin, response);
+    match looked {
+        Some(query) => make_response(alloc, Some(&**query), head, arrived.body, timing),
+        None => make_response(alloc, None, head, arrived.body, timing),
+    }
+}
+
+/// The response that VCL left is delivered, with the body and the origin of what arrived.
+pub(crate) fn deliver(
+    alloc: Global,
+    kept: Kept,
+    arrived: Arrived,
+    context: Context,
+    fetch: Fetch,
+) -> Result<Next, AllocError>
+    ensures { IfOk result (λ next. next ≡ delivered kept arrived context fetch) }
+{
+    let response = response_left(alloc, &fetch.order.looked, arrived, &context.fetch_response)?;
+    hand_over(alloc, kept, response, context, fetch)
+}
+
+/// What `deliver` keeps.
+pub(crate) fn kept_by(response: &FetchResponse) -> Kept
+    ensures { result ≡ kept_of response.now }
+{
+    if response.uncacheable {
+        Kept::HitForMiss
+    } else {
+        Kept::Whole
+    }
+}

@@ -1,0 +1,255 @@
+// Where a subroutine's word leads.
+ghost use Rattle.std.specs.Prelude.{◌≡◌, ◌<◌, IfOk};
+ghost use Rattle.fetch_graph.specs.Graph.{subroutine_of, enter as entered, erring, failing, given_up, abandoned, may_retry as may, retried, retried_if as retries_if, last_retry as last_next, kept_by as kept_of, delivered, made_at as made_with, behind_request, behind_response, behind_error, leads};
+ghost use Rattle.fetch_graph.specs.Contexts.{error_status as status_of_error};
+
+use crate::contexts::{error_status, made_body, response_at, tried, uncounted, with_response};
+use crate::keeping::{deliver, kept_by, nothing};
+use crate::opening::purpose_of;
+use crate::{Arrived, Fetch, Kept, Next, Spot, State};
+use backend_request::{error_head, timed};
+use delivery::Failure;
+use std::alloc::{AllocError, Global};
+use units::Text;
+use vcl_context::Context;
+use vcl_language::Subroutine;
+use vcl_turns::Return;
+
+/// A fetch is tried again at most so often.
+pub const MOST_RETRIES: u32 = 4;
+
+impl State {
+    /// The subroutine that runs in it.
+    pub fn subroutine(&self) -> Subroutine
+        ensures { result ≡ subroutine_of self.now }
+    {
+        match self {
+            State::Request => Subroutine::BackendFetch,
+            State::Response(_) => Subroutine::BackendResponse,
+            State::Error { .. } => Subroutine::BackendError,
+        }
+    }
+}
+
+/// The subroutine of a state runs, with no statement counted.
+pub(crate) fn enter(state: State, context: Context, fetch: Fetch) -> Next
+    ensures { result ≡ entered state context fetch }
+{
+    Next::Enter {
+        state,
+        context: uncounted(context),
+        fetch,
+    }
+}
+
+// vcl_backend_error makes the response.
+#[tactic(auto, unfolding(crate::specs::Graph::erring))]
+fn err(
+    alloc: Global,
+    status: u16,
+    reason: Text,
+    context: Context,
+    fetch: Fetch,
+) -> Result<Next, AllocError>
+    ensures { IfOk result (λ next. next ≡ erring status reason context fetch) }
+{
+    let head = error_head(alloc, status, reason);
+    let timing = timed(
+        purpose_of(&fetch.order.looked),
+        status,
+        &head.fields,
+        fetch.moment,
+    );
+    let uncacheable = context.fetch_request.uncacheable;
+    let response = response_at(
+        head,
+        timing,
+        fetch.moment,
+        uncacheable,
+        false,
+        &fetch.picked,
+    )?;
+    let state = State::Error {
+        origin: timing.origin,
+    };
+    Ok(enter(state, with_response(response, context), fetch))
+}
+
+// vcl_backend_error makes the response of a status that VCL gave.
+fn err_with(
+    alloc: Global,
+    status: i64,
+    reason: Text,
+    context: Context,
+    fetch: Fetch,
+) -> Result<Next, AllocError>
+    ensures { IfOk result (λ next. next ≡ erring (status_of_error status) reason context fetch) }
+{
+    let status = error_status(status);
+    err(alloc, status, reason, context, fetch)
+}
+
+/// No response could be had.
+pub(crate) fn fail(alloc: Global, context: Context, fetch: Fetch) -> Result<Next, AllocError>
+    ensures { IfOk result (λ next. next ≡ failing context fetch) }
+{
+    let reason = Text::of(alloc, Failure::FetchFailed.reason())?;
+    err(alloc, 503, reason, context, fetch)
+}
+
+/// The fetch is given up: what opened it is closed, if it was a lookup, and nothing came of it.
+pub fn abandon(fetch: Fetch) -> Next
+    ensures { result ≡ abandoned fetch }
+{
+    let spot = match &fetch.order.looked {
+        None => Spot::Over(nothing(&fetch)),
+        Some(_) => Spot::Drop,
+    };
+    Next::Rest { spot, fetch }
+}
+
+fn may_retry(fetch: &Fetch) -> bool
+    ensures { result ≡ may fetch.now }
+{
+    fetch.retries < MOST_RETRIES
+}
+
+fn retry(context: Context, fetch: Fetch) -> Next
+    requires { fetch.retries < 4 }
+    ensures { result ≡ retried context fetch }
+{
+    let retries = fetch.retries + 1;
+    enter(
+        State::Request,
+        tried(retries, context),
+        Fetch { retries, ..fetch },
+    )
+}
+
+// `retry` in vcl_backend_response.
+fn retry_if_allowed(alloc: Global, context: Context, fetch: Fetch) -> Result<Next, AllocError>
+    ensures { IfOk result (λ next. next ≡ retries_if (may fetch) context fetch) }
+{
+    if may_retry(&fetch) {
+        Ok(retry(context, fetch))
+    } else {
+        fail(alloc, context, fetch)
+    }
+}
+
+// `retry` in vcl_backend_error.
+fn last_retry(context: Context, fetch: Fetch) -> Result<Next, AllocError>
+    ensures { IfOk result (λ next. next ≡ last_next (may fetch) context fetch) }
+{
+    if may_retry(&fetch) {
+        Ok(retry(context, fetch))
+    } else {
+        Ok(abandon(fetch))
+    }
+}
+
+// What vcl_backend_error made, with its own body.
+fn made_at(alloc: Global, origin: i64, context: &Context) -> Result<Arrived, AllocError>
+    ensures { IfOk result (λ arrived. arrived ≡ made_with origin context.now) }
+{
+    Ok(Arrived {
+        body: made_body(alloc, &context.body)?,
+        origin,
+    })
+}
+
+// The response that VCL left is delivered, and kept as it says.
+fn deliver_whole(
+    alloc: Global,
+    arrived: Arrived,
+    context: Context,
+    fetch: Fetch,
+) -> Result<Next, AllocError>
+    ensures { IfOk result (λ next. next ≡ delivered (kept_of context.fetch_response) arrived context fetch) }
+{
+    let kept = kept_by(&context.fetch_response);
+    deliver(alloc, kept, arrived, context, fetch)
+}
+
+// The response that vcl_backend_error made is delivered.
+fn deliver_error(
+    alloc: Global,
+    origin: i64,
+    context: Context,
+    fetch: Fetch,
+) -> Result<Next, AllocError>
+    ensures { IfOk result (λ next. next ≡ delivered (kept_of context.fetch_response) (made_with origin context) context fetch) }
+{
+    let arrived = made_at(alloc, origin, &context)?;
+    deliver_whole(alloc, arrived, context, fetch)
+}
+
+fn lead_request(
+    alloc: Global,
+    word: Return,
+    context: Context,
+    fetch: Fetch,
+) -> Result<Next, AllocError>
+    ensures { IfOk result (λ next. next ≡ behind_request word context fetch) }
+{
+    match word {
+        Return::Fetch => Ok(Next::Rest {
+            spot: Spot::Pick { context },
+            fetch,
+        }),
+        Return::Error(status, reason) => err_with(alloc, status, reason, context, fetch),
+        _ => Ok(abandon(fetch)),
+    }
+}
+
+fn lead_response(
+    alloc: Global,
+    arrived: Arrived,
+    word: Return,
+    context: Context,
+    fetch: Fetch,
+) -> Result<Next, AllocError>
+    ensures { IfOk result (λ next. next ≡ behind_response arrived word context fetch) }
+{
+    match word {
+        Return::Deliver => deliver_whole(alloc, arrived, context, fetch),
+        Return::PassFor(ttl) => deliver(alloc, Kept::HitForPass(ttl), arrived, context, fetch),
+        Return::Error(status, reason) => err_with(alloc, status, reason, context, fetch),
+        Return::Retry => retry_if_allowed(alloc, context, fetch),
+        _ => Ok(abandon(fetch)),
+    }
+}
+
+fn lead_error(
+    alloc: Global,
+    origin: i64,
+    word: &Return,
+    context: Context,
+    fetch: Fetch,
+) -> Result<Next, AllocError>
+    ensures { IfOk result (λ next. next ≡ behind_error origin word.now context fetch) }
+{
+    match word {
+        Return::Deliver => deliver_error(alloc, origin, context, fetch),
+        Return::Retry => last_retry(context, fetch),
+        _ => Ok(abandon(fetch)),
+    }
+}
+
+/// Where the word leads with which the subroutine of a state ended, by `leads` of `specs/Graph.antt`. `context` is what it
+/// left.
+pub fn lead(
+    alloc: Global,
+    state: State,
+    word: Return,
+    context: Context,
+    fetch: Fetch,
+) -> Result<Next, AllocError>
+    ensures { IfOk result (λ next. next ≡ leads state word context fetch) }
+{
+    match state {
+        State::Request => lead_request(alloc, word, context, fetch),
+        State::Response(arrived) => lead_response(alloc, arrived, word, context, fetch),
+        State::Error { origin } => lead_error(alloc, origin, &word, context, fetch),
+    }
+}

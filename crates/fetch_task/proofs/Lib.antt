@@ -1,0 +1,4 @@
+pub mod Lowering
+pub mod OneWant
+pub mod Orders
+pub mod Going

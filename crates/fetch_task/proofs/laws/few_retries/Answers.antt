@@ -1,0 +1,8 @@
+use Rattle.fetch_task.specs.Fetches.{evaluator}
+use Rattle.fetch_task.proofs.Orders.{retries-few}
+use Rattle.fetch_task.proofs.laws.few_retries.Goals as goal
+
+pub returns : goal.returns
+returns g c = λ order givens place p.
+    let runner = g.M.Runner in
+    retries-few (evaluator runner.turns runner.targets runner.default_of c.args.program.now) order givens place p

@@ -1,0 +1,9 @@
+use Rattle.fetch_task.specs.Fetches.{evaluator}
+use Rattle.fetch_task.proofs.OneWant.{wants-one}
+use Rattle.fetch_task.proofs.laws.one_want.Goals as goal
+
+pub returns : goal.returns
+returns g c = λ opened givens drawn one other p q.
+    let runner = g.M.Runner in
+    wants-one (evaluator runner.turns runner.targets runner.default_of c.args.program.now) (λ ran a b x y. g.met.M.Runner.one_turn c.args.program.now ran a b x y)
+    opened givens drawn one other p q
