@@ -1,10 +1,10 @@
 -- The front of the bytes and a head at it, of either kind.
-use Rattle.std.proofs.Common.{◌≡◌, ℕ, suc, ◌+◌, ◌-◌, ◌<◌, ◌≤◌, List, [], ◌∷◌, ◌++◌, length, take, drop, Result, Ok, Err, Option, Some, None, refl, sym, ◌∙◌, ap, subst, arith, append_assoc, append-nil}
+use Rattle.std.proofs.Common.{◌≡◌, ℕ, ◌+◌, ◌-◌, ◌<◌, ◌≤◌, List, [], ◌∷◌, ◌++◌, length, take, drop, Result, Ok, Err, None, refl, sym, ◌∙◌, ap, subst, arith, append_assoc, append-nil}
 use Rattle.std.specs.Result.{IsErrAnd}
 use Rattle.std.proofs.lemmas.List.{length-take, append_cancel_right}
 use Rattle.httparse.specs.Grammar.{print_end}
 use Rattle.http_heads.specs.declared.message.HeadError.{HeadError}
-use Rattle.http_heads.specs.declared.message.HeadError.TheVariants.{Bad, TooLong, TooMany, NoMemory}
+use Rattle.http_heads.specs.declared.message.HeadError.TheVariants.{TooLong}
 use Rattle.http_heads.specs.Heads.{HeadKind, HasHead, LacksHead, AnswersHead}
 use Rattle.http_heads.specs.Lines.{full_lines, HasTooManyLines}
 use Rattle.http_heads.proofs.Fronts.{take_front, split_front, all_of, full_of}

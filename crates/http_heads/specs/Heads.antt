@@ -1,6 +1,6 @@
 -- The head of a message (RFC 9112, sections 2 to 5): the grammar of `httparse` in its default setting, within 32,768
 -- bytes and 64 fields.
-use Rattle.std.specs.Prelude.{◌≡◌, ℕ, ◌+◌, ◌≤◌, ◌<◌, ◌⊎◌, List, ◌++◌, length, map, Result, Ok, Err, Option, Some, None, take}
+use Rattle.std.specs.Prelude.{◌≡◌, ℕ, ◌+◌, ◌≤◌, ◌<◌, List, ◌++◌, length, map, Result, Ok, Err, Option, Some, None, take}
 use Rattle.httparse.specs.Grammar.{RequestHead as RequestTree, ResponseHead as ResponseTree, Field as FieldTree, print_request, print_response, IsRequestHead, IsResponseHead, NeverHasRequest, NeverHasResponse, MayBecomeRequest, MayBecomeResponse, field_value, status_code, reason_phrase}
 use Rattle.http_heads.specs.declared.fields.Field.{Field}
 use Rattle.http_heads.specs.declared.message.RequestHead.{RequestHead}

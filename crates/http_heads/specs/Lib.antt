@@ -5,3 +5,4 @@ pub mod Heads
 pub mod Spans
 pub mod Printed
 pub mod Sent
+pub mod Refusal

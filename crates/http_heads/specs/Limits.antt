@@ -1,5 +1,5 @@
 -- The limits of heads and fields.
-use Rattle.std.specs.Prelude.{ℕ, ◌+◌}
+use Rattle.std.specs.Prelude.{ℕ}
 
 -- the most bytes of a head
 abbrev pub head_limit : ℕ

@@ -1,5 +1,5 @@
 -- What may be sent on: a head that was read, with its fields changed.
-use Rattle.std.specs.Prelude.{ℕ, List, [], ◌∷◌, All, ⊤}
+use Rattle.std.specs.Prelude.{ℕ, List, [], ◌∷◌, ⊤}
 use Rattle.http_heads.specs.declared.fields.Field.{Field}
 use Rattle.http_heads.specs.declared.message.RequestHead.{RequestHead}
 use Rattle.http_heads.specs.declared.message.ResponseHead.{ResponseHead}

@@ -188,7 +188,7 @@ impl Copied for Fields {
 fn copies(alloc: Global, fields: &[Field]) -> Result<Vec<Field>, AllocError>
     ensures { IfOk result (λ copy. copy.items ≡ fields.now) }
 {
-    let mut copy = Vec::new(alloc);
+    let mut copy = Vec::with_capacity(alloc, fields.len())?;
     for field in fields {
         copy.push(field.copied(alloc)?)?;
     }

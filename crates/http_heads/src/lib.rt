@@ -14,8 +14,7 @@ mod lines;
 mod message;
 mod print;
 mod read;
-#[cfg(test)]
-mod tests;
+mod refusal;
 
 pub use exchange::{Backend, BackendRequest, Exchange, Got};
 pub use fields::{Field, FieldError, Fields};
@@ -23,3 +22,4 @@ pub use laws::{one_head, sent_on};
 pub use message::{HeadError, RequestHead, ResponseHead};
 pub use print::{print_request, print_response};
 pub use read::{read_request, read_response};
+pub use refusal::bad_request;

@@ -19,10 +19,11 @@ impl Copied for Text {
 
 impl<T: Copied + Drop> Copied for Sequence<T> {
     fn copied(&self, alloc: Global) -> Result<Self, AllocError> {
-        let mut copy = Sequence::new(alloc);
-        for item in self.as_slice() {
+        let items = self.as_slice();
+        let mut copy = Vec::with_capacity(alloc, items.len())?;
+        for item in items {
             copy.push(item.copied(alloc)?)?;
         }
-        Ok(copy)
+        Ok(Sequence::from_vec(copy))
     }
 }

@@ -10,6 +10,7 @@ mod blanks;
 mod copied;
 mod durations;
 mod folding;
+mod letting_go;
 mod numbers;
 mod quotes;
 mod sequence;
@@ -19,10 +20,8 @@ pub use blanks::trim_blanks;
 pub use copied::Copied;
 pub use durations::{one_duration, read_millis};
 pub use folding::fold_eq;
+pub use letting_go::lost;
 pub use numbers::{one_number, push_number, read_number, value_of_digits, write_number};
 pub use quotes::{end_of_quoted, one_quoted, quote, quote_reads_back, quoted, read_escape};
 pub use sequence::Sequence;
 pub use text::Text;
-
-#[cfg(test)]
-mod tests;

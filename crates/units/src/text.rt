@@ -15,13 +15,15 @@ use std::marker::Model;
 use std::sync::ArcSlice;
 
 /// The most bytes that stand in the text itself, so that a short text takes no memory elsewhere.
-const SHORT: usize = 14;
+const SHORT: usize = 15;
 
 // Where the bytes stand.
 #[derive(Drop)]
 enum Kept {
     // the first of these
     Short { len: u8, bytes: [u8; 14] },
+    // all of these, which leave no room for a length
+    Fifteen([u8; 15]),
     Shared(ArcSlice<u8>),
 }
 
@@ -58,10 +60,15 @@ impl Text {
 
     // A few bytes, in the text itself.
     fn short(bytes: &[u8]) -> Text
-        requires { length bytes.now ≤ 14 }
+        requires { length bytes.now ≤ 15 }
         ensures { result ≡ bytes.now }
     {
-        let mut held = [0; SHORT];
+        if let Ok(bytes) = <[u8; 15]>::try_from(bytes) {
+            return Text {
+                kept: Kept::Fifteen(bytes),
+            };
+        }
+        let mut held = [0; 14];
         held[..bytes.len()].copy_from_slice(bytes);
         Text {
             kept: Kept::Short {
@@ -94,6 +101,9 @@ impl Text {
                     bytes: *bytes,
                 },
             }),
+            Kept::Fifteen(bytes) => Ok(Text {
+                kept: Kept::Fifteen(*bytes),
+            }),
             Kept::Shared(bytes) => Ok(Text {
                 kept: Kept::Shared(bytes.clone()?),
             }),
@@ -105,6 +115,7 @@ impl Text {
     {
         match &self.kept {
             Kept::Short { len, bytes } => &bytes[..usize::from(*len)],
+            Kept::Fifteen(bytes) => bytes,
             Kept::Shared(bytes) => bytes.as_slice(),
         }
     }

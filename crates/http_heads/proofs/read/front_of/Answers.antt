@@ -1,5 +1,5 @@
 -- All the bytes, where they are no more.
-use Rattle.std.proofs.Common.{◌≡◌, ◌≤◌, ℕ, List, take, true, false, sym, ap, subst, refl}
+use Rattle.std.proofs.Common.{◌≡◌, ◌≤◌, ℕ, List, take, true, false, sym, subst, refl}
 use Rattle.http_heads.specs.Lines.{full_lines}
 use Rattle.http_heads.proofs.Fronts.{take_min}
 use Rattle.http_heads.proofs.read.front_of.Goals as goal

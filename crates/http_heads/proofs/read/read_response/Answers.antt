@@ -1,5 +1,5 @@
 -- What the parser told of the front holds of the bytes.
-use Rattle.std.proofs.Common.{◌≡◌, ap, sym, subst, ◌∙◌, inl, List, ℕ, ◌≤◌, Ok, Err, Some}
+use Rattle.std.proofs.Common.{ap, sym, subst, ◌∙◌, inl, List, ℕ, ◌≤◌, Ok, Err, Some}
 use Rattle.httparse.specs.Grammar.{NeverHasResponse, MayBecomeResponse}
 use Rattle.http_heads.specs.declared.message.HeadError.TheVariants.{NoMemory}
 use Rattle.http_heads.specs.Heads.{HasResponse, AnswersResponse, responses}

@@ -3,4 +3,4 @@ use Rattle.units.proofs.copied.SequenceCopied.copied.Given as goal
 
 -- the copy has the items so far
 abbrev pub invariant-loop-item : goal.invariant-loop-item
-invariant-loop-item g l = l.copy ≡ take l.item-index l.item-items
+invariant-loop-item g l = l.copy.items ≡ take l.item-index l.items

@@ -1,0 +1,34 @@
+//! Rows for `http_heads`: each line of the input has a head or changes of fields and, behind ` => `, what is to be said of
+//! them (`heads.rt`, `fields.rt`). The program prints the rows that go otherwise, and how many rows there are.
+#![tactic(auto)]
+
+mod changes;
+mod heads;
+
+use std::alloc::{AllocError, Global};
+use std::io;
+
+fn main(rt: HostRuntime) -> io::Result<()> {
+    let mut count: u64 = 0;
+    for line in rt.lines(rt.alloc()) {
+        let line = line?;
+        if !line.starts_with('#') {
+            count = count.saturating_add(1);
+            let (row, wanted) = line.split_once(" => ").unwrap_or((line.as_str(), ""));
+            let said = said(rt.alloc(), row)?;
+            if said.as_str() != wanted {
+                println!(rt; "{row} => {said}")?;
+            }
+        }
+    }
+    println!(rt; "{count} rows")
+}
+
+fn said(alloc: Global, row: &str) -> Result<String, AllocError> {
+    let (word, rest) = row.split_once(' ').unwrap_or((row, ""));
+    match word {
+        "request" => heads::request_shown(alloc, rest),
+        "response" => heads::response_shown(alloc, rest),
+        _ => changes::changes_shown(alloc, word, rest),
+    }
+}

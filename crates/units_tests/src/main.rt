@@ -1,0 +1,37 @@
+//! Rows for `units`: each line of the input has a text and, behind ` => `, what is to be said of it (`readings.rt`, `texts.rt`).
+//! The program prints the rows that go otherwise, and how many rows there are.
+#![tactic(auto)]
+
+mod readings;
+mod texts;
+
+use std::alloc::{AllocError, Global};
+use std::io;
+
+fn main(rt: HostRuntime) -> io::Result<()> {
+    let mut count: u64 = 0;
+    for line in rt.lines(rt.alloc()) {
+        let line = line?;
+        if !line.starts_with('#') {
+            count = count.saturating_add(1);
+            let (row, wanted) = line.split_once(" => ").unwrap_or((line.as_str(), ""));
+            let said = said(rt.alloc(), row)?;
+            if said.as_str() != wanted {
+                println!(rt; "{row} => {said}")?;
+            }
+        }
+    }
+    println!(rt; "{count} rows")
+}
+
+fn said(alloc: Global, row: &str) -> Result<String, AllocError> {
+    let (word, rest) = row.split_once(' ').unwrap_or((row, ""));
+    match word {
+        "text" => texts::text_shown(alloc, rest),
+        "seen" => texts::seen_shown(alloc, rest),
+        "order" | "fold" => texts::pair_shown(alloc, word, rest),
+        "pushed" => readings::pushed_shown(alloc, rest),
+        "quoted" => readings::quoted_shown(alloc, rest),
+        _ => readings::reading_shown(alloc, word, rest),
+    }
+}
