@@ -9,8 +9,6 @@ mod conversing;
 mod dialing;
 mod laws;
 mod replies;
-#[cfg(test)]
-mod tests;
 
 pub use conversing::{answered, converse};
 pub use dialing::exchange;

@@ -9,8 +9,6 @@ mod bodies;
 mod heads;
 mod intake;
 mod stop;
-#[cfg(test)]
-mod tests;
 mod watch;
 
 pub use bodies::read_body;

@@ -1,28 +1,27 @@
 -- Dialers in memory, as clauses see them.
-use Rattle.std.specs.Prelude.{◌≡◌, ◌⊎◌, ℕ, List, [], ◌∷◌, ◌++◌, Contains, Option, Some, None, Box, box_value}
+use Rattle.std.specs.Prelude.{◌≡◌, ◌⊎◌, ℕ, List, [], ◌∷◌, ◌++◌, map, Contains, Option, Some, None, Box}
 use Rattle.std.specs.declared.alloc.Global.{Global}
 use Rattle.wire.specs.Causes.{next_count}
 use Rattle.wire.specs.Flow.{Flow}
 use Rattle.wire.specs.LinkMemory.{LinkState, Direction}
-use Rattle.wire.specs.declared.failing_dialer.Place.{Place, out-Place}
-use Rattle.wire.specs.declared.failing_dialer.Place.TheOpen.{Place-F}
-use Rattle.wire.specs.declared.failing_dialer.Place.TheFolds.{fold-Place}
+use Rattle.wire.specs.Kept.{items_at, items_of}
+use Rattle.wire.specs.declared.kept.Kept.{Kept}
+use Rattle.wire.specs.declared.failing_dialer.Dial.{Dial}
 use Rattle.wire.specs.Talks.{counted_link}
 use Rattle.wire.specs.declared.failing_dialer.Plan.{Plan}
 use Rattle.wire.specs.declared.peer.Peer.{Peer}
 use Rattle.wire.specs.declared.peer.Talk.{Talk}
 
--- a place's talk, behind those before it
-abbrev pub place_talks : Place-F (List (Talk LinkState)) → List (Talk LinkState)
-place_talks place =
-    elim place.before as (λ _. List (Talk LinkState)) [ None ↦ [] | Some before ↦ box_value before ] ++ place.talk ∷ []
+-- what came of a dial, as a talk
+abbrev pub talk_of : Dial → Talk LinkState
+talk_of (Dial.Failed peer) = record { peer = peer; link = None }
+talk_of (Dial.Ended link) = record { peer = link.peer; link = Some link }
 
-abbrev pub talks_at : Place → List (Talk LinkState)
-talks_at = fold-Place (List (Talk LinkState)) place_talks
+abbrev pub talks_at : Kept Dial → List (Talk LinkState)
+talks_at place = map talk_of (items_at place)
 
-abbrev pub talks_of : Option (Box Place Global) → List (Talk LinkState)
-talks_of None = []
-talks_of (Some place) = talks_at (box_value place)
+abbrev pub talks_of : Option (Box (Kept Dial) Global) → List (Talk LinkState)
+talks_of place = map talk_of (items_of place)
 
 -- a dialer: the connections that it is to give, the numbers of the dials that fail, the number of the next dial, its talks and
 -- its counts
@@ -34,13 +33,6 @@ pub record DialerState : Type 0 where
   pub dial_faults : ℕ
   pub read_faults : ℕ
   pub write_faults : ℕ
-
-abbrev pub peer_of : Box Place Global → Peer
-peer_of place = (out-Place (box_value place)).talk.peer
-
--- the talk of a place once a link, or none, is handed back
-abbrev pub talk_of : Box Place Global → Option LinkState → Talk LinkState
-talk_of place link = record { peer = peer_of place; link = link }
 
 -- a planned connection, as it is dialed
 abbrev pub planned_link : Plan → Peer → LinkState

@@ -1,8 +1,10 @@
 pub mod Causes
+pub mod Calls
 pub mod Content
 pub mod Memory
 pub mod Flow
 pub mod Talks
+pub mod Kept
 pub mod LinkMemory
 pub mod DialerMemory
 pub mod UnfailingMemory

@@ -1,11 +1,12 @@
 // A source and a sink in memory whose calls fail at chosen numbers.
-ghost use Rattle.std.specs.Prelude.{◌≡◌, ◌↔◌, ◌<◌, ◌≤◌, ◌⊎◌, [], min, length, take, drop, Contains, IsErr, IfOk, OnErr, IfErr};
+ghost use Rattle.std.specs.Prelude.{◌≡◌, ◌↔◌, [], min, length, Contains, IsErr, IfOk, OnErr};
 ghost use Rattle.std.specs.Io.{ReadsAtMost, WritesAtMost};
 ghost use Rattle.std.specs.Io.KnownBytes.{ReadConsumes, WriteAppends};
 ghost use Rattle.wire.specs.Causes.{HasCause, TakesOrRose};
 ghost use Rattle.wire.specs.Memory.{SourceState, SinkState, after_read, after_failed_read, after_write, after_failed_write};
 
-use crate::{Failed, Sink, Source};
+use crate::giving::give;
+use crate::{Calls, Failed, Sink, Source};
 use std::alloc::Global;
 use std::marker::Model;
 
@@ -14,9 +15,7 @@ use std::marker::Model;
 pub struct FailingSource {
     bytes: Vec<u8>,
     at: usize,
-    calls: u64,
-    failing: Vec<u64>,
-    faults: u64,
+    reads: Calls,
 }
 
 impl Model for FailingSource {
@@ -25,7 +24,7 @@ impl Model for FailingSource {
 
     ghost Value = { SourceState };
 
-    ghost view = { λ s. record { left = drop s.at s.bytes.items; faults = s.faults; calls = s.calls; failing = s.failing.items } };
+    ghost view = { λ s. record { left = drop s.at s.bytes.items; faults = s.reads.faults; calls = s.reads.calls; failing = s.reads.failing } };
 
     ghost invariant = { λ s. s.at ≤ length s.bytes.items };
 }
@@ -37,28 +36,15 @@ impl FailingSource {
         FailingSource {
             bytes,
             at: 0,
-            calls: 0,
-            failing,
-            faults: 0,
+            reads: Calls::new(failing),
         }
     }
 
     pub fn faults(&self) -> u64
         ensures { result ≡ self.now.faults }
     {
-        self.faults
+        self.reads.faults()
     }
-}
-
-// Puts the first of the bytes into the room, as many as it has.
-pub(crate) fn fill(bytes: &[u8], into: &mut [u8]) -> usize
-    ensures count { result ≡ min (length bytes.now) (length into.old) }
-    ensures filled { take result into.new ≡ take result bytes.now }
-    ensures size { length into.new ≡ length into.old }
-{
-    let count = bytes.len().min(into.len());
-    into[..count].copy_from_slice(&bytes[..count]);
-    count
 }
 
 impl Source for FailingSource {
@@ -76,15 +62,11 @@ impl Source for FailingSource {
         ensures gives { IfOk result (λ count. (count ≡ min (length self.old.left) (length into.old)) × (self.new ≡ after_read self.old count)) }
         ensures err { OnErr result (self.new ≡ after_failed_read self.old) }
     {
-        let fails = self.failing.contains(&self.calls);
-        self.calls = self.calls.saturating_add(1);
-        if fails {
-            self.faults = self.faults.saturating_add(1);
+        if self.reads.call() {
+            self.reads.fault();
             return Err(Failed);
         }
-        let count = fill(&self.bytes[self.at..], into);
-        self.at += count;
-        Ok(count)
+        Ok(give(self.bytes.as_slice(), &mut self.at, into.len(), into))
     }
 }
 
@@ -93,10 +75,8 @@ impl Source for FailingSource {
 #[derive(Drop)]
 pub struct FailingSink {
     bytes: Vec<u8>,
-    calls: u64,
-    failing: Vec<u64>,
+    writes: Calls,
     most: usize,
-    faults: u64,
 }
 
 impl Model for FailingSink {
@@ -104,7 +84,7 @@ impl Model for FailingSink {
 
     ghost Value = { SinkState };
 
-    ghost view = { λ s. record { held = s.bytes.items; faults = s.faults; calls = s.calls; failing = s.failing.items; most = s.most } };
+    ghost view = { λ s. record { held = s.bytes.items; faults = s.writes.faults; calls = s.writes.calls; failing = s.writes.failing; most = s.most } };
 }
 
 impl FailingSink {
@@ -113,10 +93,8 @@ impl FailingSink {
     {
         FailingSink {
             bytes: Vec::new(alloc),
-            calls: 0,
-            failing,
+            writes: Calls::new(failing),
             most,
-            faults: 0,
         }
     }
 
@@ -130,7 +108,7 @@ impl FailingSink {
     pub fn faults(&self) -> u64
         ensures { result ≡ self.now.faults }
     {
-        self.faults
+        self.writes.faults()
     }
 }
 
@@ -151,15 +129,14 @@ impl Sink for FailingSink {
         ensures took { IfOk result (λ count. self.new ≡ after_write self.old piece.now count) }
         ensures err { OnErr result (self.new ≡ after_failed_write self.old) }
     {
-        let fails = self.failing.contains(&self.calls);
-        self.calls = self.calls.saturating_add(1);
+        let fails = self.writes.call();
         let count = piece.len().min(self.most);
         if fails || self.bytes.extend_from_slice(&piece[..count]).is_err() {
-            self.faults = self.faults.saturating_add(1);
+            self.writes.fault();
             return Err(Failed);
         }
         if count == 0 && !piece.is_empty() {
-            self.faults = self.faults.saturating_add(1);
+            self.writes.fault();
         }
         Ok(count)
     }

@@ -1,26 +1,37 @@
 // A dialer in memory whose dials fail at chosen numbers.
-ghost use Rattle.std.specs.Prelude.{◌≡◌, ◌≢◌, ◌↔◌, ◌⊎◌, ◌++◌, ◌<◌, ℕ, List, [], ◌∷◌, None, Some, min, max, length, Contains, IsErr, IsErrOf, IfOk, OnOk, OnErr, MatchOption};
-ghost use Rattle.std.specs.Io.{ReadsAtMost, WritesAtMost};
-ghost use Rattle.wire.specs.Causes.{HasCause, TakesOrRose, Rose};
-ghost use Rattle.wire.specs.Flow.{Reads, Writes, IsFresh};
-ghost use Rattle.wire.specs.LinkMemory.{LinkState, called, failed, gave, taken, wrote};
-ghost use Rattle.wire.specs.DialerMemory.{talks_of, talk_of, peer_of, planned_link, handed_back, Takes, Gives, Fails};
+ghost use Rattle.std.specs.Prelude.{◌≡◌, ◌++◌, [], ◌∷◌, None, Some, IsErrOf, IfOk, OnOk, MatchOption};
+ghost use Rattle.wire.specs.Causes.{Rose};
+ghost use Rattle.wire.specs.Flow.{IsFresh};
+ghost use Rattle.wire.specs.DialerMemory.{talks_at, talks_of, talk_of, planned_link, handed_back, Takes, Gives, Fails};
 ghost use Rattle.wire.specs.Talks.{Adds, counted_link};
-ghost use Rattle.wire.specs.declared.failing_dialer.Plan.{Plan as Planned};
 ghost use Rattle.wire.specs.declared.peer.Peer.{Peer as End};
-ghost use Rattle.wire.specs.declared.peer.Talk.{Talk as Dialing};
 
-use crate::{DialError, Dialer, Direction, Failed, FailingLink, Link, Peer, Talk};
+use crate::kept::{Kept, keep, place};
+use crate::{Calls, DialError, Dialer, Direction, FailingLink, Peer};
 use std::alloc::{AllocError, Global};
 use std::collections::VecDeque;
 use std::marker::Model;
 use units::Text;
 
-// A talk in a dialer's list, and those before it.
+/// What came of a dial.
 #[derive(Drop)]
-pub struct Place {
-    pub talk: Talk<FailingLink>,
-    pub before: Option<Box<Place>>,
+pub enum Dial {
+    /// It failed.
+    Failed(Peer),
+    /// Its connection was handed back.
+    Ended(FailingLink),
+}
+
+impl Dial {
+    /// Its connection; None where it failed.
+    pub fn link(&self) -> Option<&FailingLink>
+        ensures { MatchOption result ((talk_of self.now).link ≡ None) (λ link. (talk_of self.now).link ≡ Some link.now) }
+    {
+        match self {
+            Dial::Failed(_) => None,
+            Dial::Ended(link) => Some(link),
+        }
+    }
 }
 
 /// A connection that a dialer is to give: what comes on it, and how its calls go.
@@ -42,84 +53,8 @@ fn link_of(alloc: Global, plan: Plan, peer: Peer) -> FailingLink
     FailingLink::new(alloc, plan.input, reads, writes, peer)
 }
 
-/// A connection in memory that was dialed. It has the place of its talk in the dialer's list.
-#[derive(Drop)]
-pub struct DialedLink {
-    link: FailingLink,
-    place: Box<Place>,
-}
-
-impl Model for DialedLink {
-    ghost use Rattle.std.specs.Prelude.{◌≡◌};
-    ghost use Rattle.wire.specs.DialerMemory.{peer_of};
-    ghost use Rattle.wire.specs.LinkMemory.{LinkState};
-
-    ghost Value = { LinkState };
-
-    ghost view = { λ l. l.link };
-
-    ghost invariant = { λ l. peer_of l.place ≡ l.link.peer };
-}
-
-impl DialedLink {
-    /// The bytes that it took.
-    pub fn took(&self) -> &[u8]
-        ensures { result.now ≡ self.now.flow.took }
-    {
-        self.link.took()
-    }
-}
-
-impl Link for DialedLink {
-    ghost use Rattle.std.specs.Prelude.{Some};
-
-    ghost flow = { λ l. Some l.flow };
-
-    ghost read_faults = { λ l. l.reads.faults };
-
-    ghost write_faults = { λ l. l.writes.faults };
-
-    ghost peer = { λ l. l.peer };
-
-    fn read(&mut self, into: &mut [u8]) -> Result<usize, Failed>
-        ensures bound { ReadsAtMost result into.new }
-        ensures bytes { Reads (Some self.old.flow) (Some self.new.flow) result into.new }
-        ensures cause { HasCause self.old.reads.faults self.new.reads.faults result }
-        ensures other { self.new.writes.faults ≡ self.old.writes.faults }
-        ensures peer { self.new.peer ≡ self.old.peer }
-        ensures fails { IsErr result ↔ Contains self.old.reads.failing self.old.reads.calls }
-        ensures count { IfOk result (λ count. count ≡ min (min (length self.old.flow.left) (length into.old)) (max 1 self.old.reads.most)) }
-        ensures gives { IfOk result (λ count. self.new ≡ record self.old { flow = gave self.old.flow count; reads = called self.old.reads }) }
-        ensures err { OnErr result (self.new ≡ record self.old { reads = failed self.old.reads }) }
-    {
-        self.link.read(into)
-    }
-
-    fn write(&mut self, piece: &[u8]) -> Result<usize, Failed>
-        ensures bound { WritesAtMost result piece.now }
-        ensures bytes { Writes (Some self.old.flow) (Some self.new.flow) result piece.now }
-        ensures cause { HasCause self.old.writes.faults self.new.writes.faults result }
-        ensures takes { TakesOrRose self.old.writes.faults self.new.writes.faults result piece.now }
-        ensures other { self.new.reads.faults ≡ self.old.reads.faults }
-        ensures peer { self.new.peer ≡ self.old.peer }
-        ensures fails { Contains self.old.writes.failing self.old.writes.calls → IsErr result }
-        ensures count { IfOk result (λ count. count ≡ min (length piece.now) self.old.writes.most) }
-        ensures took { IfOk result (λ count. self.new ≡ record self.old { flow = taken self.old.flow piece.now count; writes = wrote self.old.writes piece.now count }) }
-        ensures err { OnErr result (self.new ≡ record self.old { writes = failed self.old.writes }) }
-    {
-        self.link.write(piece)
-    }
-
-    fn shut(&mut self)
-        ensures bytes { Some self.new.flow ≡ Some self.old.flow }
-        ensures reads { self.new.reads.faults ≡ self.old.reads.faults }
-        ensures writes { self.new.writes.faults ≡ self.old.writes.faults }
-        ensures peer { self.new.peer ≡ self.old.peer }
-        ensures same { self.new ≡ self.old }
-    {
-        self.link.shut();
-    }
-}
+/// A connection in memory that was dialed. It has its place among the dials that are over.
+pub type DialedLink = FailingLink<Box<Kept<Dial>>>;
 
 /// A dialer over connections in memory, which tells its talks. Its dials are numbered from 0 on; those with the given numbers
 /// fail, as does each behind the last planned connection.
@@ -127,10 +62,8 @@ impl Link for DialedLink {
 pub struct FailingDialer {
     alloc: Global,
     planned: VecDeque<Plan>,
-    failing: Vec<u64>,
-    dials: u64,
-    latest: Option<Box<Place>>,
-    dial_faults: u64,
+    dials: Calls,
+    latest: Option<Box<Kept<Dial>>>,
     read_faults: u64,
     write_faults: u64,
 }
@@ -142,21 +75,13 @@ impl Model for FailingDialer {
 
     ghost view = { λ d. record {
       planned = d.planned.items;
-      failing = d.failing.items;
-      dials = d.dials;
+      failing = d.dials.failing;
+      dials = d.dials.calls;
       talks = talks_of d.latest;
-      dial_faults = d.dial_faults;
+      dial_faults = d.dials.faults;
       read_faults = d.read_faults;
       write_faults = d.write_faults;
     } };
-}
-
-// The place of a talk with that peer.
-fn new_place(alloc: Global, peer: Peer) -> Result<Box<Place>, AllocError>
-    ensures { IfOk result (λ place. peer_of place ≡ peer) }
-{
-    let talk = Talk { peer, link: None };
-    Ok(Box::new(alloc, Place { talk, before: None })?)
 }
 
 fn dialed(host: &Text, port: &Text) -> Result<Peer, AllocError>
@@ -168,13 +93,11 @@ fn dialed(host: &Text, port: &Text) -> Result<Peer, AllocError>
     })
 }
 
-// Puts a talk behind the others.
-fn add(latest: &mut Option<Box<Place>>, mut place: Box<Place>, link: Option<FailingLink>)
-    ensures { talks_of latest.new ≡ talks_of latest.old ++ talk_of place link ∷ [] }
+// Puts a dial behind the others.
+fn add(latest: &mut Option<Box<Kept<Dial>>>, place: Box<Kept<Dial>>, dial: Dial)
+    ensures { talks_of latest.new ≡ talks_of latest.old ++ talk_of dial ∷ [] }
 {
-    place.talk.link = link;
-    place.before = latest.take();
-    *latest = Some(place);
+    keep(latest, place, dial);
 }
 
 impl FailingDialer {
@@ -185,10 +108,8 @@ impl FailingDialer {
         FailingDialer {
             alloc,
             planned,
-            failing,
-            dials: 0,
+            dials: Calls::new(failing),
             latest: None,
-            dial_faults: 0,
             read_faults: 0,
             write_faults: 0,
         }
@@ -198,21 +119,19 @@ impl FailingDialer {
     fn next_plan(&mut self) -> Option<Plan>
         ensures { Takes self.old self.new result }
     {
-        let fails = self.failing.contains(&self.dials);
-        self.dials = self.dials.saturating_add(1);
-        if fails {
+        if self.dials.call() {
             None
         } else {
             self.planned.pop_front()
         }
     }
 
-    /// The latest talk.
-    pub fn latest(&self) -> Option<&Talk<FailingLink>>
-        ensures { MatchOption result (self.now.talks ≡ []) (λ talk. (front : List (Dialing LinkState)) × (self.now.talks ≡ front ++ talk.now ∷ [])) }
+    /// The place of the dial that was over last, from which all are told.
+    pub fn latest(&self) -> Option<&Kept<Dial>>
+        ensures { MatchOption result (self.now.talks ≡ []) (λ place. self.now.talks ≡ talks_at place.now) }
     {
         match &self.latest {
-            Some(place) => Some(&place.talk),
+            Some(place) => Some(place),
             None => None,
         }
     }
@@ -247,13 +166,12 @@ impl Dialer for FailingDialer {
         ensures same { IsErrOf result DialError.NoMemory → self.new ≡ self.old }
     {
         let peer = dialed(host, port)?;
-        let place = new_place(self.alloc, dialed(host, port)?)?;
+        let place = place(self.alloc)?;
         if let Some(plan) = self.next_plan() {
-            let link = link_of(self.alloc, plan, peer);
-            return Ok(DialedLink { link, place });
+            return Ok(link_of(self.alloc, plan, peer).placed(place));
         }
-        add(&mut self.latest, place, None);
-        self.dial_faults = self.dial_faults.saturating_add(1);
+        add(&mut self.latest, place, Dial::Failed(peer));
+        self.dials.fault();
         Err(DialError::Failed)
     }
 
@@ -264,13 +182,13 @@ impl Dialer for FailingDialer {
         ensures writes { self.new.write_faults ≡ counted_link self.old.write_faults link.writes.faults }
         ensures others { self.new ≡ handed_back self.old link }
     {
-        let DialedLink { link, place } = link;
+        let (link, place) = link.apart();
         if link.read_faults() > 0 {
             self.read_faults = self.read_faults.saturating_add(1);
         }
         if link.write_faults() > 0 {
             self.write_faults = self.write_faults.saturating_add(1);
         }
-        add(&mut self.latest, place, Some(link));
+        add(&mut self.latest, place, Dial::Ended(link));
     }
 }

@@ -1,12 +1,12 @@
 // A connection in memory whose calls fail at chosen numbers.
-ghost use Rattle.std.specs.Prelude.{◌≡◌, ◌↔◌, ◌+◌, ◌<◌, ◌≤◌, ◌++◌, [], take, drop, Some, true, min, max, length, Contains, IsErr, IfOk, OnErr, IfErr};
+ghost use Rattle.std.specs.Prelude.{◌≡◌, ◌↔◌, [], Some, min, max, length, Contains, IsErr, IfOk, OnErr};
 ghost use Rattle.std.specs.Io.{ReadsAtMost, WritesAtMost};
-ghost use Rattle.wire.specs.Causes.{HasCause, TakesOrRose, next_count};
+ghost use Rattle.wire.specs.Causes.{HasCause, TakesOrRose};
 ghost use Rattle.wire.specs.Flow.{Reads, Writes};
-ghost use Rattle.wire.specs.LinkMemory.{LinkState, Direction as Way, called, failed, gave, taken, wrote};
+ghost use Rattle.wire.specs.LinkMemory.{called, failed, gave, taken, wrote};
 
-use crate::failing::fill;
-use crate::{Failed, Link, Peer};
+use crate::giving::give;
+use crate::{Calls, Failed, Link, Peer};
 use std::alloc::Global;
 use std::marker::Model;
 
@@ -14,10 +14,8 @@ use std::marker::Model;
 /// `most` bytes. A read moves at least one where there is one, since to give nothing is the end; a write with 0 takes nothing.
 #[derive(Drop)]
 pub struct Direction {
-    pub faults: u64,
-    pub calls: u64,
-    pub failing: Vec<u64>,
-    pub most: usize,
+    calls: Calls,
+    most: usize,
 }
 
 impl Model for Direction {
@@ -25,7 +23,7 @@ impl Model for Direction {
 
     ghost Value = { Way };
 
-    ghost view = { λ d. record { faults = d.faults; calls = d.calls; failing = d.failing.items; most = d.most } };
+    ghost view = { λ d. record { faults = d.calls.faults; calls = d.calls.calls; failing = d.calls.failing; most = d.most } };
 }
 
 impl Direction {
@@ -33,70 +31,26 @@ impl Direction {
         ensures { result ≡ record { faults = 0; calls = 0; failing = failing.items; most = most } }
     {
         Direction {
-            faults: 0,
-            calls: 0,
-            failing,
+            calls: Calls::new(failing),
             most,
         }
     }
-
-    // Counts a call, and tells whether it is one of those that fail.
-    fn call(&mut self) -> bool
-        ensures fails { result ≡ true ↔ Contains self.old.failing self.old.calls }
-        ensures calls { self.new ≡ called self.old }
-    {
-        let fails = self.failing.contains(&self.calls);
-        self.calls = self.calls.saturating_add(1);
-        fails
-    }
-
-    fn fault(&mut self)
-        ensures faults { self.new ≡ record self.old { faults = next_count self.old.faults } }
-        ensures later { self.old.faults ≤ self.new.faults }
-    {
-        self.faults = self.faults.saturating_add(1);
-    }
 }
 
-// Puts the bytes behind a place into the room, as many as it has, but at most so many.
-fn fill_from(bytes: &[u8], at: usize, most: usize, into: &mut [u8]) -> usize
-    requires { at ≤ length bytes.now }
-    ensures count { result ≡ min (min (length (drop at bytes.now)) (length into.old)) most }
-    ensures filled { take result into.new ≡ take result (drop at bytes.now) }
-{
-    let rest = &bytes[at..];
-    fill(&rest[..rest.len().min(most)], into)
-}
-
-// The same, and goes behind what was given.
-fn give(input: &[u8], at: &mut usize, most: usize, into: &mut [u8]) -> usize
-    requires { at.old ≤ length input.now }
-    ensures count { result ≡ min (min (length (drop at.old input.now)) (length into.old)) most }
-    ensures at { at.new ≡ at.old + result }
-    ensures within { at.new ≤ length input.now }
-    ensures given { take at.new input.now ≡ take at.old input.now ++ take result into.new }
-    ensures left { drop at.old input.now ≡ take result into.new ++ drop at.new input.now }
-    ensures filled { take result into.new ≡ take result (drop at.old input.now) }
-    ensures behind { drop at.new input.now ≡ drop result (drop at.old input.now) }
-    ensures end { result ≡ 0 → 0 < most → 0 < length into.new → drop at.new input.now ≡ [] }
-{
-    let count = fill_from(input, *at, most, into);
-    *at += count;
-    count
-}
-
-/// A connection over bytes in memory. A write for which memory is wanting fails too.
+/// A connection over bytes in memory. A write for which memory is wanting fails too. It may have a place, made before, to which
+/// it goes when it is handed back.
 #[derive(Drop)]
-pub struct FailingLink {
+pub struct FailingLink<P: Drop = ()> {
     input: Vec<u8>,
     at: usize,
     output: Vec<u8>,
     reads: Direction,
     writes: Direction,
     peer: Peer,
+    place: P,
 }
 
-impl Model for FailingLink {
+impl<P: Drop> Model for FailingLink<P> {
     ghost use Rattle.std.specs.Prelude.{take, drop, length, ◌≤◌};
     ghost use Rattle.wire.specs.LinkMemory.{LinkState};
 
@@ -130,7 +84,41 @@ impl FailingLink {
             reads,
             writes,
             peer,
+            place: (),
         }
+    }
+
+    /// The connection with a place.
+    pub fn placed<P: Drop>(self, place: P) -> FailingLink<P>
+        ensures { result ≡ self }
+    {
+        FailingLink {
+            input: self.input,
+            at: self.at,
+            output: self.output,
+            reads: self.reads,
+            writes: self.writes,
+            peer: self.peer,
+            place,
+        }
+    }
+}
+
+impl<P: Drop> FailingLink<P> {
+    /// The connection without its place, and the place.
+    pub fn apart(self) -> (FailingLink, P)
+        ensures { result.0 ≡ self }
+    {
+        let link = FailingLink {
+            input: self.input,
+            at: self.at,
+            output: self.output,
+            reads: self.reads,
+            writes: self.writes,
+            peer: self.peer,
+            place: (),
+        };
+        (link, self.place)
     }
 
     /// The bytes that it took.
@@ -143,17 +131,17 @@ impl FailingLink {
     pub fn read_faults(&self) -> u64
         ensures { result ≡ self.now.reads.faults }
     {
-        self.reads.faults
+        self.reads.calls.faults()
     }
 
     pub fn write_faults(&self) -> u64
         ensures { result ≡ self.now.writes.faults }
     {
-        self.writes.faults
+        self.writes.calls.faults()
     }
 }
 
-impl Link for FailingLink {
+impl<P: Drop> Link for FailingLink<P> {
     ghost use Rattle.std.specs.Prelude.{Some};
 
     ghost flow = { λ l. Some l.flow };
@@ -175,8 +163,8 @@ impl Link for FailingLink {
         ensures gives { IfOk result (λ count. self.new ≡ record self.old { flow = gave self.old.flow count; reads = called self.old.reads }) }
         ensures err { OnErr result (self.new ≡ record self.old { reads = failed self.old.reads }) }
     {
-        if self.reads.call() {
-            self.reads.fault();
+        if self.reads.calls.call() {
+            self.reads.calls.fault();
             return Err(Failed);
         }
         let most = self.reads.most.max(1);
@@ -195,14 +183,14 @@ impl Link for FailingLink {
         ensures took { IfOk result (λ count. self.new ≡ record self.old { flow = taken self.old.flow piece.now count; writes = wrote self.old.writes piece.now count }) }
         ensures err { OnErr result (self.new ≡ record self.old { writes = failed self.old.writes }) }
     {
-        let fails = self.writes.call();
+        let fails = self.writes.calls.call();
         let count = piece.len().min(self.writes.most);
         if fails || self.output.extend_from_slice(&piece[..count]).is_err() {
-            self.writes.fault();
+            self.writes.calls.fault();
             return Err(Failed);
         }
         if count == 0 && !piece.is_empty() {
-            self.writes.fault();
+            self.writes.calls.fault();
         }
         Ok(count)
     }

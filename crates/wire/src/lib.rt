@@ -6,12 +6,15 @@
 //! front of the piece, and an error adds nothing. `write_all` and `read_all` keep that over many calls.
 #![tactic(auto)]
 
+mod calls;
 mod clock;
 mod command_line;
 mod copying;
 mod failing;
 mod failing_dialer;
 mod failing_link;
+mod giving;
+mod kept;
 mod link;
 mod peer;
 mod scripted_clock;
@@ -25,16 +28,18 @@ mod unfailing;
 mod unfailing_dialer;
 mod unfailing_link;
 
+pub use calls::Calls;
 pub use clock::Clock;
 pub use command_line::{WordsError, read_words, tell};
 pub use copying::{ReadError, WriteFault, read_all, write_all};
 pub use failing::{FailingSink, FailingSource};
-pub use failing_dialer::{DialedLink, FailingDialer, Plan};
+pub use failing_dialer::{Dial, DialedLink, FailingDialer, Plan};
 pub use failing_link::{Direction, FailingLink};
+pub use kept::{Kept, keep, place};
 pub use link::{DialError, Dialer, Link};
 pub use peer::{Peer, Talk};
 pub use scripted_clock::ScriptedClock;
-pub use sending::write_link;
+pub use sending::{write_link, write_most};
 pub use stream::{StreamSink, StreamSource};
 pub use system_clock::SystemClock;
 pub use tcp_dialer::TcpDialer;

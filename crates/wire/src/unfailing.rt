@@ -1,11 +1,11 @@
 // A source and a sink in memory that never fail.
-ghost use Rattle.std.specs.Prelude.{◌≡◌, ◌++◌, [], min, length, take, drop, None, Ok, IfOk, OnOk};
+ghost use Rattle.std.specs.Prelude.{◌≡◌, ◌++◌, [], min, length, take, drop, None, Ok, IfOk};
 ghost use Rattle.std.specs.Io.{ReadsAtMost, WritesAtMost};
 ghost use Rattle.std.specs.Io.KnownBytes.{ReadConsumes, WriteAppends};
 ghost use Rattle.wire.specs.Causes.{HasCause, TakesOrRose};
 ghost use Rattle.wire.specs.Memory.{KeptState};
 
-use crate::failing::fill;
+use crate::giving::fill;
 use crate::{Failed, Sink, Source};
 use std::alloc::{AllocError, Global};
 use std::marker::Model;

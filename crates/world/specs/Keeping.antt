@@ -1,11 +1,7 @@
 -- What a world keeps of what it is handed back.
-use Rattle.std.specs.Prelude.{◌≡◌, ◌⊎◌, ℕ, ◌+◌, ◌-◌, ◌^◌, List, [], ◌∷◌, min, Option, Some, None}
+use Rattle.std.specs.Prelude.{◌≡◌, ◌⊎◌, List, [], ◌∷◌, Option, Some, None}
 use Rattle.wire.specs.Talks.{Adds}
 use Rattle.wire.specs.Tapes.{Tape}
-
--- the sum of two counts that stop at the greatest of 64 bits
-abbrev pub joined_count : ℕ → ℕ → ℕ
-joined_count count more = min (count + more) (2 ^ 64 - 1)
 
 -- a told list has nothing yet
 abbrev pub IsNothingYet : {X : Type 0} → Option (List X) → Type 0

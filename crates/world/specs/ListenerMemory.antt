@@ -1,10 +1,10 @@
 -- Listeners in memory, as clauses see them.
 use Rattle.std.specs.Prelude.{ℕ, ◌||◌, Bool, List, [], ◌∷◌, drop, is_none, Option, Some, None}
+use Rattle.wire.specs.Calls.{Counted, called}
 use Rattle.wire.specs.DialerMemory.{planned_link}
 use Rattle.wire.specs.LinkMemory.{LinkState}
 use Rattle.wire.specs.declared.failing_dialer.Plan.{Plan}
 use Rattle.wire.specs.declared.peer.Peer.{Peer}
-use Rattle.world.specs.Calls.{Counted, called}
 
 -- a connection that is to come, and where from
 pub record Arrival : Type 0 where

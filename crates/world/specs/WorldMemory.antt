@@ -1,10 +1,10 @@
 -- Worlds in memory, as clauses see them.
 use Rattle.std.specs.Prelude.{ℕ, ◌++◌, ◌||◌, Bool, false, List, [], ◌∷◌, drop, Option, Some, None}
+use Rattle.wire.specs.Calls.{Counted, called, failed, joined, uncalled}
 use Rattle.wire.specs.DialerMemory.{DialerState}
 use Rattle.wire.specs.LinkMemory.{LinkState}
 use Rattle.wire.specs.Tapes.{Tape, ClockState}
 use Rattle.wire.specs.declared.failing_dialer.Plan.{Plan}
-use Rattle.world.specs.Calls.{Counted, called, failed, joined, uncalled}
 use Rattle.world.specs.ListenerMemory.{ListenerState}
 use Rattle.world.specs.declared.failing_world.Listening.{Listening}
 use Rattle.world.specs.declared.file.File.{File}

@@ -2,23 +2,21 @@
 ghost use Rattle.std.specs.Prelude.{◌≡◌, ◌≤◌, ◌||◌, ◌++◌, ◌⊎◌, [], ◌∷◌, drop, find, false, Some, Contains, IsErr, IsErrOf, IfOk, OnErr, OnOk, MatchOption};
 ghost use Rattle.std.specs.Option.{option_copied};
 ghost use Rattle.wire.specs.Causes.{HasCause, Rose, next_count};
+ghost use Rattle.wire.specs.Calls.{called, failed, joined_count, missed, uncalled};
+ghost use Rattle.wire.specs.Kept.{items_at};
 ghost use Rattle.wire.specs.Talks.{Adds};
-ghost use Rattle.world.specs.Calls.{called, failed, missed, uncalled};
 ghost use Rattle.world.specs.Files.{IsShelved, has_name, text_named};
-ghost use Rattle.world.specs.Kept.{items_at};
-ghost use Rattle.world.specs.Keeping.{IsNothingYet, IsUntold, MayAdd, joined_count};
+ghost use Rattle.world.specs.Keeping.{IsNothingYet, IsUntold, MayAdd};
 ghost use Rattle.world.specs.WorldMemory.{first_kit, first_listener, forgotten, listened, refused, retired};
 
-use crate::calls::Calls;
 use crate::failing_listener::AcceptedLink;
-use crate::kept::{Kept, keep};
 use crate::planned_kit::KitClock;
 use crate::{Coming, FailingListener, File, Kit, Listener, PlannedKit, ShelfError, World};
 use std::alloc::{AllocError, Global};
 use std::collections::VecDeque;
 use std::marker::Model;
 use units::Text;
-use wire::{Failed, FailingDialer, FailingLink, ScriptedClock};
+use wire::{Calls, Failed, FailingDialer, FailingLink, Kept, ScriptedClock, keep};
 
 /// A listener that a world is to give: what comes to it, and the numbers of its calls that fail.
 #[derive(Drop)]
@@ -46,7 +44,7 @@ pub struct FailingWorld {
 }
 
 impl Model for FailingWorld {
-    ghost use Rattle.world.specs.Kept.{items_of};
+    ghost use Rattle.wire.specs.Kept.{items_of};
     ghost use Rattle.world.specs.WorldMemory.{WorldState};
 
     ghost Value = { WorldState };
@@ -282,7 +280,7 @@ impl World for FailingWorld {
         ensures ended { self.new.ended ≡ self.old.ended }
         ensures others { self.new ≡ record self.old { links = self.old.links ++ link ∷ []; kept = next_count self.old.kept } }
     {
-        let AcceptedLink { link, place } = link;
+        let (link, place) = link.apart();
         keep(&mut self.links, place, link);
         self.kept = self.kept.saturating_add(1);
     }

@@ -5,12 +5,10 @@
 //! that can be told; what it has read and what it gave out changes none of it.
 #![tactic(auto)]
 
-mod calls;
 mod failing_listener;
 mod failing_world;
 mod file;
 mod gate;
-mod kept;
 mod kit;
 mod listener;
 mod planned_kit;
@@ -22,7 +20,6 @@ pub use failing_listener::{AcceptedLink, Coming, FailingListener};
 pub use failing_world::{FailingWorld, Listening};
 pub use file::{File, ShelfError};
 pub use gate::{Gate, OpenGate, Place};
-pub use kept::Kept;
 pub use kit::Kit;
 pub use listener::Listener;
 pub use planned_kit::{KitClock, PlannedKit};

@@ -3,11 +3,10 @@ ghost use Rattle.std.specs.Prelude.{◌≡◌, ◌<◌, vec_len, IfOk};
 ghost use Rattle.world.specs.WorldMemory.{kit_of};
 
 use crate::Kit;
-use crate::kept::{Kept, place};
 use std::alloc::{AllocError, Global};
 use std::collections::VecDeque;
 use std::marker::Model;
-use wire::{Clock, FailingDialer, Plan, ScriptedClock};
+use wire::{Clock, FailingDialer, Kept, Plan, ScriptedClock, place};
 
 /// The clock of a kit in memory. It has the kit's place among those that are handed back.
 #[derive(Drop)]

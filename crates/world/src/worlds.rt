@@ -2,9 +2,10 @@
 ghost use Rattle.std.specs.Prelude.{◌≡◌, ◌≤◌, ◌||◌, ℕ, Bool, List, [], ◌∷◌, false, IfOk, IsErrOf, OnErr, OnOk};
 ghost use Rattle.std.specs.declared.option.Option.{Option};
 ghost use Rattle.wire.specs.Causes.{HasCause, Rose, next_count};
+ghost use Rattle.wire.specs.Calls.{joined_count};
 ghost use Rattle.wire.specs.Talks.{Adds};
 ghost use Rattle.world.specs.Files.{IsShelved};
-ghost use Rattle.world.specs.Keeping.{IsNothingYet, IsUntold, MayAdd, joined_count};
+ghost use Rattle.world.specs.Keeping.{IsNothingYet, IsUntold, MayAdd};
 ghost use Rattle.world.specs.declared.file.File.{File as Filed};
 ghost use Rattle.world.specs.declared.kit.Kit.{Kit as Tools};
 

@@ -41,11 +41,12 @@ fn failing_dialer(alloc: Global) -> Result<FailingDialer, AllocError> {
 fn dials_that_fail(rt: HostRuntime) -> Result<(), Fail> {
     let mut dialer = failing_dialer(rt.alloc())?;
     let host = Text::of(rt.alloc(), b"h")?;
-    let wanted: [Option<&[u8]>; 5] = [Some(b"hello"), None, Some(b""), Some(b"hel"), None];
-    for took in wanted {
-        assert_eq!(rt; talk(&mut dialer, &host)?, took.is_some());
-        let link = dialer.latest().and_then(|talk| talk.link.as_ref());
-        assert!(rt; link.map(|link| link.took()) == took);
+    let rows: [Option<&[u8]>; 5] = [Some(b"hello"), None, Some(b""), Some(b"hel"), None];
+    for wanted in rows {
+        assert_eq!(rt; talk(&mut dialer, &host)?, wanted.is_some());
+        let dial = dialer.latest().and_then(|kept| kept.item.as_ref());
+        let link = dial.and_then(|dial| dial.link());
+        assert!(rt; link.map(|link| link.took()) == wanted);
     }
     Ok(())
 }

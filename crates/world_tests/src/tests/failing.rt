@@ -3,8 +3,8 @@ use super::memory::small_world;
 use std::alloc::Global;
 use std::test::Fail;
 use units::Text;
-use wire::{Clock, Failed, FailingLink, write_link};
-use world::{FailingWorld, Gate, Kept, Listener, OpenGate, Place, ShelfError, World};
+use wire::{Clock, Failed, FailingLink, Kept, write_link};
+use world::{FailingWorld, Gate, Listener, OpenGate, Place, ShelfError, World};
 
 // Greets each connection that comes, and hands it back. How often accepting failed.
 fn greet_all<W: World>(world: &mut W, listener: &mut W::Listener, most: u32) -> u32 {

@@ -1,7 +1,7 @@
 -- The link took the piece's front so far.
 use Rattle.std.proofs.Common.{◌≡◌, [], length, ◌-◌, ◌≤◌, take}
 use Rattle.wire.specs.Flow.{Moves}
-use Rattle.wire.proofs.sending.write_link.Given as goal
+use Rattle.wire.proofs.sending.write_most.Given as goal
 
 abbrev pub invariant-loop-at : goal.invariant-loop-at
 invariant-loop-at g l = record {

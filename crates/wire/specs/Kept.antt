@@ -2,9 +2,9 @@
 use Rattle.std.specs.Prelude.{List, [], ◌++◌, Option, Some, None, Box, box_value}
 use Rattle.std.specs.Option.{option_to_list}
 use Rattle.std.specs.declared.alloc.Global.{Global}
-use Rattle.world.specs.declared.kept.Kept.{Kept}
-use Rattle.world.specs.declared.kept.Kept.TheOpen.{Kept-F}
-use Rattle.world.specs.declared.kept.Kept.TheFolds.{fold-Kept}
+use Rattle.wire.specs.declared.kept.Kept.{Kept}
+use Rattle.wire.specs.declared.kept.Kept.TheOpen.{Kept-F}
+use Rattle.wire.specs.declared.kept.Kept.TheFolds.{fold-Kept}
 
 -- the item of a place, behind those of the places before it
 abbrev pub items_here : {X : Type 0} → Kept-F X (List X) → List X

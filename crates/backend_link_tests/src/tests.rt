@@ -1,4 +1,4 @@
-use super::*;
+use backend_link::exchange;
 use http_heads::{Backend, BackendRequest, Exchange, Fields, RequestHead};
 use std::alloc::Global;
 use std::collections::VecDeque;
@@ -76,7 +76,8 @@ fn messages_that_are_cut(rt: HostRuntime) -> Result<(), Fail> {
             assert_eq!(rt; answer(alloc, &mut early, b"GET")?, wanted, "{count}");
             let mut whole = dialer(alloc, input, count + 1, [&[], &[], &[]])?;
             assert_eq!(rt; answer(alloc, &mut whole, b"GET")?, (200, 3), "{count}");
-            let link = whole.latest().and_then(|talk| talk.link.as_ref());
+            let dial = whole.latest().and_then(|kept| kept.item.as_ref());
+            let link = dial.and_then(|dial| dial.link());
             assert!(rt; link.map(|link| link.took()) == Some(REQUEST), "{count}");
         }
     }

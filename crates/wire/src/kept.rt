@@ -1,6 +1,6 @@
 // What is handed back, in places that were made before.
-ghost use Rattle.std.specs.Prelude.{◌≡◌, ◌++◌, [], ◌∷◌};
-ghost use Rattle.world.specs.Kept.{items_of};
+ghost use Rattle.std.specs.Prelude.{◌≡◌, ◌++◌, [], ◌∷◌, Some, IfOk};
+ghost use Rattle.wire.specs.Kept.{items_of};
 
 use std::alloc::{AllocError, Global};
 
@@ -11,8 +11,10 @@ pub struct Kept<T> {
     pub before: Option<Box<Kept<T>>>,
 }
 
-// An empty place.
-pub(crate) fn place<T: Drop>(alloc: Global) -> Result<Box<Kept<T>>, AllocError> {
+/// An empty place.
+pub fn place<T: Drop>(alloc: Global) -> Result<Box<Kept<T>>, AllocError>
+    ensures { IfOk result (λ place. items_of (Some place) ≡ []) }
+{
     Ok(Box::new(
         alloc,
         Kept {
@@ -22,8 +24,8 @@ pub(crate) fn place<T: Drop>(alloc: Global) -> Result<Box<Kept<T>>, AllocError> 
     )?)
 }
 
-// Puts an item behind the others. It takes no memory.
-pub(crate) fn keep<T: Drop>(latest: &mut Option<Box<Kept<T>>>, mut place: Box<Kept<T>>, item: T)
+/// Puts an item behind the others. It takes no memory.
+pub fn keep<T: Drop>(latest: &mut Option<Box<Kept<T>>>, mut place: Box<Kept<T>>, item: T)
     ensures { items_of latest.new ≡ items_of latest.old ++ item ∷ [] }
 {
     place.item = Some(item);

@@ -2,7 +2,7 @@
 use Rattle.std.proofs.Common.{List, ℕ, ◌++◌, take, drop, sym, ◌∙◌, ap}
 use Rattle.std.proofs.Math.Seq.{take-add}
 use Rattle.std.proofs.lemmas.List.{take-append-drop, drop-drop}
-use Rattle.wire.proofs.failing_link.give.Goals as goal
+use Rattle.wire.proofs.giving.give.Goals as goal
 
 pub returns-clause-given : goal.returns-clause-given
 returns-clause-given c =

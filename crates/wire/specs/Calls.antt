@@ -1,7 +1,6 @@
 -- Calls that fail at chosen numbers.
-use Rattle.std.specs.Prelude.{ℕ, List}
+use Rattle.std.specs.Prelude.{ℕ, ◌+◌, ◌-◌, ◌^◌, List, min}
 use Rattle.wire.specs.Causes.{next_count}
-use Rattle.world.specs.Keeping.{joined_count}
 
 -- the numbers of the calls that fail, the number of the next call, and the count of faults
 pub record Counted : Type 0 where
@@ -11,6 +10,10 @@ pub record Counted : Type 0 where
 
 abbrev pub uncalled : List ℕ → Counted
 uncalled failing = record { failing = failing; calls = 0; faults = 0 }
+
+-- the sum of two counts that stop at the greatest of 64 bits
+abbrev pub joined_count : ℕ → ℕ → ℕ
+joined_count count more = min (count + more) (2 ^ 64 - 1)
 
 -- a fault is counted, and so are those of other calls
 abbrev pub missed : Counted → Counted

@@ -1,19 +1,19 @@
 // Calls that fail at chosen numbers.
 ghost use Rattle.std.specs.Prelude.{◌≡◌, ◌↔◌, ◌≤◌, true, Contains};
-ghost use Rattle.world.specs.Calls.{called, joined, missed, uncalled};
+ghost use Rattle.wire.specs.Calls.{called, joined, missed, uncalled};
 
 use std::marker::Model;
 
-// Calls are numbered from 0 on, and those with the given numbers fail.
+/// Calls are numbered from 0 on, and those with the given numbers fail.
 #[derive(Drop)]
-pub(crate) struct Calls {
+pub struct Calls {
     failing: Vec<u64>,
     calls: u64,
     faults: u64,
 }
 
 impl Model for Calls {
-    ghost use Rattle.world.specs.Calls.{Counted};
+    ghost use Rattle.wire.specs.Calls.{Counted};
 
     ghost Value = { Counted };
 
@@ -21,7 +21,7 @@ impl Model for Calls {
 }
 
 impl Calls {
-    pub(crate) fn new(failing: Vec<u64>) -> Calls
+    pub fn new(failing: Vec<u64>) -> Calls
         ensures { result ≡ uncalled failing.items }
     {
         Calls {
@@ -31,8 +31,8 @@ impl Calls {
         }
     }
 
-    // Counts a call, and tells whether it is one of those that fail.
-    pub(crate) fn call(&mut self) -> bool
+    /// Counts a call, and tells whether it is one of those that fail.
+    pub fn call(&mut self) -> bool
         ensures fails { result ≡ true ↔ Contains self.old.failing self.old.calls }
         ensures calls { self.new ≡ called self.old }
     {
@@ -41,21 +41,22 @@ impl Calls {
         fails
     }
 
-    pub(crate) fn fault(&mut self)
+    /// Counts a fault.
+    pub fn fault(&mut self)
         ensures faults { self.new ≡ missed self.old }
         ensures later { self.old.faults ≤ self.new.faults }
     {
         self.faults = self.faults.saturating_add(1);
     }
 
-    // Adds the faults of other calls.
-    pub(crate) fn join(&mut self, faults: u64)
+    /// Adds the faults of other calls.
+    pub fn join(&mut self, faults: u64)
         ensures { self.new ≡ joined self.old faults }
     {
         self.faults = self.faults.saturating_add(faults);
     }
 
-    pub(crate) fn faults(&self) -> u64
+    pub fn faults(&self) -> u64
         ensures { result ≡ self.now.faults }
     {
         self.faults

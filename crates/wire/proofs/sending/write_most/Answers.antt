@@ -3,7 +3,7 @@ use Rattle.std.proofs.Common.{◌≡◌, ◌-◌, ◌∙◌, [], refl, arith, ta
 use Rattle.std.proofs.Math.Seq.{take-add}
 use Rattle.std.proofs.lemmas.List.{take_all}
 use Rattle.wire.proofs.Flowing.{Moves-none, Moves-trans}
-use Rattle.wire.proofs.sending.write_link.Goals as goal
+use Rattle.wire.proofs.sending.write_most.Goals as goal
 
 pub loop-at-init : goal.loop-at-init
 loop-at-init g c = record {

@@ -1,0 +1,5 @@
+//! Rows for the public calls of `backend_link`.
+#![tactic(auto)]
+
+#[cfg(test)]
+mod tests;
