@@ -1,6 +1,6 @@
 -- What is received may be sent on.
-use Rattle.std.proofs.Common.{◌≡◌, ℕ, ◌<◌, ◌⊎◌, inl, inr, Bool, true, false, not, List, ◌++◌, length, filter, Option, Some, None, refl}
-use Rattle.std.specs.Prelude.{◌==◌, nat_lt, IfSome, if◌then◌else◌}
+use Rattle.std.proofs.Common.{◌≡◌, ℕ, ◌⊎◌, inl, inr, Bool, true, false, not, List, length, filter, Option, Some, None, refl}
+use Rattle.std.specs.Prelude.{◌==◌, nat_lt, IfSome}
 use Rattle.std.specs.List.{All}
 use Rattle.std.proofs.lemmas.List.Elements.{All-append, All-filter}
 use Rattle.http_heads.specs.declared.fields.Field.{Field}

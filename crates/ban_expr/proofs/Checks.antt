@@ -1,10 +1,9 @@
 -- Clauses that are checked and built one after another.
-use Rattle.std.proofs.Common.{◌≡◌, ◌<◌, ◌⊎◌, ℕ, List, [], ◌∷◌, length, Result, Ok, Err, MatchResult, refl, sym, ap, ◌∙◌, inl, inr, arith}
+use Rattle.std.proofs.Common.{◌≡◌, ◌<◌, ℕ, List, [], ◌∷◌, length, Result, Ok, Err, refl, inl, inr}
 use Rattle.cache_law.specs.declared.ban.Condition.{Condition}
 use Rattle.ban_expr.specs.declared.error.BanError.{BanError}
-use Rattle.ban_expr.specs.declared.error.BanError.TheVariants.{NoMemory}
 use Rattle.ban_expr.specs.Reading.{Clause, clause, joined, Says, SayAll, IsWrong, IsFirstWrong, IsChecked}
-use Rattle.ban_expr.proofs.Joined.{Behind, behind, last_clause}
+use Rattle.ban_expr.proofs.Joined.{behind, last_clause}
 
 -- the first clause is wrong
 pub first_wrong : (words : List (List ℕ)) (f o a : List ℕ) (rest : List (List ℕ)) (error : BanError) → words ≡ f ∷ o ∷ a ∷ rest → IsWrong (clause f o a) error

@@ -1,10 +1,10 @@
 -- Words say one ban, or are refused for one cause.
-use Rattle.std.proofs.Common.{◌≡◌, ◌≢◌, ◌<◌, ◌≤◌, ◌⊎◌, ℕ, pos, true, List, [], ◌∷◌, length, Option, Some, None, refl, sym, ap, subst, ◌∙◌, inl, inr, arith}
+use Rattle.std.proofs.Common.{◌≡◌, ◌≢◌, ◌<◌, ◌≤◌, ◌⊎◌, ℕ, pos, true, List, [], ◌∷◌, Option, Some, None, refl, sym, ap, subst, ◌∙◌, inl, inr, arith}
 use Rattle.std.specs.Prelude.{IsSomeAnd, MatchOption, IsSome}
 use Rattle.std.proofs.lemmas.Bool.{false≢true}
 use Rattle.units.proofs.Splits.{duration_same}
 use Rattle.units.specs.Durations.{IsDuration}
-use Rattle.vcl_values.specs.Readings.{reading, options, IsAccepted, HasNoReading, NestsTooDeep}
+use Rattle.vcl_values.specs.Readings.{reading, options}
 use Rattle.vcl_values.proofs.ReadingLemmas.{IsAccepted-reading}
 use Rattle.cache_law.specs.declared.ban.Condition.{Condition}
 use Rattle.cache_law.specs.declared.ban.Condition.TheVariants.{OnText, OnTime}
@@ -15,7 +15,7 @@ use Rattle.ban_expr.specs.declared.subjects.Subject.{Subject}
 use Rattle.ban_expr.specs.declared.subjects.Subject.TheVariants.{OfText, OfTime}
 use Rattle.ban_expr.specs.Fields.{subject_of, text_field}
 use Rattle.ban_expr.specs.Operators.{text_operator, comparison_of, is_search, IsPattern, IsNoPattern}
-use Rattle.ban_expr.specs.Reading.{Clause, joined, IsMadeOf, Says, SayAll, IsWrong, IsWrongOf, IsWrongText, IsWrongTime, IsFirstWrong, Reads, IsRefusedBy, IsRefusal}
+use Rattle.ban_expr.specs.Reading.{Clause, IsMadeOf, Says, SayAll, IsWrong, IsWrongOf, IsWrongText, IsWrongTime, IsFirstWrong, Reads, IsRefusedBy, IsRefusal}
 use Rattle.ban_expr.proofs.Joined.{joined_same}
 
 -- a clause says one condition

@@ -1,5 +1,5 @@
 -- What clauses say, and what is wrong with them.
-use Rattle.std.proofs.Common.{◌≡◌, ◌<◌, ◌≤◌, ℕ, ℤ, pos, Bool, true, false, Option, Some, None, Result, Ok, Err, MatchResult, List, refl, sym, ◌∙◌, ap, arith}
+use Rattle.std.proofs.Common.{◌≡◌, ◌≤◌, ℕ, ℤ, pos, true, false, Some, Result, Ok, Err, MatchResult, List, refl, sym, ◌∙◌, ap, arith}
 use Rattle.std.proofs.lemmas.Bool.{false≢true}
 use Rattle.std.proofs.lemmas.Int.{ints, to_z-of_z}
 use Rattle.std.specs.Int.{w64, cast_signed, cast_unsigned}
@@ -11,15 +11,13 @@ use Rattle.cache_law.specs.declared.ban.TimeField.{TimeField}
 use Rattle.vcl_values.specs.declared.comparisons.Comparison.{Comparison}
 use Rattle.ban_expr.specs.declared.error.BanError.{BanError}
 use Rattle.ban_expr.specs.declared.error.BanError.TheVariants.{Field, Operator, Argument, Pattern, Shape, NoMemory}
-use Rattle.ban_expr.specs.declared.plans.Plan.{Plan}
 use Rattle.ban_expr.specs.declared.plans.Plan.TheVariants as plan
-use Rattle.ban_expr.specs.declared.subjects.Subject.{Subject}
 use Rattle.ban_expr.specs.declared.subjects.Subject.TheVariants.{OfText, OfTime}
 use Rattle.ban_expr.specs.declared.subjects.TextSubject.{TextSubject}
 use Rattle.ban_expr.specs.Fields.{subject_of, text_field}
-use Rattle.ban_expr.specs.Operators.{text_operator, comparison_of, is_search, IsPattern}
+use Rattle.ban_expr.specs.Operators.{is_search, IsPattern}
 use Rattle.ban_expr.specs.Plans.{IsPlanned, IsTried}
-use Rattle.ban_expr.specs.Reading.{Clause, clause, Says, IsWrong, IsWrongOf}
+use Rattle.ban_expr.specs.Reading.{Clause, Says, IsWrong}
 
 -- a time whose argument is no duration says nothing
 pub no_duration : (c : Clause) (field : TimeField) → subject_of c.field ≡ Some (OfTime field) → ((n : ℕ) → IsDuration c.argument n → ⊥)

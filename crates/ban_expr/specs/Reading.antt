@@ -1,6 +1,6 @@
 -- The ban that words say, and what is wrong with words that say none (varnish-cli(7), "ban": a field, an operator and
 -- an argument, with `&&` between two such conditions).
-use Rattle.std.specs.Prelude.{◌≡◌, ◌⊎◌, ◌<◌, ◌≤◌, ⊤, ℕ, pos, true, List, [], ◌∷◌, length, codes, Option, Some, None, IsSome, IsSomeAnd, MatchOption, Result, Ok, Err}
+use Rattle.std.specs.Prelude.{◌≡◌, ◌⊎◌, ◌<◌, ◌≤◌, ⊤, ℕ, pos, true, List, [], ◌∷◌, length, codes, Some, None, IsSome, IsSomeAnd, MatchOption, Result, Ok, Err}
 use Rattle.units.specs.Durations.{IsDuration}
 use Rattle.cache_law.specs.declared.ban.Condition.{Condition}
 use Rattle.cache_law.specs.declared.ban.Condition.TheVariants.{OnText, OnTime}

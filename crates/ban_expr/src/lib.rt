@@ -13,8 +13,6 @@ mod operators;
 mod plans;
 mod reading;
 mod subjects;
-#[cfg(test)]
-mod tests;
 
 pub use error::BanError;
 pub use laws::one_ban;

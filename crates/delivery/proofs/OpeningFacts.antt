@@ -1,5 +1,5 @@
 -- What vcl_deliver and vcl_synth begin with has each part of its class.
-use Rattle.std.proofs.Common.{◌≡◌, ℕ, ◌<◌, ◌^◌, inl, inr, List, [], ◌∷◌, ◌++◌, Option, Some, None, refl, arith, append-nil}
+use Rattle.std.proofs.Common.{◌≡◌, ℕ, ◌<◌, ◌^◌, inr, List, [], ◌∷◌, ◌++◌, Option, Some, None, refl, arith, append-nil}
 use Rattle.std.specs.Prelude.{codes, IfSome, IsTrue}
 use Rattle.std.specs.List.{All}
 use Rattle.std.specs.Fmt.{decimal}

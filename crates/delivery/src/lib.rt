@@ -10,8 +10,6 @@ mod laws;
 mod opening;
 mod pages;
 mod printing;
-#[cfg(test)]
-mod tests;
 
 pub use finishing::{Delivery, finish};
 pub use laws::{opened_as_read, sent_as_meant};

@@ -9,8 +9,6 @@ mod directives;
 mod lifetime;
 mod merging;
 mod tags;
-#[cfg(test)]
-mod tests;
 mod times;
 mod validators;
 

@@ -1,8 +1,8 @@
 -- A body ends in one place: it goes on to no longer body, unless it goes on to the end of the connection.
-use Rattle.std.proofs.Common.{◌≡◌, ◌≢◌, ◌⊎◌, inl, inr, ℕ, suc, ◌+◌, ◌<◌, ◌≤◌, List, [], ◌∷◌, ◌++◌, length, refl, sym, ◌∙◌, ap, subst, arith}
+use Rattle.std.proofs.Common.{◌≡◌, ◌⊎◌, inl, inr, ℕ, ◌+◌, List, [], ◌∷◌, ◌++◌, length, refl, sym, ◌∙◌, ap, subst, arith}
 use Rattle.std.specs.List.{flat_map}
 use Rattle.std.proofs.lemmas.List.{length-append, append_assoc, append-nil}
-use Rattle.httparse.specs.Grammar.{ChunkLine, ReadsChunkLine, chunk_size}
+use Rattle.httparse.specs.Grammar.{ChunkLine, chunk_size}
 use Rattle.httparse.proofs.ChunkLemmas.{chunk_line_unique, ReadsChunkLine-append}
 use Rattle.httparse.proofs.GrammarLemmas.{section_unique, ReadsSection-append}
 use Rattle.http_bodies.specs.Bodies.{ReadsLine, IsTrailer, ReadsChunks, IsBody}

@@ -1,12 +1,12 @@
 -- Fields frame a body in one way at most.
-use Rattle.std.proofs.Common.{◌≡◌, ℕ, ◌<◌, true, false, List, [], ◌∷◌, Option, Some, None, refl, sym, ◌∙◌, subst, arith}
+use Rattle.std.proofs.Common.{◌≡◌, ℕ, ◌<◌, true, List, Option, Some, None, refl, sym, ◌∙◌, arith}
 use Rattle.http_heads.specs.declared.fields.Field.{Field}
 use Rattle.http_heads.specs.Fields.{count_of, first_value}
 use Rattle.http_bodies.specs.declared.framing.Kind.{Kind}
 use Rattle.http_bodies.specs.declared.framing.Kind.TheVariants.{Request, Reply, Interim, NoBody}
 use Rattle.http_bodies.specs.declared.framing.Framing.{Framing}
 use Rattle.http_bodies.specs.declared.framing.Framing.TheVariants.{Nothing, Length, Chunked, UntilEnd}
-use Rattle.http_bodies.specs.Framings.{length_name, length_number, says_length, is_that, Says, Frames, unsaid}
+use Rattle.http_bodies.specs.Framings.{length_name, length_number, says_length, is_that, Says, Frames}
 use Rattle.http_bodies.proofs.LengthFacts.{first_says, none_named, that}
 
 -- two lengths that each field says

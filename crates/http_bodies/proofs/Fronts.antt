@@ -1,15 +1,15 @@
 -- The whole body at the front of a text, and what a reader that took the text from its start tells of it.
-use Rattle.std.proofs.Common.{◌≡◌, ◌≢◌, ◌⊎◌, ◌↔◌, inl, inr, ℕ, ◌+◌, ◌-◌, ◌<◌, ◌≤◌, List, [], ◌∷◌, ◌++◌, length, take, drop, Option, Some, None, Result, Ok, Err, refl, sym, ◌∙◌, ap, subst, arith}
+use Rattle.std.proofs.Common.{◌≡◌, ◌≢◌, ◌⊎◌, ◌↔◌, inl, inr, ℕ, ◌+◌, ◌-◌, ◌≤◌, List, [], ◌∷◌, ◌++◌, length, take, drop, Some, None, Result, Ok, Err, refl, sym, ◌∙◌, ap, subst, arith}
 use native.Mathlib.Decide.{dec_le}
 use Rattle.std.proofs.lemmas.List.{append-nil, append_assoc, length-append, take-append-drop, take-append-le, length-drop, take_all}
 use Rattle.std.proofs.Math.Seq.{take-append-add}
 use Rattle.http_bodies.specs.declared.framing.Framing.{Framing}
-use Rattle.http_bodies.specs.declared.framing.Framing.TheVariants.{Nothing, Length, Chunked, UntilEnd}
+use Rattle.http_bodies.specs.declared.framing.Framing.TheVariants.{Length, UntilEnd}
 use Rattle.http_bodies.specs.declared.framing.BodyError.{BodyError}
 use Rattle.http_bodies.specs.declared.framing.BodyError.TheVariants.{BadLength, TwoFramings, BadChunk, TooLarge, Early, NoMemory}
 use Rattle.http_bodies.specs.Bodies.{IsBody, BeginsWith}
-use Rattle.http_bodies.specs.Reading.{ReaderState, Within, Ends, Makes, Follows, Starts, refusal}
-use Rattle.http_bodies.specs.Answers.{CanEnd, CanEndWithin, CanGoOn, IsCause, Breaks, IsBroken, HasEndWithin, GoesOn, Takes, Refuses}
+use Rattle.http_bodies.specs.Reading.{ReaderState, Ends, Makes, Follows, Starts, refusal}
+use Rattle.http_bodies.specs.Answers.{CanEndWithin, IsCause, Breaks, IsBroken, HasEndWithin, GoesOn, Takes, Refuses}
 use Rattle.http_bodies.proofs.Prefixes.{prefix_split, nothing}
 use Rattle.http_bodies.proofs.PlaceFacts.{alive}
 use Rattle.http_bodies.proofs.AnswerFacts.{has_end_after}

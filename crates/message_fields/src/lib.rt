@@ -13,8 +13,6 @@ mod framing;
 mod laws;
 mod lists;
 mod parts;
-#[cfg(test)]
-mod tests;
 
 pub use added::{with_field, with_number, with_only_field};
 pub use forwarding::forward;

@@ -8,8 +8,6 @@
 mod interim;
 mod laws;
 mod reading;
-#[cfg(test)]
-mod tests;
 
 pub use laws::one_exchange;
 pub use reading::read_reply;

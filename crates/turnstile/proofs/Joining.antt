@@ -1,20 +1,19 @@
 -- Joining two passes keeps the rule.
-use Rattle.std.proofs.Common.{◌≡◌, ◌≢◌, ◌⊎◌, ℕ, zero, suc, ◌+◌, ◌-◌, ◌%◌, ◌^◌, ◌<◌, ◌≤◌, Bool, true, false, List, [], ◌∷◌, ◌++◌, length, map, set, drop, Option, Some, None, refl, sym, ap, ◌∙◌, subst, arith, append-nil, append_assoc, inl, inr, ⊎_elim}
-use mathlib.Core.Option.{some, none, some-injective, some-ne-none}
-use mathlib.Core.Option as maybe
+use Rattle.std.proofs.Common.{◌≡◌, ◌≢◌, ◌⊎◌, ℕ, zero, suc, ◌+◌, ◌-◌, ◌%◌, ◌^◌, ◌<◌, ◌≤◌, Bool, true, false, List, [], ◌∷◌, ◌++◌, length, set, drop, Option, refl, sym, ap, ◌∙◌, subst, arith, append-nil, inl, inr, ⊎_elim}
+use mathlib.Core.Option.{some-injective}
 use mathlib.Core.Logic.{dite}
-use native.Mathlib.Decide.{ℕ_discrete, dec_le}
+use native.Mathlib.Decide.{ℕ_discrete}
 use lib.ListN.{get_elem?}
 use Rattle.std.proofs.lemmas.Bool.{ltb-true, ltb-false}
 use Rattle.std.specs.Prelude.{nat_lt, if◌then◌else◌, slice_index_or}
-use Rattle.std.specs.List.{All, Contains, sum_by}
-use Rattle.std.proofs.lemmas.List.{length-set, map-append, length-append, get_or_append_left}
+use Rattle.std.specs.List.{All, Contains}
+use Rattle.std.proofs.lemmas.List.{map-append, length-append, get_or_append_left}
 use Rattle.std.proofs.Math.Seq.{drop-append_seam}
 use Rattle.std.proofs.lemmas.List.Elements.{All-nil, All-cons, All-weaker, All-append, All-drop, All-same, Contains-append_left, Contains-append_right, Contains-append_cases}
 use Rattle.atomic_table.specs.Table.{State, Joins}
 use Rattle.atomic_table.proofs.Lists.{at_set, set_here, set_else}
-use Rattle.turnstile.specs.Knowledge.{Owns, Covers, Silent, Grown, EndedStay, places, mine, longer, merged, nobody, ended_numbers}
-use Rattle.turnstile.specs.Turns.{Sits, IsLive, HasTicket, IsInside, queued, width, next_ticket, TicketsInOrder, NumbersApart, OwnNumbers, IsOwned, IsMade, NumbersRooted, NumbersKept, SeenAFront, IsHome, IsOut, SlotInPlace, TakesTurns}
+use Rattle.turnstile.specs.Knowledge.{Owns, Covers, Silent, Grown, EndedStay, places, mine, merged, nobody, ended_numbers}
+use Rattle.turnstile.specs.Turns.{Sits, IsLive, HasTicket, IsInside, queued, width, next_ticket, TicketsInOrder, OwnNumbers, IsOwned, IsMade, NumbersRooted, NumbersKept, SeenAFront}
 use Rattle.turnstile.specs.Steps.{idle, joining, joined, spent}
 use Rattle.turnstile.specs.declared.knowledge.Known.{Known}
 use Rattle.turnstile.specs.declared.knowledge.Ended.{Ended}

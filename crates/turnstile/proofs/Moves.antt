@@ -1,20 +1,20 @@
 -- One view changes, and the log may gain entries of its pass's caller: what stays true of all views.
-use Rattle.std.proofs.Common.{◌≡◌, ◌≢◌, ◌⊎◌, ℕ, zero, suc, ◌+◌, ◌-◌, ◌%◌, ◌^◌, ◌<◌, ◌≤◌, List, [], ◌∷◌, ◌++◌, length, map, set, get_or, refl, sym, ap, ◌∙◌, subst, arith, append_assoc, append-nil, inl, inr, ⊎_elim}
+use Rattle.std.proofs.Common.{◌≡◌, ◌≢◌, ◌⊎◌, ℕ, zero, suc, ◌+◌, ◌-◌, ◌^◌, ◌<◌, ◌≤◌, List, [], ◌∷◌, ◌++◌, length, map, set, get_or, refl, sym, ap, ◌∙◌, subst, arith, append_assoc, inl, inr, ⊎_elim}
 use mathlib.Core.Option.{some, some-injective, some-ne-none}
 use mathlib.Core.Logic.{dite}
 use native.Mathlib.Decide.{ℕ_discrete}
 use lib.ListN.{get_elem?}
 use Rattle.std.specs.List.{All, Contains, sum_by}
-use Rattle.std.proofs.lemmas.List.Elements.{All-weaker, All-append, Contains-get_or}
+use Rattle.std.proofs.lemmas.List.Elements.{All-weaker, All-append}
 use Rattle.std.proofs.lemmas.List.Sums.{sum_by-cons}
 use Rattle.std.proofs.lemmas.List.{get_or-map, length-map}
 use Rattle.atomic_table.proofs.Lists.{at_set, set_here, set_else}
-use Rattle.turnstile.specs.Knowledge.{Owns, Covers, Silent, Grown, EndedStay, saw, places, ended_numbers}
-use Rattle.turnstile.specs.Turns.{Sits, IsLive, HasTicket, IsInside, queued, width, next_ticket, TicketsInOrder, NumbersApart, OwnNumbers, IsOwned, IsMade, NumbersRooted, NumbersKept, SeenAFront, JoinedBoth}
+use Rattle.turnstile.specs.Knowledge.{Owns, Covers, Silent, EndedStay, saw, ended_numbers}
+use Rattle.turnstile.specs.Turns.{Sits, IsLive, width, NumbersApart, OwnNumbers, IsOwned, NumbersRooted, NumbersKept, SeenAFront}
 use Rattle.turnstile.specs.declared.knowledge.Known.{Known}
 use Rattle.turnstile.specs.declared.knowledge.Ended.{Ended}
 use Rattle.turnstile.specs.declared.knowledge.View.{View}
-use Rattle.turnstile.proofs.Places.{Lacks, places-lacking, silent_lacks}
+use Rattle.turnstile.proofs.Places.{Lacks, places-lacking}
 
 -- a total after a change of one view
 pub total_set : {A : Type 0} (f : A → ℕ) (l : List A) (i : ℕ) (v w : A) → get_elem? l i ≡ some v → sum_by f (set l i w) + f v ≡ sum_by f l + f w

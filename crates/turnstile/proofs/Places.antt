@@ -1,11 +1,10 @@
 -- The places of a caller's entries in a history that grows.
-use Rattle.std.proofs.Common.{◌≡◌, ℕ, ◌+◌, ◌==◌, eqb, Bool, true, false, List, [], ◌∷◌, ◌++◌, length, if◌then◌else◌, cond, refl, sym, ap, ◌∙◌, subst, arith, append-nil, append_assoc, inl, inr, eq-eqb, ne_eqb}
-use Rattle.std.specs.List.{All, Contains}
+use Rattle.std.proofs.Common.{◌≡◌, ℕ, ◌+◌, ◌==◌, Bool, true, false, List, [], ◌∷◌, ◌++◌, length, if◌then◌else◌, refl, sym, ap, ◌∙◌, subst, arith, append-nil, append_assoc, inl, inr, eq-eqb, ne_eqb}
+use Rattle.std.specs.List.{All}
 use Rattle.std.proofs.lemmas.List.{length-append}
-use Rattle.std.proofs.lemmas.List.Elements.{All-head, All-tail, All-weaker, All-nil, All-cons, All-append}
-use Rattle.turnstile.specs.Knowledge.{Owns, Silent, Grown, EndedStay, Whole, Meets, Leaves, GainsPlaces, saw, mine, places, places_from, ended_numbers}
+use Rattle.std.proofs.lemmas.List.Elements.{All-head, All-tail, All-weaker, All-append}
+use Rattle.turnstile.specs.Knowledge.{Owns, Silent, Grown, Meets, Leaves, GainsPlaces, saw, mine, places, places_from}
 use Rattle.turnstile.specs.declared.knowledge.Known.{Known}
-use Rattle.turnstile.specs.declared.knowledge.Ended.{Ended}
 
 module _ {E : Type 0} (caller : E → ℕ) where
   chosen : (b : Bool) (at : ℕ) (p q r : List ℕ) → p ≡ q ++ r → (if b then at ∷ p else p) ≡ (if b then at ∷ q else q) ++ r

@@ -1,21 +1,19 @@
 -- The opening of a lock meets the rule, and splitting a pass keeps it.
-use Rattle.std.proofs.Common.{◌≡◌, ◌≢◌, ◌⊎◌, ℕ, zero, suc, ◌+◌, ◌-◌, ◌%◌, ◌^◌, ◌<◌, ◌≤◌, List, [], ◌∷◌, ◌++◌, length, map, set, drop, Option, Some, None, refl, sym, ap, ◌∙◌, subst, arith, append-nil, inl, inr, ⊎_elim}
-use mathlib.Core.Option.{some, none, some-injective, some-ne-none}
-use mathlib.Core.Option as maybe
+use Rattle.std.proofs.Common.{◌≡◌, ◌≢◌, ◌⊎◌, ℕ, zero, suc, ◌+◌, ◌-◌, ◌%◌, ◌^◌, ◌<◌, ◌≤◌, List, [], ◌∷◌, ◌++◌, length, set, drop, Option, Some, refl, sym, ap, ◌∙◌, subst, arith, inl, inr, ⊎_elim}
+use mathlib.Core.Option.{some, some-injective, some-ne-none}
 use native.Mathlib.Decide.{ℕ_discrete}
 use lib.ListN.{get_elem?}
-use Rattle.std.specs.List.{All, Contains, sum_by}
+use Rattle.std.specs.List.{All, Contains}
 use Rattle.std.proofs.lemmas.List.{length-set}
 use Rattle.std.proofs.lemmas.List.Elements.{All-nil, All-weaker, All-drop, All-same, Contains-append_left, Contains-push}
 use Rattle.std.proofs.lemmas.List.Sums.{sum_by_push}
 use Rattle.std.proofs.Math.Seq.{drop-append_seam}
 use Rattle.atomic_table.specs.Table.{State, opening, Splits}
-use Rattle.atomic_table.proofs.Lists.{at_set, set_here, set_else, at_longer, at_last}
-use Rattle.turnstile.specs.Knowledge.{Owns, Covers, Silent, Grown, EndedStay, opened, cut_off, branch, ended_numbers}
-use Rattle.turnstile.specs.Turns.{Sits, IsLive, HasTicket, IsInside, queued, width, next_ticket, TicketsInOrder, NumbersApart, OwnNumbers, IsOwned, IsMade, NumbersRooted, NumbersKept, SeenAFront, IsHome, IsOut, SlotInPlace, TakesTurns}
+use Rattle.atomic_table.proofs.Lists.{at_set, set_here, set_else, at_longer}
+use Rattle.turnstile.specs.Knowledge.{Owns, Covers, EndedStay, opened, cut_off, branch, ended_numbers}
+use Rattle.turnstile.specs.Turns.{Sits, IsLive, HasTicket, IsInside, queued, width, next_ticket, TicketsInOrder, OwnNumbers, IsOwned, IsMade, NumbersRooted, NumbersKept, SeenAFront}
 use Rattle.turnstile.specs.Steps.{idle, cutting, cut_view, branch_view}
 use Rattle.turnstile.specs.declared.knowledge.Known.{Known}
-use Rattle.turnstile.specs.declared.knowledge.Ended.{Ended}
 use Rattle.turnstile.specs.declared.knowledge.View.{View}
 use Rattle.turnstile.proofs.Moves.{total_set, within, owns_covers}
 use Rattle.turnstile.proofs.Tickets.{Rule}

@@ -1,18 +1,17 @@
 -- What a step does to the tickets, the slot and the whole rule.
-use Rattle.std.proofs.Common.{◌≡◌, ◌≢◌, ◌⊎◌, ℕ, zero, suc, ◌+◌, ◌-◌, ◌%◌, ◌^◌, ◌<◌, ◌≤◌, List, [], ◌∷◌, ◌++◌, length, set, Option, Some, None, refl, sym, ap, ◌∙◌, subst, arith, append-nil, inl, inr, ⊎_elim}
-use mathlib.Core.Option.{some, some-injective, some-ne-none}
+use Rattle.std.proofs.Common.{◌≡◌, ◌≢◌, ◌⊎◌, ℕ, zero, suc, ◌+◌, ◌-◌, ◌%◌, ◌^◌, ◌<◌, ◌≤◌, List, [], ◌∷◌, ◌++◌, set, Option, refl, sym, ap, ◌∙◌, subst, arith, inl, inr, ⊎_elim}
+use mathlib.Core.Option.{some, some-injective}
 use mathlib.Core.Option as maybe
 use mathlib.Core.Logic.{dite}
 use native.Mathlib.Decide.{ℕ_discrete}
 use lib.ListN.{get_elem?}
 use Rattle.std.specs.List.{All, Contains, sum_by}
-use Rattle.std.proofs.lemmas.List.Elements.{All-weaker, All-append}
+use Rattle.std.proofs.lemmas.List.Elements.{All-weaker}
 use Rattle.std.proofs.lemmas.List.Sums.{sum_by-cons}
 use Rattle.atomic_table.specs.Table.{State}
-use Rattle.atomic_table.proofs.Lists.{at_set, set_here, set_else}
-use Rattle.turnstile.specs.Knowledge.{Owns, Covers, Silent, Grown, EndedStay, Whole, Meets, saw, ended_numbers}
-use Rattle.turnstile.specs.Turns.{Sits, IsLive, HasTicket, IsInside, tickets_of, queued, width, next_ticket, TicketsInOrder, OwnNumbers, NumbersKept, IsOwned, NumbersRooted, SeenAFront, IsHome, IsOut, SlotInPlace, TakesTurns}
-use Rattle.turnstile.specs.declared.knowledge.Known.{Known}
+use Rattle.atomic_table.proofs.Lists.{at_set, set_else}
+use Rattle.turnstile.specs.Knowledge.{Owns, Meets, ended_numbers}
+use Rattle.turnstile.specs.Turns.{Sits, IsLive, HasTicket, IsInside, tickets_of, queued, width, next_ticket, TicketsInOrder, NumbersKept, IsOwned, SeenAFront, SlotInPlace, TakesTurns}
 use Rattle.turnstile.specs.declared.knowledge.View.{View}
 use Rattle.turnstile.specs.declared.knowledge.Stage.{Stage}
 use Rattle.turnstile.specs.declared.knowledge.Stage.TheVariants.{Idle, Cutting, Waiting, Inside, Joining, Spent}

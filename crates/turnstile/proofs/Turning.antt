@@ -1,25 +1,23 @@
 -- The steps of a turn keep the rule.
-use Rattle.std.proofs.Common.{◌≡◌, ◌≢◌, ◌⊎◌, ℕ, zero, suc, ◌+◌, ◌-◌, ◌%◌, ◌^◌, ◌<◌, ◌≤◌, ◌==◌, List, [], ◌∷◌, ◌++◌, length, set, get_or, Option, Some, None, refl, sym, ap, ◌∙◌, subst, arith, append-nil, inl, inr, ⊎_elim}
-use mathlib.Core.Option.{some, none, some-injective, some-ne-none}
+use Rattle.std.proofs.Common.{◌≡◌, ◌≢◌, ◌⊎◌, ℕ, ◌+◌, ◌-◌, ◌%◌, ◌^◌, ◌==◌, List, [], ◌∷◌, ◌++◌, set, Option, Some, None, refl, sym, ap, ◌∙◌, subst, arith, append-nil, inl, inr, ⊎_elim}
+use mathlib.Core.Option.{some, none, some-injective}
 use mathlib.Core.Option as maybe
 use mathlib.Core.Logic.{dite}
 use native.Mathlib.Decide.{ℕ_discrete}
 use prog.Atomic.{either}
 use lib.ListN.{get_elem?}
-use Rattle.std.specs.List.{All, Contains, sum_by}
+use Rattle.std.specs.List.{All}
 use Rattle.std.specs.Prelude.{slice_index, slice_set}
 use Rattle.std.proofs.lemmas.List.Elements.{All-nil, All-cons}
 use Rattle.atomic_table.specs.Table.{State, Me, step, keeps, takes, gives, stepped, Allows}
-use Rattle.atomic_table.proofs.Lists.{at_set, set_here, set_else, one_turn, exchanged}
-use Rattle.turnstile.specs.Knowledge.{Owns, Grown, Meets, Leaves, saw}
-use Rattle.turnstile.specs.Turns.{Sits, IsLive, HasTicket, IsInside, queued, next_ticket, TicketsInOrder, SeenAFront, IsHome, IsOut, TakesTurns}
+use Rattle.atomic_table.proofs.Lists.{at_set, set_here, one_turn, exchanged}
+use Rattle.turnstile.specs.Knowledge.{Grown, Meets, Leaves, saw}
+use Rattle.turnstile.specs.Turns.{Sits, HasTicket, IsInside, queued, next_ticket, TicketsInOrder}
 use Rattle.turnstile.specs.Steps.{idle, cutting, waiting, inside, joining, drawn, looked, Taken, passed, left, noted, told}
 use Rattle.turnstile.specs.declared.knowledge.Known.{Known}
 use Rattle.turnstile.specs.declared.knowledge.View.{View}
-use Rattle.turnstile.specs.declared.knowledge.Stage.{Stage}
-use Rattle.turnstile.specs.declared.knowledge.Stage.TheVariants.{Idle, Cutting, Waiting, Inside, Joining, Spent}
 use Rattle.turnstile.proofs.Moves.{total_set, within, Same, same_self}
-use Rattle.turnstile.proofs.Tickets.{inside_ticket, queue_narrow, tickets_step, tickets_same, slot_same, moved, meets_log, Rule, Slot}
+use Rattle.turnstile.proofs.Tickets.{inside_ticket, queue_narrow, tickets_step, tickets_same, slot_same, moved, meets_log, Rule}
 
 -- two words, of which one is written
 first_word : (ws : List ℕ) (a b : ℕ) → ws ≡ a ∷ b ∷ [] → slice_index ws 0 ≡ a

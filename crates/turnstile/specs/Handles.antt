@@ -1,6 +1,5 @@
 -- What a clause says of a lock, its passes and the turns that it gives.
 use Rattle.std.specs.Prelude.{◌≡◌, ℕ, List, [], ◌∷◌, None}
-use Rattle.atomic_table.specs.Seated.{TableId}
 use Rattle.turnstile.specs.declared.knowledge.Known.{Known}
 use Rattle.turnstile.specs.declared.knowledge.View.{View}
 use Rattle.turnstile.specs.declared.handles.Pass.{Pass}

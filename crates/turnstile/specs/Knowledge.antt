@@ -1,5 +1,5 @@
 -- What a pass knows: the history that it has seen, and the numbers that it answers for.
-use Rattle.std.specs.Prelude.{◌≡◌, ◌⊎◌, ℕ, ◌+◌, ◌^◌, ◌<◌, ◌≤◌, ◌==◌, Bool, List, [], ◌∷◌, ◌++◌, map, length, nat_lt, if◌then◌else◌, Option, Some, None, All, Contains}
+use Rattle.std.specs.Prelude.{◌≡◌, ◌⊎◌, ℕ, ◌+◌, ◌^◌, ◌<◌, ◌≤◌, ◌==◌, List, [], ◌∷◌, ◌++◌, map, length, nat_lt, if◌then◌else◌, Some, None, All, Contains}
 use Rattle.turnstile.specs.declared.knowledge.Ended.{Ended}
 use Rattle.turnstile.specs.declared.knowledge.Known.{Known}
 

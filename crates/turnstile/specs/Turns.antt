@@ -1,7 +1,7 @@
 -- The rule of the lock: what is true between any two steps of any threads.
 -- The table has two words, the next ticket and the ticket that is served, and one slot with the value.
 -- The log isn't stored: its entries are the history of the value, or, while the value is out, what the pass that has it has seen.
-use Rattle.std.specs.Prelude.{◌≡◌, ◌≢◌, ◌⊎◌, ℕ, ◌+◌, ◌-◌, ◌%◌, ◌^◌, ◌<◌, ◌≤◌, List, [], ◌∷◌, ◌++◌, length, sum_by, Option, Some, None, All, Contains}
+use Rattle.std.specs.Prelude.{◌≡◌, ◌≢◌, ◌⊎◌, ℕ, ◌+◌, ◌-◌, ◌%◌, ◌^◌, ◌<◌, ◌≤◌, List, [], ◌∷◌, sum_by, Option, Some, All, Contains}
 use mathlib.Core.Option.{some}
 use mathlib.Core.Option as maybe
 use lib.ListN.{get_elem?}
@@ -9,7 +9,7 @@ use Rattle.atomic_table.specs.Table.{State}
 use Rattle.turnstile.specs.declared.knowledge.Known.{Known}
 use Rattle.turnstile.specs.declared.knowledge.View.{View}
 use Rattle.turnstile.specs.declared.knowledge.Stage.{Stage}
-use Rattle.turnstile.specs.declared.knowledge.Stage.TheVariants.{Idle, Cutting, Waiting, Inside, Joining, Spent}
+use Rattle.turnstile.specs.declared.knowledge.Stage.TheVariants.{Waiting, Inside, Joining, Spent}
 use Rattle.turnstile.specs.Knowledge.{ended_numbers, Owns, Covers, Grown, EndedStay}
 
 module _ {E G : Type 0} where

@@ -1,5 +1,5 @@
 -- A text that was cut where it is over a limit.
-use Rattle.std.specs.Prelude.{ℕ, ◌≡◌, ◌<◌, ◌≤◌, List, length, IsTrue}
+use Rattle.std.specs.Prelude.{ℕ, ◌≡◌, ◌<◌, ◌≤◌, List, length}
 
 -- Within the limit the text is the whole, and over it the whole is over it too.
 pub record IsCutFrom (limit : ℕ) (whole text : List ℕ) : Type 0 where

@@ -10,8 +10,6 @@ mod comparisons;
 mod pattern;
 mod replacement;
 mod sums;
-#[cfg(test)]
-mod tests;
 mod value;
 
 pub use comparisons::{Comparison, compare};

@@ -1,4 +1,3 @@
-use Rattle.std.proofs.Common.{sym, ◌∙◌}
 use Rattle.ban_expr.proofs.Sayings.{time_same, millis_kept}
 use Rattle.ban_expr.specs.Reading.{clause}
 use Rattle.ban_expr.proofs.clauses.condition_of.Goals as goal

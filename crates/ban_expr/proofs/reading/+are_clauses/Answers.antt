@@ -2,7 +2,6 @@ use Rattle.std.proofs.Common.{◌≡◌, ◌∷◌, ◌∙◌, ap, sym, refl}
 use Rattle.std.specs.Prelude.{codes}
 use Rattle.std.proofs.lemmas.Slice.Eq.{bytes_eq-Decides}
 use Rattle.std.proofs.lemmas.Bool.{false≢true}
-use Rattle.ban_expr.specs.Reading.{AreClauses}
 use Rattle.ban_expr.proofs.Joined.{last_joined, more_joined, less_joined, too_short}
 use Rattle.ban_expr.proofs.reading.+are_clauses.Goals as goal
 

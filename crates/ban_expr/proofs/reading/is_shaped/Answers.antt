@@ -1,6 +1,5 @@
 use Rattle.std.proofs.Common.{length, ap, arith}
 use Rattle.std.proofs.lemmas.Bool.{ltb-true}
-use Rattle.ban_expr.specs.Reading.{joined}
 use Rattle.ban_expr.proofs.Joined.{length-joined}
 use Rattle.ban_expr.proofs.reading.is_shaped.Goals as goal
 

@@ -1,8 +1,8 @@
 -- Where a body begins.
-use Rattle.std.proofs.Common.{◌≡◌, ◌↔◌, ◌≤◌, List, ℕ, length, [], inr, refl, sym, subst, arith}
+use Rattle.std.proofs.Common.{◌≡◌, [], inr, refl, sym, subst, arith}
 use Rattle.http_bodies.specs.declared.framing.BodyError.TheVariants.{TooLarge}
 use Rattle.http_bodies.specs.declared.framing.Framing.{Framing}
-use Rattle.http_bodies.specs.declared.framing.Framing.TheVariants.{Length, Chunked}
+use Rattle.http_bodies.specs.declared.framing.Framing.TheVariants.{Chunked}
 use Rattle.http_bodies.specs.declared.place.Place.TheVariants.{Line}
 use Rattle.http_bodies.specs.declared.place.LinePart.TheVariants.{Size}
 use Rattle.http_bodies.specs.Reading.{Starts, state}

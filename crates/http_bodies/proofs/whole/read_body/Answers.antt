@@ -1,9 +1,9 @@
 -- What the reader told of the text.
-use Rattle.std.proofs.Common.{◌≡◌, ◌≢◌, ◌⊎◌, ◌≤◌, inl, inr, ℕ, List, [], length, take, sym, ◌∙◌, subst, refl, None, Some, Err}
+use Rattle.std.proofs.Common.{◌≡◌, ◌≢◌, ◌≤◌, inl, inr, ℕ, List, length, sym, ◌∙◌, refl, None, Some}
 use Rattle.http_bodies.specs.declared.framing.BodyError.TheVariants.{Early, NoMemory}
-use Rattle.http_bodies.specs.Bodies.{IsBody, BeginsWith}
-use Rattle.http_bodies.specs.Reading.{ReaderState, Makes, refusal}
-use Rattle.http_bodies.specs.Answers.{CanEndWithin, IsBroken}
+use Rattle.http_bodies.specs.Bodies.{BeginsWith}
+use Rattle.http_bodies.specs.Reading.{refusal}
+use Rattle.http_bodies.specs.Answers.{IsBroken}
 use Rattle.http_bodies.proofs.PlaceFacts.{passed_on, passed_back}
 use Rattle.http_bodies.proofs.Fronts.{text_found, text_broken, broken_none, text_early, early_none, not_refused, none_made}
 use Rattle.http_bodies.proofs.whole.read_body.Goals as goal

@@ -1,6 +1,6 @@
 use Rattle.vcl_values.proofs.ReplacementLemmas.{captured-is, replaced-regex}
 use Rattle.vcl_values.proofs.CutLemmas.{limited, limited-in_turn, limited_is-cut}
-use Rattle.std.proofs.Common.{◌≡◌, ◌∙◌, ◌-◌, ◌+◌, ap, ap₂, refl, sym, arith, rules, length, take, List, ℕ, Bor, subst}
+use Rattle.std.proofs.Common.{◌≡◌, ◌∙◌, ◌-◌, ◌+◌, ap₂, refl, sym, arith, rules, length, take, List, subst}
 use mathlib.Core.Path.{fun_ext}
 use Rattle.regex.specs.Patterns.{Match, find_all}
 use Rattle.regex.specs.Search.{first_or_all}

@@ -1,5 +1,5 @@
 -- Each place but the whole body's goes on.
-use Rattle.std.proofs.Common.{◌≢◌, ap, sym, ◌∙◌, subst, []}
+use Rattle.std.proofs.Common.{◌≢◌, ap, ◌∙◌, subst, []}
 use Rattle.http_bodies.specs.declared.framing.BodyError.{BodyError}
 use Rattle.http_bodies.specs.declared.place.Place.TheVariants.{Refused}
 use Rattle.http_bodies.specs.Reading.{ReaderState, refusal}

@@ -1,0 +1,5 @@
+//! Rows for the public calls of `message_fields`.
+#![tactic(auto)]
+
+#[cfg(test)]
+mod tests;
