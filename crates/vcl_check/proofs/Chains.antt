@@ -1,8 +1,9 @@
 -- Chains tied one after another, as a loop over their items does it.
-use Rattle.std.proofs.Common.{◌≡◌, ◌≤◌, ℕ, List, [], ◌∷◌, length, drop, refl, sym, ap, ◌∙◌}
+use Rattle.std.proofs.Common.{◌≡◌, ◌≤◌, ◌<◌, ◌+◌, ◌*◌, ℕ, zero, suc, get_or, arith, List, [], ◌∷◌, length, drop, refl, sym, ap, ◌∙◌}
 use Rattle.std.proofs.lemmas.List.{at_drop_all}
 use Rattle.vcl_language.specs.declared.scope.Subroutine.{Subroutine}
-use Rattle.vcl_tree.specs.Phrase.{Phrase, Label, Node, Nothing, More, Either, Both, ElseIf, chain, list_of}
+use Rattle.vcl_tree.specs.Phrase.{Phrase, Label, Node, Nothing, More, Either, Both, ElseIf, chain, list_of, phrase_size}
+use Rattle.vcl_tree.specs.ExpressionFalls.{chain_longer}
 use Rattle.vcl_tree.specs.ExpressionView.{sum_of, sum_label}
 use Rattle.vcl_tree.specs.declared.expression.Addend.{Addend}
 use Rattle.vcl_tree.specs.declared.expression.Addition.{Addition}
@@ -97,3 +98,55 @@ pub branches-end : (known : Known) (roots : List Subroutine) (front : Phrase) (i
 branches-end known roots front items i initial told e h ended =
     sym (at_drop_all (λ (ps : List Phrase). chain_told known roots Apart Branch told ps) items i ended) ∙ h
     ∙ ap (λ (t : Told). chain_told known roots Apart Branch t items) e ∙ chain-told known roots Statement ElseIf refl front items
+
+-- an operand, a term or an argument has fewer parts than the chain that it stands in
+operand-less : (label : Label) (front : Phrase) (items : List Phrase) (i : ℕ) (d : Phrase) → i < length items
+    → phrase_size (get_or items i d) + phrase_size front < phrase_size (chain label front items)
+operand-less label front [] i d h = absurd (omega arith)
+operand-less label front (p ∷ ps) zero d h = omega (arith, chain_longer label (Node label front p) ps)
+operand-less label front (p ∷ ps) (suc i) d h = omega (arith, operand-less label (Node label front p) ps i d (omega arith))
+
+sum_longer : (front : Phrase) (addends : List Addend) → phrase_size front ≤ phrase_size (sum_of front addends)
+sum_longer front [] = omega arith
+sum_longer front (a ∷ addends) = omega (arith, sum_longer (Node (sum_label a.sign) front a.term) addends)
+
+term-less : (front : Phrase) (addends : List Addend) (i : ℕ) (d : Addend) → i < length addends
+    → phrase_size (get_or addends i d).term + phrase_size front < phrase_size (sum_of front addends)
+term-less front [] i d h = absurd (omega arith)
+term-less front (a ∷ more) zero d h = omega (arith, sum_longer (Node (sum_label a.sign) front a.term) more)
+term-less front (a ∷ more) (suc i) d h = omega (arith, term-less (Node (sum_label a.sign) front a.term) more i d (omega arith))
+
+-- chains of other labels are as long
+chain-size : (label other : Label) (front start : Phrase) (items : List Phrase) → phrase_size front ≡ phrase_size start
+    → phrase_size (chain label front items) ≡ phrase_size (chain other start items)
+chain-size label other front start [] e = e
+chain-size label other front start (p ∷ ps) e = chain-size label other (Node label front p) (Node other start p) ps (omega (arith, e))
+
+-- the measures of a recursion into expressions
+pub operand-falls : (a b : Phrase) (items : List Phrase) (i t : ℕ) (x : Phrase) → i < length items → x ≡ get_or items i x
+    → 2 * phrase_size (chain Either (Node Either a b) items) ≡ t → 2 * phrase_size x + 1 < t
+operand-falls a b items i t x h e whole = omega (arith, operand-less Either (Node Either a b) items i x h, ap phrase_size e, whole)
+
+pub first-falls : (a b : Phrase) (items : List Phrase) (t : ℕ) → 2 * phrase_size (chain Either (Node Either a b) items) ≡ t
+    → (2 * phrase_size a + 1 < t) × (2 * phrase_size b + 1 < t)
+first-falls a b items t whole =
+    (omega (arith, chain_longer Either (Node Either a b) items, whole), omega (arith, chain_longer Either (Node Either a b) items, whole))
+
+pub all-falls : (a b x y : Phrase) (items others : List Phrase) (t : ℕ) → x ≡ a → y ≡ b → others ≡ items
+    → 2 * phrase_size (chain Both (Node Both a b) items) + 1 ≡ t → 2 * phrase_size (chain Either (Node Either x y) others) < t
+all-falls a b x y items others t d e f whole =
+    rw (d, e, f) (omega (arith, whole, chain-size Either Both (Node Either a b) (Node Both a b) items refl))
+
+pub term-falls : (s : Addition) (a b : Phrase) (addends : List Addend) (i t : ℕ) (x : Addend) → i < length addends → x ≡ get_or addends i x
+    → 2 * phrase_size (sum_of (Node (sum_label s) a b) addends) ≡ t → 2 * phrase_size x.term + 1 < t
+term-falls s a b addends i t x h e whole =
+    omega (arith, term-less (Node (sum_label s) a b) addends i x h, ap (λ (y : Addend). phrase_size y.term) e, whole)
+
+pub first-terms-fall : (s : Addition) (a b : Phrase) (addends : List Addend) (t : ℕ) → 2 * phrase_size (sum_of (Node (sum_label s) a b) addends) ≡ t
+    → (2 * phrase_size a + 1 < t) × (2 * phrase_size b + 1 < t)
+first-terms-fall s a b addends t whole =
+    (omega (arith, sum_longer (Node (sum_label s) a b) addends, whole), omega (arith, sum_longer (Node (sum_label s) a b) addends, whole))
+
+pub argument-falls : (items : List Phrase) (i t : ℕ) (x : Phrase) → i < length items → x ≡ get_or items i x
+    → 2 * phrase_size (list_of items) ≡ t → 2 * phrase_size x + 1 < t
+argument-falls items i t x h e whole = omega (arith, operand-less More Nothing items i x h, ap phrase_size e, whole)

@@ -44,6 +44,7 @@ other-kind kind.Probe text h = refl
 other-kind kind.Acl text h = refl
 other-kind kind.Subroutine text h = refl
 other-kind kind.Object text h = refl
+other-kind kind.NoObject text h = refl
 other-kind kind.Call text h = refl
 other-kind kind.Pattern text h = absurd (h refl)
 

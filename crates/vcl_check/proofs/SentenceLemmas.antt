@@ -66,6 +66,7 @@ sound-keeps items stored s =
     let part = in-part items stored rows places first in (
       rows,
       record {
+        thirteen = s.faultless.thirteen;
         reached = s.faultless.reached;
         known = λ roots role p h. at-none refusal.Unknown (unknown_in K role p) (λ f e. part roots role p h f (inl e));
         modules = λ k m h. none-of (unknown_said stored k m) (λ f e. first f (inl (any-at (λ k s g. unknown_said stored k s ≡ Some g) f (says items) k 0 m h (λ j q. e))));

@@ -22,6 +22,7 @@ declares kind.Backend name other = Some thing.Backend
 declares kind.Probe name other = Some thing.Probe
 declares kind.Acl name other = Some thing.Acl
 declares kind.Object name maker = Some (thing.Object (maker_named maker))
+declares kind.NoObject name other = Some thing.NoObject
 declares kind.Subroutine name other = if is_reserved name then None else Some thing.Subroutine
 declares _ name other = None
 

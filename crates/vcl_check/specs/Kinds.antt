@@ -4,7 +4,7 @@ use Rattle.std.specs.Prelude.{Bool, true, false}
 use Rattle.vcl_values.specs.declared.value.Kind.{Kind}
 use Rattle.vcl_values.specs.declared.value.Kind.TheVariants as kind
 use Rattle.vcl_check.specs.declared.seen.Sort.{Sort}
-use Rattle.vcl_check.specs.declared.seen.Sort.TheVariants.{Value, Acl, Nothing, Unknown}
+use Rattle.vcl_check.specs.declared.seen.Sort.TheVariants.{Value, Acl, Weight, Nothing, Unknown}
 
 abbrev pub same_kind : Kind → Kind → Bool
 same_kind kind.String kind.String = true
@@ -19,6 +19,7 @@ same_kind _ _ = false
 abbrev pub is_value : Sort → Bool
 is_value (Value kind) = true
 is_value Acl = false
+is_value Weight = false
 is_value Nothing = false
 is_value Unknown = true
 
@@ -27,6 +28,7 @@ abbrev pub is_condition : Sort → Bool
 is_condition (Value kind.Ip) = false
 is_condition (Value _) = true
 is_condition Acl = false
+is_condition Weight = false
 is_condition Nothing = false
 is_condition Unknown = true
 
@@ -36,6 +38,7 @@ is_ordered (Value kind.Int) = true
 is_ordered (Value kind.Duration) = true
 is_ordered (Value _) = false
 is_ordered Acl = false
+is_ordered Weight = false
 is_ordered Nothing = false
 is_ordered Unknown = true
 
@@ -44,8 +47,10 @@ abbrev pub alike : Sort → Sort → Bool
 alike (Value a) (Value b) = same_kind a b
 alike (Value a) Unknown = true
 alike (Value a) Acl = false
+alike (Value a) Weight = false
 alike (Value a) Nothing = false
 alike Acl b = false
+alike Weight b = false
 alike Nothing b = false
 alike Unknown b = true
 
@@ -61,8 +66,10 @@ abbrev pub may_add : Sort → Sort → Bool
 may_add (Value a) (Value b) = adds a b
 may_add (Value a) Unknown = true
 may_add (Value a) Acl = false
+may_add (Value a) Weight = false
 may_add (Value a) Nothing = false
 may_add Acl b = false
+may_add Weight b = false
 may_add Nothing b = false
 may_add Unknown b = is_value b
 

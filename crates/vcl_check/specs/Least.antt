@@ -18,7 +18,7 @@ use Rattle.vcl_check.specs.declared.seen.Told.{Told}
 use Rattle.vcl_check.specs.Calls.{unless}
 use Rattle.vcl_check.specs.Known.{Known, meaning_of}
 use Rattle.vcl_check.specs.Roles.{Role, use_in, left_role, right_role, form_of}
-use Rattle.vcl_check.specs.Views.{at_place, written, name_seen, decimal_weight, integer_weight, seen_together}
+use Rattle.vcl_check.specs.Views.{at_place, written, name_seen, integer_weight, weight_seen, seen_together}
 use Rattle.vcl_check.specs.Rules.{is_known, may_use, misfit, misplaced, unwritten_in}
 
 -- a fault of a kind at a place, if there is one
@@ -71,7 +71,7 @@ told_of known roots role phrase.Nothing = faultless (at_place 0)
 told_of known roots role (phrase.At place) = faultless (at_place place)
 told_of known roots role (phrase.Named place name) = told_use known roots (use_in role) place name
 told_of known roots role (phrase.String place text) = faultless (written kind.String literal.String place)
-told_of known roots role (phrase.Weight place digits) = faultless (written kind.Int (decimal_weight digits) place)
+told_of known roots role (phrase.Weight place digits) = faultless (weight_seen place digits)
 told_of known roots role (phrase.Integer place n) = faultless (written kind.Int (integer_weight n) place)
 told_of known roots role (phrase.Duration place n) = faultless (written kind.Duration literal.Other place)
 told_of known roots role (phrase.Node label a b) =

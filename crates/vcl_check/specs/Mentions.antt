@@ -1,6 +1,7 @@
 -- What a text says of names, in its order: what it imports and declares, which objects it makes, which subroutines it calls,
 -- and which strings must be patterns.
-use Rattle.std.specs.Prelude.{ℕ, Bool, true, false, List, [], ◌∷◌, ◌++◌, Option, Some, None, option_and_then, slice_get, if◌then◌else◌}
+use Rattle.std.specs.Prelude.{ℕ, Bool, true, false, List, [], ◌∷◌, ◌++◌, Option, Some, None, option_and_then, slice_get, codes, if◌then◌else◌}
+use Rattle.std.specs.Str.{bytes_eq}
 use Rattle.vcl_tree.specs.Phrase as phrase
 use Rattle.vcl_tree.specs.Phrase.{Phrase, Label}
 use Rattle.vcl_tree.specs.declared.expression.Comparison.TheVariants as comparison
@@ -77,13 +78,21 @@ abbrev pub with_call : List ℕ → List Said → Phrase → List Said
 with_call owner before (phrase.Named place name) = before ++ said kind.Call place name owner ∷ []
 with_call owner before _ = before
 
-abbrev pub made : ℕ → List ℕ → List Said → Phrase → List Said
-made place name before (phrase.Node phrase.Called (phrase.Named q maker) arguments) = with_strings (before ++ said kind.Object place name maker ∷ []) arguments
-made place name before _ = before
+-- objects are made in vcl_init; a name of `new` elsewhere is no object's
+abbrev pub is_init : List ℕ → Bool
+is_init name = bytes_eq name (codes "vcl_init")
 
-abbrev pub with_object : List Said → Phrase → List Said
-with_object before (phrase.Node phrase.Bound (phrase.Named place name) maker) = made place name before maker
-with_object before _ = before
+abbrev pub object_kind : List ℕ → MentionKind
+object_kind owner = if is_init owner then kind.Object else kind.NoObject
+
+abbrev pub made : List ℕ → ℕ → List ℕ → List Said → Phrase → List Said
+made owner place name before (phrase.Node phrase.Called (phrase.Named q maker) arguments) =
+    with_strings (before ++ said (object_kind owner) place name maker ∷ []) arguments
+made owner place name before _ = before
+
+abbrev pub with_object : List ℕ → List Said → Phrase → List Said
+with_object owner before (phrase.Node phrase.Bound (phrase.Named place name) maker) = made owner place name before maker
+with_object owner before _ = before
 
 abbrev pub with_answer : List Said → Phrase → List Said
 with_answer before (phrase.Node phrase.Called word arguments) = with_strings before arguments
@@ -99,7 +108,7 @@ with_mentions owner before (phrase.Node phrase.Branch condition block) = with_me
 with_mentions owner before (phrase.Node phrase.Set a b) = with_given before b
 with_mentions owner before (phrase.Node phrase.Append a b) = with_given before b
 with_mentions owner before (phrase.Node phrase.Jump a b) = with_call owner before b
-with_mentions owner before (phrase.Node phrase.New a b) = with_object before b
+with_mentions owner before (phrase.Node phrase.New a b) = with_object owner before b
 with_mentions owner before (phrase.Node phrase.Return a b) = with_answer before b
 with_mentions owner before (phrase.Node phrase.Called a b) = with_strings before (phrase.Node phrase.Called a b)
 with_mentions owner before _ = before

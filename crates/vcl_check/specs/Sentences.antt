@@ -1,5 +1,5 @@
 -- What is asked of a text, each by itself: a text that is sound keeps all of it.
-use Rattle.std.specs.Prelude.{ℕ, ◌≡◌, true, Bool, List, Contains, None, slice_get, Some}
+use Rattle.std.specs.Prelude.{ℕ, ◌≡◌, true, Bool, List, Contains, length, None, slice_get, Some}
 use Rattle.vcl_calls.specs.Circles.{OnCircleAt}
 use Rattle.vcl_language.specs.declared.scope.Subroutine.{Subroutine}
 use Rattle.vmod_host.specs.declared.signature.Stored.{Stored}
@@ -35,7 +35,9 @@ pub record IsPart (items : List Item) (stored : List Stored) (rows : List (List 
   pub reached : roots ≡ roots_in items stored rows name.text
   pub within : Within role part Block block
 
+-- With rows that mark what calls lead to from each of the thirteen built-in subroutines.
 pub record KeepsSentences (items : List Item) (stored : List Stored) (rows : List (List Bool)) : Type 0 where
+  pub thirteen : length rows ≡ 13
   pub reached : AreReached (calls_in items stored) 0 rows
   -- each name that is used is known; a module is there, and a subroutine named like a built-in one is one
   pub known : (roots : List Subroutine) (role : Role) (part : Phrase) → IsPart items stored rows roots role part → unknown_in (known_in items stored) role part ≡ None

@@ -69,6 +69,10 @@ integer_weight n = weight (lt_z (pos 0) n && lt_z n (pos 1001))
 abbrev pub decimal_weight : List ℕ → Literal
 decimal_weight digits = weight (nat_le 1 (whole_part 0 digits) && nat_le (whole_part 0 digits) 1000)
 
+-- a decimal
+abbrev pub weight_seen : ℕ → List ℕ → Seen
+weight_seen place digits = record (at_place place) { sort = sort.Weight; literal = decimal_weight digits }
+
 abbrev pub argument_of : Seen → Argument
 argument_of s = record { sort = s.sort; place = s.first; literal = s.literal }
 
@@ -98,7 +102,7 @@ view_of known role phrase.Nothing = at_place 0
 view_of known role (phrase.At place) = at_place place
 view_of known role (phrase.Named place name) = named_seen known (use_in role) place name
 view_of known role (phrase.String place text) = written kind.String literal.String place
-view_of known role (phrase.Weight place digits) = written kind.Int (decimal_weight digits) place
+view_of known role (phrase.Weight place digits) = weight_seen place digits
 view_of known role (phrase.Integer place n) = written kind.Int (integer_weight n) place
 view_of known role (phrase.Duration place n) = written kind.Duration literal.Other place
 view_of known role (phrase.Node label a b) = seen_together (form_of role label) (view_of known (left_role role label) a) (view_of known (right_role role label) b)

@@ -3,13 +3,12 @@ ghost use Rattle.vcl_check.specs.Folded.{numbered};
 ghost use Rattle.std.specs.Prelude.{◌==◌, ◌&&◌, not, length, ◌≡◌, ◌≤◌, [], map, IfOk, IfSome, None, option_map};
 ghost use Rattle.vcl_check.specs.Acls.{is_digit, octet, before_dot, address_of, is_mask, mask_bits, mask_fault, sign_byte, other_sign, key_with, entry_key, is_before, clashes, entry_fault, acl_fault};
 
-use crate::known::{behind, dot_in};
 use crate::rules::unless;
 use crate::told::{fault_at, lesser};
 use std::alloc::{AllocError, Global};
 use units::Text;
 use vcl_calls::NameIndex;
-use vcl_tree::{AclEntry, Fault, Mask, Refusal};
+use vcl_tree::{AclEntry, Fault, Mask, Refusal, behind, dot_in};
 
 fn is_digit(byte: u8) -> bool
     ensures { result ≡ is_digit byte }

@@ -23,6 +23,7 @@ fn declares(kind: MentionKind, name: &[u8], other: &[u8]) -> Option<Thing>
         MentionKind::Probe => Some(Thing::Probe),
         MentionKind::Acl => Some(Thing::Acl),
         MentionKind::Object => Some(Thing::Object(maker_named(other))),
+        MentionKind::NoObject => Some(Thing::NoObject),
         MentionKind::Subroutine => {
             if is_reserved(name) {
                 None

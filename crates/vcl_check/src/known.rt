@@ -14,8 +14,9 @@ use vcl_language::{
     Function, Method, Module, Parameter, Scope, Takes, Variable, Word, function_named, maker_named,
     method_of, variable_named, word_named,
 };
+use vcl_tree::{behind, dot_in, ends_in};
 use vcl_values::Kind;
-use vmod_host::{Signature, Stored};
+use vmod_host::{Signature, Stored, stored_number};
 
 /// What a declared name stands for.
 #[derive(Clone, Copy)]
@@ -25,6 +26,8 @@ pub enum Thing {
     Acl,
     /// An object, and the kind of director that its maker makes.
     Object(Option<DirectorKind>),
+    /// A name of `new` in a subroutine other than vcl_init: it is taken, and there is no object.
+    NoObject,
     /// A subroutine of its own.
     Subroutine,
 }
@@ -270,28 +273,6 @@ fn is_truth(name: &[u8]) -> bool
     name == b"true".as_slice() || name == b"false".as_slice()
 }
 
-pub fn dot_in(name: &[u8]) -> Option<usize>
-    ensures value { result ≡ position (λ byte. byte == 46) name.now }
-    ensures within { IfSome result (λ k. k < length name.now) }
-{
-    name.iter().position(|byte| *byte == b'.')
-}
-
-pub fn behind(name: &[u8], place: usize) -> &[u8]
-    requires { place < length name.now }
-    ensures { result.now ≡ drop (place + 1) name.now }
-{
-    &name[place + 1..]
-}
-
-fn stored_number(stored: &[Stored], origin: &[u8], own: &[u8]) -> Option<usize>
-    ensures { result ≡ position (λ entry. is_named origin.now own.now entry.signature) stored.now }
-{
-    stored
-        .iter()
-        .position(|entry| entry.signature.is_named(origin, own))
-}
-
 fn function_of(signature: &Signature) -> Option<Function>
     ensures { result ≡ function_of signature.now }
 {
@@ -318,13 +299,6 @@ fn takes_values(kinds: &[Kind]) -> Option<Takes>
         )),
         _ => None,
     }
-}
-
-fn ends_in(ending: &[u8], name: &[u8]) -> bool
-    ensures { result ≡ ends_in ending.now name.now }
-{
-    let front = name.len().saturating_sub(ending.len());
-    &name[front..] == ending
 }
 
 // A name without its ending.

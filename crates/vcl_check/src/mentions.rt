@@ -1,14 +1,17 @@
 // What a text says of names, in its order.
 ghost use Rattle.std.specs.Prelude.{◌≡◌, ◌∷◌, ◌++◌, [], OnOk, IfOk, slice_get, option_and_then};
-ghost use Rattle.vcl_tree.specs.Phrase.{Node, Called, Named, list_of};
+ghost use Rattle.vcl_tree.specs.Phrase.{Node, Called, Named, Either, Both, chain, list_of};
+ghost use Rattle.vcl_tree.specs.ExpressionView.{sum_of, sum_label};
 ghost use Rattle.vcl_language.specs.Functions.{function_named};
-ghost use Rattle.vcl_check.specs.Mentions.{said, said_of, said_string, has_pattern, with_found, with_strings, with_mentions, with_item, with_items};
+ghost use Rattle.vcl_check.specs.Mentions.{said, said_of, said_string, called_string, parts, has_pattern, with_found, with_strings, is_init, object_kind, with_mentions, with_item, with_items};
 
 use std::alloc::{AllocError, Global};
 use std::marker::Model;
 use units::Text;
 use vcl_language::{Parameter, Takes, function_named};
-use vcl_tree::{Action, Block, Branch, Comparison, Expression, Item, Name, Operation, Statement};
+use vcl_tree::{
+    Action, Addend, Block, Branch, Comparison, Expression, Item, Name, Operation, Statement,
+};
 
 /// What a name, or a string, is mentioned as.
 #[derive(Clone, Copy)]
@@ -18,8 +21,10 @@ pub enum MentionKind {
     Probe,
     Acl,
     Subroutine,
-    /// An object that `new` makes.
+    /// An object that `new` makes in vcl_init.
     Object,
+    /// A name of `new` in another subroutine, where no object is made.
+    NoObject,
     /// A call of a subroutine.
     Call,
     /// A string that must be a pattern.
@@ -108,38 +113,16 @@ fn second_string(arguments: &[Expression]) -> Option<Mention<'_>>
 }
 
 // The strings of an expression that must be patterns.
+#[cycle(in_expression)]
 fn in_expression<'t>(out: &mut Vec<Mention<'t>>, e: &'t Expression) -> Result<(), AllocError>
     ensures { OnOk result (out.new.items ≡ with_strings out.old.items e.entry.now) }
 {
     match &e.operation {
-        Operation::Any(first, second, others) => {
-            in_expression(out, first)?;
-            in_expression(out, second)?;
-            'any: for operand in others {
-                in_expression(out, operand)?;
-            }
-            Ok(())
-        }
-        Operation::All(first, second, others) => {
-            in_expression(out, first)?;
-            in_expression(out, second)?;
-            'all: for operand in others {
-                in_expression(out, operand)?;
-            }
-            Ok(())
-        }
-        Operation::Sum(first, second, others) => {
-            in_expression(out, first)?;
-            in_expression(out, &second.term)?;
-            'sum: for addend in others {
-                in_expression(out, &addend.term)?;
-            }
-            Ok(())
-        }
+        Operation::Any(first, second, others) => in_operands(out, first, second, others),
+        Operation::All(first, second, others) => in_operands(out, first, second, others),
+        Operation::Sum(first, second, others) => in_terms(out, first, second, others),
         Operation::Call(_, name, arguments) => {
-            'arguments: for argument in arguments {
-                in_expression(out, argument)?;
-            }
+            in_arguments(out, arguments)?;
             found_in_call(out, name, arguments)
         }
         Operation::Compare(how, a, b) => {
@@ -155,6 +138,57 @@ fn in_expression<'t>(out: &mut Vec<Mention<'t>>, e: &'t Expression) -> Result<()
         Operation::Group(_, inner) => in_expression(out, inner),
         _ => Ok(()),
     }
+}
+
+// Those of operands of truth, whichever of the two signs ties them.
+#[cycle(in_expression)]
+fn in_operands<'t>(
+    out: &mut Vec<Mention<'t>>,
+    first: &'t Expression,
+    second: &'t Expression,
+    others: &'t [Expression],
+) -> Result<(), AllocError>
+    ensures any { OnOk result (out.new.items ≡ with_strings out.old.items (chain Either (Node Either first.entry.now second.entry.now) others.entry.now)) }
+    ensures all { OnOk result (out.new.items ≡ with_strings out.old.items (chain Both (Node Both first.entry.now second.entry.now) others.entry.now)) }
+{
+    in_expression(out, first)?;
+    in_expression(out, second)?;
+    'operands: for operand in others {
+        in_expression(out, operand)?;
+    }
+    Ok(())
+}
+
+// Those of a sum.
+#[cycle(in_expression)]
+fn in_terms<'t>(
+    out: &mut Vec<Mention<'t>>,
+    first: &'t Expression,
+    second: &'t Addend,
+    others: &'t [Addend],
+) -> Result<(), AllocError>
+    ensures { OnOk result (out.new.items ≡ with_strings out.old.items (sum_of (Node (sum_label second.entry.now.sign) first.entry.now second.entry.now.term) others.entry.now)) }
+{
+    in_expression(out, first)?;
+    in_expression(out, &second.term)?;
+    'terms: for addend in others {
+        in_expression(out, &addend.term)?;
+    }
+    Ok(())
+}
+
+// Those of arguments.
+#[cycle(in_expression)]
+fn in_arguments<'t>(
+    out: &mut Vec<Mention<'t>>,
+    arguments: &'t [Expression],
+) -> Result<(), AllocError>
+    ensures { OnOk result (out.new.items ≡ with_strings out.old.items (list_of arguments.entry.now)) }
+{
+    'arguments: for argument in arguments {
+        in_expression(out, argument)?;
+    }
+    Ok(())
 }
 
 fn found_in_call<'t>(
@@ -181,20 +215,6 @@ fn second_in(arguments: &[Expression]) -> Option<Mention<'_>>
     ensures { result ≡ option_and_then said_string (slice_get (parts (list_of arguments.now)) 1) }
 {
     second_string(arguments)
-}
-
-ghost use Rattle.vcl_check.specs.Mentions.{called_string, parts};
-
-fn in_arguments<'t>(
-    out: &mut Vec<Mention<'t>>,
-    arguments: &'t [Expression],
-) -> Result<(), AllocError>
-    ensures { OnOk result (out.new.items ≡ with_strings out.old.items (list_of arguments.entry.now)) }
-{
-    for argument in arguments {
-        in_expression(out, argument)?;
-    }
-    Ok(())
 }
 
 /// What a block of this subroutine says.
@@ -228,14 +248,9 @@ fn in_statement<'t>(
             push_mention(out, MentionKind::Call, name.place, name.text.bytes(), owner)
         }
         Action::New(_, name, maker, arguments) => {
+            let kind = object_kind(owner);
             let place = name.place;
-            push_mention(
-                out,
-                MentionKind::Object,
-                place,
-                name.text.bytes(),
-                maker.text.bytes(),
-            )?;
+            push_mention(out, kind, place, name.text.bytes(), maker.text.bytes())?;
             in_arguments(out, arguments)
         }
         Action::If(_, first, others, otherwise) => {
@@ -254,6 +269,23 @@ fn in_statement<'t>(
             in_arguments(out, arguments)?;
             found_in_call(out, &name.text, arguments)
         }
+    }
+}
+
+// Whether a subroutine is the one in which objects are made.
+fn is_init(name: &[u8]) -> bool
+    ensures { result ≡ is_init name.now }
+{
+    name == b"vcl_init".as_slice()
+}
+
+fn object_kind(owner: &[u8]) -> MentionKind
+    ensures { result ≡ object_kind owner.now }
+{
+    if is_init(owner) {
+        MentionKind::Object
+    } else {
+        MentionKind::NoObject
     }
 }
 

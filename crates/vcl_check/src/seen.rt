@@ -10,6 +10,8 @@ pub enum Sort {
     Value(Kind),
     /// It is the name of an ACL.
     Acl,
+    /// It is a decimal: a weight, which a director takes and nothing else.
+    Weight,
     /// It calls a function without a value.
     Nothing,
     /// It has a fault, and fits everywhere.

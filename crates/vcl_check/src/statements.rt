@@ -1,9 +1,10 @@
 // What is told of statements.
 ghost use Rattle.std.specs.Prelude.{◌≡◌};
 ghost use Rattle.vcl_tree.specs.StatementView.{name_of};
-ghost use Rattle.vcl_tree.specs.Phrase.{Phrase, At, Node, Bound};
-ghost use Rattle.vcl_check.specs.Least.{told_of};
+ghost use Rattle.vcl_tree.specs.Phrase.{Phrase, At, Node, Bound, Called, list_of};
+ghost use Rattle.vcl_check.specs.Least.{faultless, tied, told_of};
 ghost use Rattle.vcl_check.specs.Roles as role;
+ghost use Rattle.vcl_check.specs.Views.{at_place};
 
 use crate::expressions::{arguments_of, expression};
 use crate::form::{Form, Use};
@@ -39,23 +40,11 @@ fn statement(tables: &Tables<'_>, roots: &[Subroutine], s: &Statement) -> Told
             let given = assignment(tables, roots, Use::Append, name, value);
             tied(roots, Form::Append, faultless(at_place(*place)), given)
         }
-        Action::Unset(place, name) => {
-            let told = named(tables, roots, Use::Unset, name);
-            tied(roots, Form::Ordinary, faultless(at_place(*place)), told)
-        }
-        Action::Call(place, name) => {
-            let told = named(tables, roots, Use::Subroutine, name);
-            tied(roots, Form::Ordinary, faultless(at_place(*place)), told)
-        }
+        Action::Unset(place, name) => ordinary(tables, roots, Use::Unset, *place, name),
+        Action::Call(place, name) => ordinary(tables, roots, Use::Subroutine, *place, name),
         Action::New(place, name, maker, arguments) => {
-            let made = tied(
-                roots,
-                Form::Applied,
-                named(tables, roots, Use::Maker, maker),
-                arguments_of(tables, roots, arguments),
-            );
-            let object = tied(roots, Form::Object, faultless(at_place(name.place)), made);
-            tied(roots, Form::New, faultless(at_place(*place)), object)
+            let made = object(tables, roots, name, maker, arguments);
+            tied(roots, Form::New, faultless(at_place(*place)), made)
         }
         Action::If(place, first, others, otherwise) => {
             let taken = branch(tables, roots, first);
@@ -73,20 +62,10 @@ fn statement(tables: &Tables<'_>, roots: &[Subroutine], s: &Statement) -> Told
             tied(roots, Form::Return, faultless(at_place(*place)), told)
         }
         Action::ReturnWith(place, word, arguments) => {
-            let told = tied(
-                roots,
-                Form::Applied,
-                named(tables, roots, Use::Word, word),
-                arguments_of(tables, roots, arguments),
-            );
+            let told = applied(tables, roots, Use::Word, word, arguments);
             tied(roots, Form::Return, faultless(at_place(*place)), told)
         }
-        Action::Run(name, arguments) => tied(
-            roots,
-            Form::Call,
-            named(tables, roots, Use::Function, name),
-            arguments_of(tables, roots, arguments),
-        ),
+        Action::Run(name, arguments) => run(tables, roots, name, arguments),
     }
 }
 
@@ -123,5 +102,59 @@ fn assignment(
         Form::Assignment,
         named(tables, roots, by, name),
         expression(tables, roots, value),
+    )
+}
+
+// A statement of a name that stands in traffic alone.
+fn ordinary(tables: &Tables<'_>, roots: &[Subroutine], by: Use, place: u32, name: &Name) -> Told
+    ensures { result ≡ tied roots.now Form.Ordinary (faultless (at_place place)) (told_of tables.now roots.now (role.Name by) (name_of name.now)) }
+{
+    let told = named(tables, roots, by, name);
+    tied(roots, Form::Ordinary, faultless(at_place(place)), told)
+}
+
+// A word or a maker with its arguments.
+fn applied(
+    tables: &Tables<'_>,
+    roots: &[Subroutine],
+    by: Use,
+    name: &Name,
+    arguments: &[Expression],
+) -> Told
+    ensures { result ≡ tied roots.now Form.Applied (told_of tables.now roots.now (role.Name by) (name_of name.now)) (told_of tables.now roots.now role.Arguments (list_of arguments.now)) }
+{
+    let told = named(tables, roots, by, name);
+    tied(
+        roots,
+        Form::Applied,
+        told,
+        arguments_of(tables, roots, arguments),
+    )
+}
+
+// An object's name, and its maker with arguments.
+fn object(
+    tables: &Tables<'_>,
+    roots: &[Subroutine],
+    name: &Name,
+    maker: &Name,
+    arguments: &[Expression],
+) -> Told
+    ensures { result ≡ told_of tables.now roots.now role.Object (Node Bound (name_of name.now) (Node Called (name_of maker.now) (list_of arguments.now))) }
+{
+    let made = applied(tables, roots, Use::Maker, maker, arguments);
+    tied(roots, Form::Object, faultless(at_place(name.place)), made)
+}
+
+// A function that is called as a statement.
+fn run(tables: &Tables<'_>, roots: &[Subroutine], name: &Name, arguments: &[Expression]) -> Told
+    ensures { result ≡ told_of tables.now roots.now role.Statement (Node Called (name_of name.now) (list_of arguments.now)) }
+{
+    let function = named(tables, roots, Use::Function, name);
+    tied(
+        roots,
+        Form::Call,
+        function,
+        arguments_of(tables, roots, arguments),
     )
 }

@@ -1,6 +1,6 @@
 // What is seen of a part by what it belongs to.
 ghost use Rattle.std.specs.Prelude.{◌≡◌};
-ghost use Rattle.vcl_check.specs.Views.{at_place, of_sort, written, sort_of, name_seen, given_sort, call_sort, whole_part, weight, integer_weight, decimal_weight, argument_of, seen_together};
+ghost use Rattle.vcl_check.specs.Views.{at_place, of_sort, written, sort_of, name_seen, given_sort, call_sort, whole_part, weight, integer_weight, decimal_weight, weight_seen, argument_of, seen_together};
 
 use crate::form::Form;
 use crate::rules::{difference_sort, grouped_sort, sum_sort, with_argument};
@@ -103,12 +103,23 @@ pub fn integer_weight(number: i64) -> Literal
     weight(0 < number && number < 1001)
 }
 
-/// Whether a decimal may be a weight.
-pub fn decimal_weight(digits: &[u8]) -> Literal
+// Whether a decimal may be a weight.
+fn decimal_weight(digits: &[u8]) -> Literal
     ensures { result ≡ decimal_weight digits.now }
 {
     let number = whole_part(digits);
     weight(1 <= number && number <= 1000)
+}
+
+/// A decimal, which may be a weight.
+pub fn weight_seen(place: u32, digits: &[u8]) -> Seen
+    ensures { result ≡ weight_seen place digits.now }
+{
+    Seen {
+        sort: Sort::Weight,
+        literal: decimal_weight(digits),
+        ..at_place(place)
+    }
 }
 
 /// The number that the digits before a point spell, where one over 1,000 counts as 1,001.

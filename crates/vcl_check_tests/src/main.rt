@@ -2,10 +2,13 @@
 //! rows that go otherwise, and how many rows there are.
 #![tactic(auto)]
 
+ghost use Rattle.std.specs.Prelude.{IsErr};
+
 mod rows;
 
+use std::alloc::{AllocError, Global};
 use std::io;
-use vcl_values::Kind;
+use vcl_values::{Kind, Value};
 use vmod_host::{
     INTEGER, STRLEN, Signature, TOLOWER, TOUPPER, Vmod, VmodTable, integer, strlen, tolower,
     toupper,
@@ -40,10 +43,40 @@ fn main(rt: HostRuntime) -> io::Result<()> {
         signature: Signature::of(alloc, b"std", b"strlen", &[Kind::String], Kind::Int)?,
         call: strlen,
     })?;
+    // functions that are named like the method by which a director takes a backend: a check reads their signatures and never
+    // calls them
+    list.push(Vmod {
+        tag: 100,
+        signature: Signature::of(
+            alloc,
+            b"m",
+            b"add_backend",
+            &[Kind::String, Kind::Int],
+            Kind::Int,
+        )?,
+        call: no_answer,
+    })?;
+    list.push(Vmod {
+        tag: 101,
+        signature: Signature::of(
+            alloc,
+            b"n",
+            b"add_backend",
+            &[Kind::String, Kind::String],
+            Kind::Int,
+        )?,
+        call: no_answer,
+    })?;
     match VmodTable::of(alloc, list) {
         Ok(vmods) => read_rows(&rt, &vmods),
         Err(_) => println!(rt; "no table of stored functions"),
     }
+}
+
+fn no_answer(_alloc: Global, _arguments: &[Value]) -> Result<Value, AllocError>
+    ensures { IsErr result }
+{
+    Err(AllocError)
 }
 
 fn read_rows(rt: &HostRuntime, vmods: &VmodTable) -> io::Result<()> {

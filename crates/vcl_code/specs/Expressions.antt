@@ -1,23 +1,26 @@
 -- What an expression is numbered as: the node of each part before its whole's.
-use Rattle.std.specs.Prelude.{ℕ, ℤ, Bool, true, false, List, Option, Some, None}
-use Rattle.vcl_tree.specs.Phrase.{Phrase, Node, String, Integer, Duration, Named, Nothing, More, Either, Both, Not, Group, Compared, Added, Subtracted, Called}
+use Rattle.std.specs.Prelude.{ℕ, Bool, true, false, List, Option, Some, None}
+use Rattle.vcl_tree.specs.Phrase.{Phrase, Label, Node, String, Integer, Duration, Named, Nothing, More, Either, Both, Not, Group, Compared, Added, Subtracted, Called, chain}
+use Rattle.vcl_tree.specs.ExpressionView.{sum_of, sum_label}
+use Rattle.vcl_tree.specs.declared.expression.Addend.{Addend}
 use Rattle.vcl_tree.specs.declared.expression.Comparison.{Comparison as Asked}
 use Rattle.vcl_tree.specs.declared.expression.Comparison.TheVariants as asked
 use Rattle.vcl_values.specs.declared.comparisons.Comparison.{Comparison}
 use Rattle.vcl_values.specs.declared.comparisons.Comparison.TheVariants as compared
 use Rattle.vcl_code.specs.declared.arena.Arena.{Arena}
-use Rattle.vcl_code.specs.declared.callees.Builtin.{Builtin}
 use Rattle.vcl_code.specs.declared.callees.Builtin.TheVariants as builtin
 use Rattle.vcl_code.specs.declared.names.Callee.{Callee}
 use Rattle.vcl_code.specs.declared.names.Callee.TheVariants as callee
+use Rattle.vcl_code.specs.declared.expressions.Junction.{Junction}
+use Rattle.vcl_code.specs.declared.expressions.Junction.TheVariants as junction
 use Rattle.vcl_code.specs.declared.node.Node.{Node as Made}
 use Rattle.vcl_code.specs.declared.node.Node.TheVariants as node
 use Rattle.vcl_tree.specs.declared.expression.Addition.{Addition}
 use Rattle.vcl_tree.specs.declared.expression.Addition.TheVariants.{Plus, Minus}
 use Rattle.vcl_code.specs.declared.node.Arguments.{Arguments}
 use Rattle.vcl_code.specs.declared.node.Arguments.TheVariants.{Zero, One, Two, Three, More as TooMany}
-use Rattle.vcl_code.specs.Arenas.{Numbered, at, with_node, with_text, with_pattern, one, two}
-use Rattle.vcl_code.specs.Names.{Known, Target, Plain, Field, NoTarget, Read, OfTarget, Truth, Backend, NoRead, read_of, acl_of, callee_of}
+use Rattle.vcl_code.specs.Arenas.{Numbered, with_node, with_text, with_pattern, one, two}
+use Rattle.vcl_code.specs.Names.{Known, Plain, Field, NoTarget, Read, OfTarget, Truth, Backend, NoRead, read_of, acl_of, callee_of}
 
 abbrev pub absent : Arena → Numbered
 absent a = with_node node.Absent a
@@ -118,7 +121,22 @@ called (callee.Stored k) second g = with_node (node.Stored k g.arguments) g.aren
 called (callee.Director k) second g = director k g.arguments g.arena
 called _ second g = absent g.arena
 
--- a term of a sum
+-- what ties operands of truth
+abbrev pub label_of : Junction → Label
+label_of junction.Any = Either
+label_of junction.All = Both
+
+abbrev pub operands_of : Junction → Phrase → Phrase → List Phrase → Phrase
+operands_of tie first second others = chain (label_of tie) (Node (label_of tie) first second) others
+
+abbrev pub joined : Junction → ℕ → ℕ → Made
+joined junction.Any left right = node.Either left right
+joined junction.All left right = node.Both left right
+
+-- a sum of two terms and others, and what ties a term of it
+abbrev pub terms_of : Phrase → Addend → List Addend → Phrase
+terms_of first second others = sum_of (Node (sum_label second.sign) first second.term) others
+
 abbrev pub summed : Addition → ℕ → ℕ → Made
 summed Plus left right = node.Sum left right
 summed Minus left right = node.Difference left right

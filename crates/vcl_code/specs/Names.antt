@@ -1,5 +1,5 @@
 -- What names stand for, in numbers.
-use Rattle.std.specs.Prelude.{ℕ, ◌-◌, ◌+◌, ◌==◌, Bool, true, false, List, take, drop, length, Option, Some, None, is_some, option_and_then, option_map, position, slice_get, codes, if◌then◌else◌}
+use Rattle.std.specs.Prelude.{ℕ, ◌-◌, ◌+◌, ◌==◌, Bool, true, false, List, take, drop, length, Option, Some, None, is_some, option_and_then, position, slice_get, codes, if◌then◌else◌}
 use Rattle.std.specs.Str.{bytes_eq}
 use Rattle.vcl_tree.specs.Endings.{ends_in}
 use Rattle.vmod_host.specs.declared.signature.Stored.{Stored}

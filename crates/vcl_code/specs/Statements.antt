@@ -8,7 +8,6 @@ use Rattle.vcl_code.specs.declared.names.Callee.{Callee}
 use Rattle.vcl_code.specs.declared.names.Callee.TheVariants as callee
 use Rattle.vcl_code.specs.declared.node.Action.{Action}
 use Rattle.vcl_code.specs.declared.node.Action.TheVariants as action
-use Rattle.vcl_code.specs.declared.node.Block.{Block}
 use Rattle.vcl_code.specs.declared.node.Block.TheVariants.{Then}
 use Rattle.vcl_code.specs.declared.node.Arm.{Arm}
 use Rattle.vcl_code.specs.declared.node.Branch.{Branch}

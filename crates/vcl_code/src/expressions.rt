@@ -4,7 +4,7 @@ ghost use Rattle.std.specs.Option.{option_copied};
 ghost use Rattle.vcl_tree.specs.Phrase.{list_of};
 ghost use Rattle.vcl_code.specs.Arenas.{with_node, at};
 ghost use Rattle.vcl_code.specs.Sights.{read_seen};
-ghost use Rattle.vcl_code.specs.Expressions.{numbered, text_node, read_node, matched, in_acl, searched, ordered_as, asks_match, given, with_argument, second_string, string_of, summed, substitution, xkey, director, called};
+ghost use Rattle.vcl_code.specs.Expressions.{numbered, numbered_arguments, operands_of, terms_of, joined, text_node, read_node, matched, in_acl, searched, ordered_as, asks_match, given, with_argument, second_string, string_of, summed, substitution, xkey, director, called};
 
 use crate::arena::Arena;
 use crate::callees::Builtin;
@@ -12,11 +12,12 @@ use crate::names::{Callee, Names, Read, Target};
 use crate::node::{Arguments, Node};
 use std::alloc::{AllocError, Global};
 use units::Text;
-use vcl_tree::{Addition, Comparison as Asked, Expression, Operation};
+use vcl_tree::{Addend, Addition, Comparison as Asked, Expression, Operation};
 use vcl_values::Comparison;
 
 impl Arena {
     /// An expression, with all its parts before it.
+    #[cycle(expression)]
     #[tactic(auto, unfolding(crate::specs::Expressions::numbered))]
     pub fn expression(
         &mut self,
@@ -28,35 +29,12 @@ impl Arena {
     {
         match &e.operation {
             Operation::Any(first, second, others) => {
-                let left = self.expression(alloc, names, first)?;
-                let right = self.expression(alloc, names, second)?;
-                let mut front = self.push_node(Node::Either(left, right))?;
-                'any: for operand in others {
-                    let next = self.expression(alloc, names, operand)?;
-                    front = self.push_node(Node::Either(front, next))?;
-                }
-                Ok(front)
+                self.junction(alloc, names, Junction::Any, first, second, others)
             }
             Operation::All(first, second, others) => {
-                let left = self.expression(alloc, names, first)?;
-                let right = self.expression(alloc, names, second)?;
-                let mut front = self.push_node(Node::Both(left, right))?;
-                'all: for operand in others {
-                    let next = self.expression(alloc, names, operand)?;
-                    front = self.push_node(Node::Both(front, next))?;
-                }
-                Ok(front)
+                self.junction(alloc, names, Junction::All, first, second, others)
             }
-            Operation::Sum(first, second, others) => {
-                let left = self.expression(alloc, names, first)?;
-                let right = self.expression(alloc, names, &second.term)?;
-                let mut front = self.push_node(summed(second.sign, left, right))?;
-                'sum: for addend in others {
-                    let next = self.expression(alloc, names, &addend.term)?;
-                    front = self.push_node(summed(addend.sign, front, next))?;
-                }
-                Ok(front)
-            }
+            Operation::Sum(first, second, others) => self.sum(alloc, names, first, second, others),
             Operation::Not(_, operand) => {
                 let operand = self.expression(alloc, names, operand)?;
                 self.push_node(Node::Not(operand))
@@ -78,15 +56,74 @@ impl Arena {
             Operation::Duration(_, time) => self.push_node(Node::Duration(*time)),
             Operation::Name(_, name) => self.push_read(alloc, names.read_of(name.bytes())),
             Operation::Call(_, name, arguments) => {
-                let mut given = Arguments::Zero;
-                'arguments: for argument in arguments {
-                    let number = self.expression(alloc, names, argument)?;
-                    given = given.with(number);
-                }
-                let second = second_string(arguments.as_slice());
+                let given = self.arguments(alloc, names, arguments)?;
+                let second = second_string(arguments);
                 self.push_call(names.callee_of(name.bytes()), second, given)
             }
         }
+    }
+
+    // A chain of operands, each behind the node of those before it.
+    #[cycle(expression)]
+    fn junction(
+        &mut self,
+        alloc: Global,
+        names: &Names<'_>,
+        junction: Junction,
+        first: &Expression,
+        second: &Expression,
+        others: &[Expression],
+    ) -> Result<usize, AllocError>
+        ensures { IfOk result (λ number. numbered names.now (operands_of junction first.now second.now others.now) self.old ≡ at number self.new) }
+    {
+        let left = self.expression(alloc, names, first)?;
+        let right = self.expression(alloc, names, second)?;
+        let mut front = self.push_node(joined(junction, left, right))?;
+        'operands: for operand in others {
+            let next = self.expression(alloc, names, operand)?;
+            front = self.push_node(joined(junction, front, next))?;
+        }
+        Ok(front)
+    }
+
+    // A sum, each term behind the node of those before it.
+    #[cycle(expression)]
+    fn sum(
+        &mut self,
+        alloc: Global,
+        names: &Names<'_>,
+        first: &Expression,
+        second: &Addend,
+        others: &[Addend],
+    ) -> Result<usize, AllocError>
+        ensures { IfOk result (λ number. numbered names.now (terms_of first.now second.now others.now) self.old ≡ at number self.new) }
+    {
+        let left = self.expression(alloc, names, first)?;
+        let right = self.expression(alloc, names, &second.term)?;
+        let mut front = self.push_node(summed(second.sign, left, right))?;
+        'terms: for addend in others {
+            let next = self.expression(alloc, names, &addend.term)?;
+            front = self.push_node(summed(addend.sign, front, next))?;
+        }
+        Ok(front)
+    }
+
+    /// The numbers of arguments.
+    #[cycle(expression)]
+    pub(crate) fn arguments(
+        &mut self,
+        alloc: Global,
+        names: &Names<'_>,
+        arguments: &[Expression],
+    ) -> Result<Arguments, AllocError>
+        ensures { IfOk result (λ arguments'. numbered_arguments names.now (list_of arguments.now) self.old ≡ given arguments' self.new) }
+    {
+        let mut given = Arguments::Zero;
+        'arguments: for argument in arguments {
+            let number = self.expression(alloc, names, argument)?;
+            given = given.with(number);
+        }
+        Ok(given)
     }
 
     fn push_string(&mut self, text: &Text) -> Result<usize, AllocError>
@@ -190,6 +227,22 @@ impl Arguments {
             Arguments::Two(first, second) => Arguments::Three(first, second, number),
             Arguments::Three(_, _, _) | Arguments::More => Arguments::More,
         }
+    }
+}
+
+// What ties operands of truth.
+#[derive(Clone, Copy)]
+enum Junction {
+    Any,
+    All,
+}
+
+fn joined(junction: Junction, left: usize, right: usize) -> Node
+    ensures { result ≡ joined junction left right }
+{
+    match junction {
+        Junction::Any => Node::Either(left, right),
+        Junction::All => Node::Both(left, right),
     }
 }
 

@@ -10,7 +10,8 @@ use crate::callees::{Builtin, builtin_of};
 use std::marker::Model;
 use vcl_calls::NameIndex;
 use vcl_context::{Message, Variable, field_of, variable_of};
-use vmod_host::Stored;
+use vcl_tree::{behind, dot_in, ends_in};
+use vmod_host::{Stored, stored_number};
 
 /// What a declared name stands for, with its number among those of its sort.
 #[derive(Clone, Copy)]
@@ -192,35 +193,6 @@ fn thing_in(names: &NameIndex<'_>, things: &[Thing], name: &[u8]) -> Option<Thin
         None => None,
         Some(number) => things.get(number).copied(),
     }
-}
-
-fn dot_in(name: &[u8]) -> Option<usize>
-    ensures value { result ≡ position (λ byte. byte == 46) name.now }
-    ensures within { IfSome result (λ k. k < length name.now) }
-{
-    name.iter().position(|byte| *byte == b'.')
-}
-
-fn behind(name: &[u8], place: usize) -> &[u8]
-    requires { place < length name.now }
-    ensures { result.now ≡ drop (place + 1) name.now }
-{
-    &name[place + 1..]
-}
-
-fn stored_number(stored: &[Stored], origin: &[u8], own: &[u8]) -> Option<usize>
-    ensures { result ≡ position (λ entry. is_named origin.now own.now entry.signature) stored.now }
-{
-    stored
-        .iter()
-        .position(|entry| entry.signature.is_named(origin, own))
-}
-
-fn ends_in(suffix: &[u8], text: &[u8]) -> bool
-    ensures { result ≡ ends_in suffix.now text.now }
-{
-    let front = text.len().saturating_sub(suffix.len());
-    &text[front..] == suffix
 }
 
 // A name without its last eight bytes, `.backend`.

@@ -2,10 +2,9 @@
 ghost use Rattle.std.specs.Prelude.{◌≡◌, ◌∷◌, [], IfOk};
 ghost use Rattle.vcl_code.specs.declared.arena.Arena.{Arena as Code};
 ghost use Rattle.std.specs.Option.{option_copied};
-ghost use Rattle.vcl_tree.specs.Phrase.{list_of};
 ghost use Rattle.vcl_code.specs.Arenas.{at};
 ghost use Rattle.vcl_code.specs.Sights.{target_seen};
-ghost use Rattle.vcl_code.specs.Expressions.{numbered_arguments, given};
+ghost use Rattle.vcl_code.specs.Expressions.{given};
 ghost use Rattle.vcl_code.specs.Statements.{acted, acts, arms_in, with_chain, if_acted, arm_of, set_acted, append_acted, unset_acted, call_acted, return_acted, performed, action_of, actions_of, numbered_block};
 
 use crate::arena::Arena;
@@ -15,9 +14,7 @@ use crate::names::{Callee, Names, Target, target_of};
 use crate::node::{Action, Arguments, Arm, Block, Branch, Choice, ReturnWord};
 use std::alloc::{AllocError, Global};
 use units::Text;
-use vcl_tree::{
-    Action as Written, Block as WrittenBlock, Branch as WrittenBranch, Expression, Statement,
-};
+use vcl_tree::{Action as Written, Block as WrittenBlock, Branch as WrittenBranch, Statement};
 
 impl Arena {
     /// A block, with the block of the number `next` behind it. The block of number 0 has no statement.
@@ -122,22 +119,6 @@ impl Arena {
                 }
             }
         }
-    }
-
-    fn arguments(
-        &mut self,
-        alloc: Global,
-        names: &Names<'_>,
-        arguments: &[Expression],
-    ) -> Result<Arguments, AllocError>
-        ensures { IfOk result (λ arguments'. numbered_arguments names.now (list_of arguments.now) self.old ≡ given arguments' self.new) }
-    {
-        let mut given = Arguments::Zero;
-        for argument in arguments {
-            let number = self.expression(alloc, names, argument)?;
-            given = given.with(number);
-        }
-        Ok(given)
     }
 
     // Actions one behind another, from the last on.

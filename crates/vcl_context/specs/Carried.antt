@@ -1,5 +1,5 @@
 -- What the lines of a head carry (RFC 9110, sections 5 and 9; RFC 9112, sections 3 and 4), by the grammar of `httparse`.
-use Rattle.std.specs.Prelude.{ℕ, ℤ, pos, Bool, not, ◌&&◌, ◌||◌, ◌==◌, nat_lt, nat_le, List, length}
+use Rattle.std.specs.Prelude.{ℕ, ℤ, pos, Bool, not, ◌&&◌, nat_lt, nat_le, List, length}
 use Rattle.std.specs.List.{list_all}
 use Rattle.std.specs.Str.{is_utf8}
 use Rattle.std.specs.Int.Signed.{lt_z}

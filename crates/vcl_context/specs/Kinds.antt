@@ -1,5 +1,5 @@
 -- The types of variables, and which are set (docs/VCL.md, "Variables").
-use Rattle.std.specs.Prelude.{Bool, true, false, Option, Some, None}
+use Rattle.std.specs.Prelude.{Bool, true, false}
 use Rattle.vcl_values.specs.declared.value.Kind.{Kind}
 use Rattle.vcl_values.specs.declared.value.Kind.TheVariants as kind
 use Rattle.vcl_context.specs.declared.variable.Variable.{Variable}

@@ -5,3 +5,4 @@ pub mod Names
 pub mod Reading
 pub mod Setting
 pub mod Outcomes
+pub mod Unfilled

@@ -1,7 +1,7 @@
 -- What a context becomes where a variable is set, and where the subroutine ends as `fail` instead (docs/VCL.md, "Variables").
 -- A text is taken of whatever value a STRING is set to. A variable that is never set, and a value of another type, have no
 -- meaning here: the checker lets neither through.
-use Rattle.std.specs.Prelude.{ℕ, ℤ, pos, Bool, ◌||◌, unsigned_abs, List, Option, Some, None, option_map, if◌then◌else◌}
+use Rattle.std.specs.Prelude.{ℤ, pos, ◌||◌, unsigned_abs, Option, Some, None, option_map, if◌then◌else◌}
 use Rattle.std.specs.Int.Signed.{lt_z}
 use Rattle.vcl_values.specs.declared.value.Value.{Value}
 use Rattle.vcl_values.specs.declared.value.Value.TheVariants as value

@@ -1,7 +1,6 @@
 // The fields of the messages of a context.
 ghost use Rattle.std.specs.Prelude.{◌≡◌, length, IfOk, Some};
-ghost use Rattle.http_heads.specs.Fields.{first_value, without};
-ghost use Rattle.vcl_values.specs.Values.{text_of};
+ghost use Rattle.http_heads.specs.Fields.{without};
 ghost use Rattle.vcl_context.specs.Fields.{fields_of, field_value, field_set, field_unset, set_among};
 ghost use Rattle.vcl_context.specs.Outcomes.{Sets};
 

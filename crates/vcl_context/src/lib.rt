@@ -6,16 +6,16 @@
 //! variables are those of `vcl_language`, with the same types, and are set where its table lets them be set.
 #![tactic(auto)]
 
+mod blank;
 mod carried;
 mod context;
 mod fields;
 mod names;
 mod reading;
 mod setting;
-#[cfg(test)]
-mod tests;
 mod variable;
 
+pub use blank::{given_status, made_body, peer_at, uncount, unfilled};
 pub use context::{CachedObject, ClientRequest, Context, FetchRequest, FetchResponse, Peer};
 pub use names::{all_variables, field_of, variable_of};
 pub use setting::{MOST_FIELDS, Setting};

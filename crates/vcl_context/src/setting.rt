@@ -1,6 +1,6 @@
 // Setting variables.
 ghost use Rattle.std.specs.Prelude.{◌≡◌, true};
-ghost use Rattle.vcl_values.specs.Values.{kind_of, text_of};
+ghost use Rattle.vcl_values.specs.Values.{kind_of};
 ghost use Rattle.vcl_context.specs.Kinds.{accepts};
 ghost use Rattle.vcl_context.specs.Setting.{variable_set};
 ghost use Rattle.vcl_context.specs.Setting as due;

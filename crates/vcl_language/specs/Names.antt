@@ -1,5 +1,5 @@
 -- The names of built-in subroutines, from the table in src/subroutines.rt.
-use Rattle.std.specs.Prelude.{ℕ, ◌==◌, Bool, true, false, ◌&&◌, List, [], ◌∷◌, Option, option_and_then, position, slice_get, codes, nat_eq}
+use Rattle.std.specs.Prelude.{ℕ, Bool, List, Option, option_and_then, position, slice_get, codes, nat_eq}
 use Rattle.std.specs.Str.{bytes_eq}
 use Rattle.std.specs.List.{starts_with}
 use Rattle.vcl_language.specs.declared.scope.Subroutine.{Subroutine}

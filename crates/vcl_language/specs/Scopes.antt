@@ -1,5 +1,5 @@
 -- The built-in subroutines, and sets of them in which something may stand.
-use Rattle.std.specs.Prelude.{ℕ, ◌==◌, Bool, true, List, [], ◌∷◌, ◌++◌}
+use Rattle.std.specs.Prelude.{ℕ, ◌==◌, Bool, List, [], ◌∷◌, ◌++◌}
 use Rattle.std.specs.List.{list_any}
 use Rattle.vcl_language.specs.declared.scope.Subroutine.{Subroutine}
 use Rattle.vcl_language.specs.declared.scope.Subroutine.TheVariants.{Recv, Hash, Purge, Hit, Miss, Pass, Deliver, Synth, BackendFetch, BackendResponse, BackendError, Init, Fini}

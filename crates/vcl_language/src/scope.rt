@@ -2,6 +2,11 @@
 ghost use Rattle.std.specs.Prelude.{◌≡◌};
 ghost use Rattle.vcl_language.specs.Scopes.{has};
 
+use self::Subroutine::{
+    BackendError, BackendFetch, BackendResponse, Deliver, Fini, Hash, Hit, Init, Miss, Pass, Purge,
+    Recv, Synth,
+};
+
 /// The built-in subroutines (the Varnish Reference Manual, "VCL-steps").
 #[derive(Clone, Copy, Debug, PartialEq, Eq)]
 pub enum Subroutine {
@@ -68,49 +73,29 @@ pub fn has(scope: Scope, subroutine: Subroutine) -> bool
         Scope::Client => is_client(subroutine),
         Scope::Backend => is_backend(subroutine),
         Scope::Traffic => is_client(subroutine) || is_backend(subroutine),
-        Scope::Recv => matches!(subroutine, Subroutine::Recv),
-        Scope::RecvHash => matches!(subroutine, Subroutine::Recv | Subroutine::Hash),
-        Scope::RecvHitMiss => matches!(
-            subroutine,
-            Subroutine::Recv | Subroutine::Hit | Subroutine::Miss
-        ),
-        Scope::Hash => matches!(subroutine, Subroutine::Hash),
-        Scope::Hit => matches!(subroutine, Subroutine::Hit),
-        Scope::HitDeliver => matches!(subroutine, Subroutine::Hit | Subroutine::Deliver),
-        Scope::MissPassFetch => matches!(
-            subroutine,
-            Subroutine::Miss | Subroutine::Pass | Subroutine::BackendFetch
-        ),
+        Scope::Recv => matches!(subroutine, Recv),
+        Scope::RecvHash => matches!(subroutine, Recv | Hash),
+        Scope::RecvHitMiss => matches!(subroutine, Recv | Hit | Miss),
+        Scope::Hash => matches!(subroutine, Hash),
+        Scope::Hit => matches!(subroutine, Hit),
+        Scope::HitDeliver => matches!(subroutine, Hit | Deliver),
+        Scope::MissPassFetch => matches!(subroutine, Miss | Pass | BackendFetch),
         Scope::Delivering => matches!(
             subroutine,
-            Subroutine::Hit
-                | Subroutine::Deliver
-                | Subroutine::Synth
-                | Subroutine::BackendResponse
-                | Subroutine::BackendError
+            Hit | Deliver | Synth | BackendResponse | BackendError
         ),
-        Scope::DeliverSynth => matches!(subroutine, Subroutine::Deliver | Subroutine::Synth),
+        Scope::DeliverSynth => matches!(subroutine, Deliver | Synth),
         Scope::Synthesizing => is_synthesizing(subroutine),
-        Scope::Restarting => {
-            is_synthesizing(subroutine) || matches!(subroutine, Subroutine::Synth)
-        }
-        Scope::Synth => matches!(subroutine, Subroutine::Synth),
-        Scope::SynthBackendError => {
-            matches!(subroutine, Subroutine::Synth | Subroutine::BackendError)
-        }
-        Scope::FetchResponse => matches!(
-            subroutine,
-            Subroutine::BackendFetch | Subroutine::BackendResponse
-        ),
-        Scope::Response => matches!(
-            subroutine,
-            Subroutine::BackendResponse | Subroutine::BackendError
-        ),
-        Scope::BackendResponse => matches!(subroutine, Subroutine::BackendResponse),
-        Scope::BackendError => matches!(subroutine, Subroutine::BackendError),
-        Scope::Init => matches!(subroutine, Subroutine::Init),
-        Scope::InitFini => matches!(subroutine, Subroutine::Init | Subroutine::Fini),
-        Scope::AllButFini => !matches!(subroutine, Subroutine::Fini),
+        Scope::Restarting => is_synthesizing(subroutine) || matches!(subroutine, Synth),
+        Scope::Synth => matches!(subroutine, Synth),
+        Scope::SynthBackendError => matches!(subroutine, Synth | BackendError),
+        Scope::FetchResponse => matches!(subroutine, BackendFetch | BackendResponse),
+        Scope::Response => matches!(subroutine, BackendResponse | BackendError),
+        Scope::BackendResponse => matches!(subroutine, BackendResponse),
+        Scope::BackendError => matches!(subroutine, BackendError),
+        Scope::Init => matches!(subroutine, Init),
+        Scope::InitFini => matches!(subroutine, Init | Fini),
+        Scope::AllButFini => !matches!(subroutine, Fini),
     }
 }
 
@@ -119,36 +104,18 @@ fn is_client(subroutine: Subroutine) -> bool
 {
     matches!(
         subroutine,
-        Subroutine::Recv
-            | Subroutine::Hash
-            | Subroutine::Purge
-            | Subroutine::Hit
-            | Subroutine::Miss
-            | Subroutine::Pass
-            | Subroutine::Deliver
-            | Subroutine::Synth
+        Recv | Hash | Purge | Hit | Miss | Pass | Deliver | Synth
     )
 }
 
 fn is_backend(subroutine: Subroutine) -> bool
     ensures { result ≡ has Scope.Backend subroutine }
 {
-    matches!(
-        subroutine,
-        Subroutine::BackendFetch | Subroutine::BackendResponse | Subroutine::BackendError
-    )
+    matches!(subroutine, BackendFetch | BackendResponse | BackendError)
 }
 
 fn is_synthesizing(subroutine: Subroutine) -> bool
     ensures { result ≡ has Scope.Synthesizing subroutine }
 {
-    matches!(
-        subroutine,
-        Subroutine::Recv
-            | Subroutine::Purge
-            | Subroutine::Hit
-            | Subroutine::Miss
-            | Subroutine::Pass
-            | Subroutine::Deliver
-    )
+    matches!(subroutine, Recv | Purge | Hit | Miss | Pass | Deliver)
 }

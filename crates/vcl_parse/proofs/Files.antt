@@ -21,7 +21,7 @@ use Rattle.vcl_tree.specs.StatementGrammar.{conditional}
 use Rattle.vcl_tree.specs.AttributeGrammar.{nested}
 use Rattle.vcl_tree.specs.Grammar as grammar
 use Rattle.vcl_tree.specs.Grammar.{version_written, IsItems, no_items, IsFile, file}
-use Rattle.vcl_tokens.specs.Reading.{Reads}
+use Rattle.vcl_tokens.specs.Reading.{Reads, text_limit}
 use Rattle.vcl_parse.specs.declared.stop.Stop.{Stop}
 use Rattle.vcl_parse.specs.declared.stop.Stop.TheVariants as stop
 use Rattle.vcl_parse.specs.Machine.{Tail, Want, Take, AnyName, NewName, Number, Read, Go, Join, MoreAny, MoreAll, Compares, MoreSum, Calls, FirstArgument, MoreArguments, MoreStatements, MoreElse, MoreAttributes, Semicolon, MoreEntries, Mask, MoreItems, Config, Accepted, Refused, Deep, ends, join, moved}
@@ -210,11 +210,11 @@ nesting_fault end tokens rest v left e f =
     }
 
 -- why reading stops is a fault of the text
-pub fault_told : (text : List ℕ) (tokens rest : List Token) (v : Version) (why : Stop) → Reads 0 text tokens → head_of (length text) tokens ≡ Good v rest → Stops why (reading rest) →
+pub fault_told : (text : List ℕ) (tokens rest : List Token) (v : Version) (why : Stop) → Reads 0 text tokens → length text ≤ text_limit → head_of (length text) tokens ≡ Good v rest → Stops why (reading rest) →
     IsFault text (told (length text) rest why)
-fault_told text tokens rest v stop.NoMemory r e f = tt
-fault_told text tokens rest v (stop.Syntax left) r e f = inr (tokens, r, ((v, rest, e), syntax_fault (length text) tokens rest v left e f))
-fault_told text tokens rest v (stop.TooDeep left) r e f = inr (tokens, r, ((v, rest, e), nesting_fault (length text) tokens rest v left e f))
+fault_told text tokens rest v stop.NoMemory r short e f = tt
+fault_told text tokens rest v (stop.Syntax left) r short e f = inr (tokens, r, ((v, rest, e), syntax_fault (length text) tokens rest v left e f), short)
+fault_told text tokens rest v (stop.TooDeep left) r short e f = inr (tokens, r, ((v, rest, e), nesting_fault (length text) tokens rest v left e f), short)
 
 -- the same of tokens and items that equal those
 pub tree_found : (end : ℕ) (tokens seen rest : List Token) (v : Version) (items found : List Item) → seen ≡ tokens → found ≡ items → head_of end seen ≡ Good v rest →

@@ -15,7 +15,7 @@ use Rattle.vcl_tree.specs.declared.error.VclError.{VclError}
 use Rattle.vcl_tree.specs.declared.error.VclError.TheVariants as error
 use Rattle.vcl_tree.specs.declared.error.Refusal.{Refusal}
 use Rattle.vcl_tree.specs.declared.error.Refusal.TheVariants as refusal
-use Rattle.vcl_tokens.specs.Reading.{Reads, IsRefusal}
+use Rattle.vcl_tokens.specs.Reading.{Reads, IsRefusal, text_limit}
 
 abbrev pub is_vcl_word : Word → Bool
 is_vcl_word word.Vcl = true
@@ -99,7 +99,9 @@ IsWrong end tokens refusal.Syntax place = HasVersion end tokens × IsSyntaxFault
 IsWrong end tokens refusal.TooDeep place = HasVersion end tokens × IsNestingFault tokens place
 IsWrong end tokens _ place = ⊥
 
--- Why a text has no tree.
+-- Why a text has no tree: it has no tokens, or it is within its limit and they have a fault.
 abbrev pub IsFault : List ℕ → VclError → Type 0
 IsFault text error.NoMemory = Unit {0}
-IsFault text (error.Refused why place) = IsRefusal text (error.Refused why place) ⊎ ((tokens : List Token) × Reads 0 text tokens × IsWrong (length text) tokens why place)
+IsFault text (error.Refused why place) =
+    IsRefusal text (error.Refused why place)
+    ⊎ ((tokens : List Token) × Reads 0 text tokens × IsWrong (length text) tokens why place × (length text ≤ text_limit))

@@ -1,11 +1,11 @@
 // A whole text.
-ghost use Rattle.std.specs.Prelude.{◌≡◌, ◌∷◌, [], ℕ, List, length, IfOk, IfErr, MatchResult, map};
+ghost use Rattle.std.specs.Prelude.{◌≡◌, ◌≤◌, ◌∷◌, [], ℕ, List, length, IfOk, IfErr, MatchResult, map};
 ghost use Rattle.vcl_tree.specs.declared.token.Token.{Token};
 ghost use Rattle.vcl_tree.specs.TreeView.{items_of, item_of};
 ghost use Rattle.vcl_tree.specs.declared.item.Tree as tree;
 ghost use Rattle.vcl_tree.specs.declared.error.Refusal.{Refusal};
 ghost use Rattle.vcl_tree.specs.Phrase.{list_of};
-ghost use Rattle.vcl_tokens.specs.Reading.{Reads};
+ghost use Rattle.vcl_tokens.specs.Reading.{Reads, text_limit};
 ghost use Rattle.vcl_parse.specs.Machine.{Accepted};
 ghost use Rattle.vcl_parse.specs.Steps.{Stops};
 ghost use Rattle.vcl_parse.specs.Parsing.{IsTree, IsWrong, IsFault, Good, Bad, head_of, behind_vcl, is_vcl_word};
@@ -25,7 +25,7 @@ use vcl_tree::{Item, Refusal, Sign, Token, TokenKind, Tree, VclError, Version, W
 /// blocks and parentheses would nest more than 64 deep; where the text ends too early, at its length.
 #[tactic(auto, using(crate::proofs::Files::fault_told))]
 pub fn parse(alloc: Global, text: &Text) -> Result<Tree, VclError>
-    ensures tree { IfOk result (λ tree. (tokens : List Token) × Reads 0 text.now tokens × IsTree tokens tree) }
+    ensures tree { IfOk result (λ tree. (tokens : List Token) × Reads 0 text.now tokens × IsTree tokens tree × (length text.now ≤ text_limit)) }
     ensures fault { IfErr result (IsFault text.now) }
 {
     let found = tokens(alloc, text)?;

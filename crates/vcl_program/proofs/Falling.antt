@@ -1,8 +1,8 @@
 -- Expressions are numbered with each node above its parts.
 use Rattle.std.proofs.Math.Nat.{le_refl}
 use Rattle.std.proofs.lemmas.List.{length-append}
-use Rattle.std.proofs.Common.{◌≡◌, ◌≤◌, ◌<◌, ◌+◌, ℕ, Bool, true, false, length, List, [], ◌∷◌, ◌++◌, refl, sym, ap, ◌∙◌, subst, Option, Some, None, arith, suc, add-zero, zero-add}
-use Rattle.vcl_tree.specs.Phrase.{Phrase, Node, String, Integer, Duration, Named, Nothing, More, Either, Both, Not, Group, Compared, Added, Subtracted, Called}
+use Rattle.std.proofs.Common.{◌≡◌, ◌≤◌, ◌<◌, ◌+◌, ℕ, Bool, length, List, [], ◌∷◌, ◌++◌, refl, sym, ◌∙◌, subst, Option, Some, None, arith, suc, add-zero, zero-add}
+use Rattle.vcl_tree.specs.Phrase.{Phrase, Node, String, Integer, Duration, Named, More, Either, Both, Not, Group, Compared, Added, Subtracted, Called}
 use Rattle.vcl_values.specs.declared.comparisons.Comparison.{Comparison}
 use Rattle.vcl_code.specs.declared.arena.Arena.{Arena}
 use Rattle.vcl_code.specs.declared.node.Node.{Node as Made}
@@ -12,11 +12,10 @@ use Rattle.vcl_code.specs.declared.node.Arguments.{Arguments}
 use Rattle.vcl_code.specs.declared.node.Arguments.TheVariants.{Zero, One, Two, Three, More as TooMany}
 use Rattle.vcl_code.specs.declared.names.Callee.{Callee}
 use Rattle.vcl_code.specs.declared.names.Callee.TheVariants as callee
-use Rattle.vcl_code.specs.declared.callees.Builtin.{Builtin}
 use Rattle.vcl_code.specs.declared.callees.Builtin.TheVariants as builtin
-use Rattle.vcl_code.specs.Arenas.{Numbered, at, with_node, with_text, with_pattern, one, two}
-use Rattle.vcl_code.specs.Names.{Known, Target, Plain, Field, NoTarget, Read, OfTarget, Truth, Backend, NoRead, read_of, acl_of, callee_of}
-use Rattle.vcl_code.specs.Expressions.{numbered, numbered_arguments, absent, read_node, in_acl, searched, matched, ordered_as, asks_match, compared_with, Given, given, one_more, with_argument, second_string, substitution, xkey, director, called}
+use Rattle.vcl_code.specs.Arenas.{Numbered, with_node, with_text, with_pattern, one, two}
+use Rattle.vcl_code.specs.Names.{Known, Plain, Field, NoTarget, Read, OfTarget, Truth, Backend, NoRead, read_of, acl_of, callee_of}
+use Rattle.vcl_code.specs.Expressions.{numbered, numbered_arguments, absent, read_node, in_acl, matched, ordered_as, asks_match, compared_with, Given, given, one_more, with_argument, second_string, substitution, xkey, director, called}
 use Rattle.vcl_program.specs.Falling.{AreBelow, IsAbove, AllAbove, IsFalling}
 
 along : (n : Made) (i j : ℕ) → i ≡ j → IsAbove i n → IsAbove j n

@@ -1,5 +1,5 @@
 -- Statements and blocks are numbered with each node above its parts.
-use Rattle.std.proofs.Common.{◌≡◌, ℕ, ◌+◌, ◌<◌, suc, Bool, true, false, length, List, [], ◌∷◌, ◌++◌, refl, sym, subst, Option, Some, None, add-zero, zero-add, arith}
+use Rattle.std.proofs.Common.{◌≡◌, ℕ, ◌+◌, suc, Bool, true, false, length, List, [], ◌∷◌, ◌++◌, refl, sym, subst, Option, Some, None, add-zero, zero-add, arith}
 use Rattle.std.proofs.lemmas.List.{length-append}
 use Rattle.vcl_tree.specs.Phrase as phrase
 use Rattle.vcl_tree.specs.Phrase.{Phrase, Node, Named, More, Bound, Called, Set, Append, Unset, Jump, Return, If, ElseIf, Else}
@@ -22,10 +22,10 @@ use Rattle.vcl_code.specs.declared.node.Node.{Node as Made}
 use Rattle.vcl_code.specs.declared.callees.Builtin.TheVariants as builtin
 use Rattle.vcl_code.specs.declared.names.Callee.{Callee}
 use Rattle.vcl_code.specs.declared.names.Callee.TheVariants as callee
-use Rattle.vcl_code.specs.Arenas.{Numbered, at, empty}
+use Rattle.vcl_code.specs.Arenas.{Numbered, empty}
 use Rattle.vcl_code.specs.Names.{Known, Target, Plain, Field, NoTarget, target_of, subroutine_of, word_of, callee_of}
-use Rattle.vcl_code.specs.Expressions.{numbered, numbered_arguments, second_string, Given, given, called}
-use Rattle.vcl_code.specs.Statements.{Acted, acted, Acts, acts, with_chain, chained, Arms, arms_in, Chosen, branch, with_more_arms, with_arms, if_acted, else_acted, set_acted, append_acted, unset_acted, call_acted, return_acted, with_one, performed, action_of, arms_of, arm_of, actions_of, numbered_block}
+use Rattle.vcl_code.specs.Expressions.{numbered, numbered_arguments, second_string, Given, called}
+use Rattle.vcl_code.specs.Statements.{Acts, with_chain, chained, Arms, arms_in, Chosen, branch, with_more_arms, with_arms, if_acted, set_acted, append_acted, unset_acted, call_acted, return_acted, with_one, performed, action_of, arms_of, arm_of, actions_of, numbered_block}
 use Rattle.vcl_program.specs.Codes.{known_of, own_of, code_of}
 use Rattle.vcl_program.specs.Blocks.{Heads, heads, no_bodies, own_block, with_own, all_own, body, with_body, all_bodies}
 use Rattle.vcl_program.specs.Falling.{IsFalling, IsBelow, AllBelow, BranchesFall}

@@ -2,7 +2,7 @@
 use Rattle.std.proofs.lemmas.List.{at_drop_all, append-nil, append_assoc}
 use Rattle.std.proofs.Math.Seq.{take-suc}
 use Rattle.std.proofs.Common.{◌≡◌, ◌≤◌, ◌<◌, ◌+◌, ℕ, length, drop, take, get_or, List, [], ◌∷◌, ◌++◌, refl, sym, ap, ◌∙◌, add-one, ◌-◌, arith, None, Some, Option}
-use Rattle.vcl_tree.specs.Phrase.{Phrase, Node, Nothing, More, Either, Both, Named, Called, If, ElseIf, Else, chain, list_of}
+use Rattle.vcl_tree.specs.Phrase.{Phrase, Node, Nothing, More, Either, Both, Named, Called, If, ElseIf, chain, list_of}
 use Rattle.vcl_tree.specs.StatementView.{with_else}
 use Rattle.vcl_tree.specs.ExpressionView.{sum_of, sum_label}
 use Rattle.vcl_tree.specs.declared.expression.Addend.{Addend}

@@ -1,5 +1,5 @@
 -- The entries of an ACL that has no fault are an address list without one.
-use Rattle.std.proofs.Common.{◌≡◌, ◌⊎◌, inl, inr, ℕ, ◌+◌, ◌<◌, ◌≤◌, zero, suc, nat_lt, ℤ, pos, negsuc, unsigned_abs, Bool, true, false, not, ◌&&◌, length, map, List, [], ◌∷◌, ◌++◌, refl, sym, ap, ◌∙◌, subst, position, Option, Some, None, is_some, option_map, slice_get, zero-add, arith, if◌then◌else◌}
+use Rattle.std.proofs.Common.{◌≡◌, ◌⊎◌, inl, inr, ℕ, ◌+◌, ◌<◌, ◌≤◌, zero, suc, nat_lt, ℤ, pos, negsuc, unsigned_abs, Bool, true, false, not, map, List, [], ◌∷◌, ◌++◌, refl, sym, ap, ◌∙◌, subst, position, Option, Some, None, is_some, option_map, slice_get, zero-add, arith, if◌then◌else◌}
 use Rattle.std.specs.Prelude.{Contains}
 use Rattle.std.specs.Int.{w64, to_be_bytes}
 use Rattle.std.specs.Str.{bytes_eq}

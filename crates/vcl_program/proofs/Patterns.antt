@@ -3,15 +3,13 @@ use Rattle.std.proofs.Common.{◌≡◌, ◌⊎◌, inl, inr, ℕ, ◌-◌, zero
 use Rattle.std.specs.Str.{bytes_eq}
 use Rattle.std.proofs.lemmas.List.Elements.{Contains-append_left, Contains-push, Contains-push_cases}
 use Rattle.std.specs.Prelude.{Contains}
-use Rattle.vcl_tree.specs.Phrase as phrase
-use Rattle.vcl_tree.specs.Phrase.{Phrase, Label, Node, String, Integer, Duration, Named, Nothing, More, Bound, Called, Either, Both, Not, Group, Compared, Added, Subtracted, Set, Append, Unset, Jump, New, Return, If, ElseIf, Else}
-use Rattle.vcl_tree.specs.declared.expression.Comparison.{Comparison as Asked}
+use Rattle.vcl_tree.specs.Phrase.{Phrase, Node, String, Named, Nothing, More, Called, Either, Both, Not, Group, Compared, Added, Subtracted}
 use Rattle.vcl_tree.specs.declared.expression.Comparison.TheVariants as asked
 use Rattle.vcl_language.specs.Functions.{function_named}
 use Rattle.vcl_language.specs.declared.functions.TheConstants.{FUNCTIONS}
 use Rattle.vcl_tree.specs.Endings.{ends_in}
 use Rattle.vcl_check.specs.declared.mentions.MentionKind.TheVariants as kind
-use Rattle.vcl_check.specs.Mentions.{Said, said, said_string, own_string, called_string, has_pattern, with_found, with_strings, with_given, with_call, with_object, with_answer, with_mentions, parts}
+use Rattle.vcl_check.specs.Mentions.{Said, said, said_string, own_string, called_string, has_pattern, with_found, with_strings, parts}
 use Rattle.vcl_code.specs.declared.arena.Arena.{Arena}
 use Rattle.vcl_code.specs.declared.callees.Builtin.{Builtin}
 use Rattle.vcl_code.specs.declared.callees.Builtin.TheVariants as builtin
@@ -22,10 +20,9 @@ use Rattle.vcl_code.specs.declared.names.Callee.{Callee}
 use Rattle.vcl_code.specs.declared.names.Callee.TheVariants as callee
 use Rattle.vcl_code.specs.declared.node.Arguments.{Arguments}
 use Rattle.vcl_code.specs.declared.node.Arguments.TheVariants.{Zero, One, Two, Three, More as TooMany}
-use Rattle.vcl_code.specs.declared.node.Node.TheVariants as node
-use Rattle.vcl_code.specs.Arenas.{Numbered, with_node}
-use Rattle.vcl_code.specs.Names.{Known, Target, Plain, Field, NoTarget, Read, OfTarget, Truth, Backend, NoRead, read_of, acl_of, callee_of, builtin_of, stored_of, director_in, director_of, stored_or_director, builtin_or_other, thing_named}
-use Rattle.vcl_code.specs.Expressions.{numbered, numbered_arguments, read_node, in_acl, matched, ordered_as, asks_match, compared_with, Given, given, string_of, second_string, substitution, xkey, director, called}
+use Rattle.vcl_code.specs.Arenas.{Numbered}
+use Rattle.vcl_code.specs.Names.{Known, Plain, Field, NoTarget, Read, OfTarget, Truth, Backend, NoRead, read_of, acl_of, callee_of, builtin_of, stored_of, director_in, stored_or_director, builtin_or_other, thing_named}
+use Rattle.vcl_code.specs.Expressions.{numbered, numbered_arguments, read_node, in_acl, matched, Given, given, string_of, second_string, substitution, xkey, director, called}
 
 -- a string is said to be a pattern
 abbrev pub IsSaid : List Said → List ℕ → Type 0

@@ -1,5 +1,5 @@
 -- Each pattern of a whole text in numbers is a string that the text says must be one.
-use Rattle.std.proofs.Common.{◌≡◌, ◌⊎◌, inl, inr, ℕ, Bool, true, false, List, [], ◌∷◌, ◌++◌, zero, suc, slice_get, get_or, refl, sym, ap, ◌∙◌, subst, arith, Option, Some, None}
+use Rattle.std.proofs.Common.{◌≡◌, inl, inr, ℕ, Bool, true, false, List, [], ◌∷◌, ◌++◌, zero, suc, slice_get, get_or, refl, sym, ap, ◌∙◌, subst, arith, Option, Some, None}
 use Rattle.std.proofs.lemmas.List.Elements.{Contains-append_left, Contains-get_or}
 use Rattle.std.proofs.lemmas.Option.{slice_get-get_or}
 use Rattle.std.specs.List.{All, cons_option}
@@ -14,7 +14,7 @@ use Rattle.vmod_host.specs.declared.signature.Stored.{Stored}
 use Rattle.vcl_check.specs.declared.mentions.MentionKind.{MentionKind}
 use Rattle.vcl_check.specs.declared.mentions.MentionKind.TheVariants as kind
 use Rattle.vcl_check.specs.Texts.{says, pattern_if, pattern_of, pattern_texts}
-use Rattle.vcl_check.specs.Mentions.{Said, said, said_of, called_string, with_found, with_strings, with_given, with_call, made, with_object, with_answer, with_mentions, with_item, with_items}
+use Rattle.vcl_check.specs.Mentions.{Said, said, said_of, called_string, with_found, with_strings, with_given, with_call, object_kind, made, with_object, with_answer, with_mentions, with_item, with_items}
 use Rattle.vcl_code.specs.declared.arena.Arena.{Arena}
 use Rattle.vcl_code.specs.declared.callees.Builtin.TheVariants as builtin
 use Rattle.vcl_code.specs.declared.names.Callee.{Callee}
@@ -30,10 +30,10 @@ use Rattle.vcl_code.specs.declared.node.ReturnWord.{ReturnWord}
 use Rattle.vcl_code.specs.Arenas.{Numbered, empty}
 use Rattle.vcl_code.specs.Names.{Known, Target, Plain, Field, NoTarget, target_of, subroutine_of, word_of, callee_of}
 use Rattle.vcl_code.specs.Expressions.{numbered, numbered_arguments, second_string, Given, given}
-use Rattle.vcl_code.specs.Statements.{Acts, with_chain, chained, with_arms, if_acted, set_acted, append_acted, unset_acted, call_acted, return_acted, with_one, performed, action_of, arms_of, arm_of, actions_of, numbered_block}
+use Rattle.vcl_code.specs.Statements.{Acts, with_chain, chained, with_arms, set_acted, append_acted, unset_acted, call_acted, return_acted, with_one, performed, action_of, arms_of, arm_of, actions_of, numbered_block}
 use Rattle.vcl_program.specs.Codes.{known_of, own_of, code_of}
 use Rattle.vcl_program.specs.Blocks.{Heads, heads, no_bodies, own_block, with_own, all_own, body, with_body, all_bodies}
-use Rattle.vcl_program.proofs.Patterns.{IsSaid, Comes, found-stays, strings-stay, said-later, comes-later, comes-through, same-contains, plain-comes, call-comes, expression-comes, arguments-come}
+use Rattle.vcl_program.proofs.Patterns.{IsSaid, Comes, strings-stay, said-later, comes-through, same-contains, plain-comes, call-comes, expression-comes, arguments-come}
 
 -- what is said stays
 one-stays : (before : List Said) (s x : Said) → Contains before x → Contains (before ++ s ∷ []) x
@@ -47,14 +47,14 @@ call-stays : (owner : List ℕ) (before : List Said) (e : Phrase) (x : Said) →
 call-stays owner before (Named place name) x h = one-stays before (said kind.Call place name owner) x h
 call-stays owner before _ x h = h
 
-made-stays : (place : ℕ) (name : List ℕ) (before : List Said) (e : Phrase) (x : Said) → Contains before x → Contains (made place name before e) x
-made-stays place name before (Node Called (Named q maker) arguments) x h =
-    strings-stay (before ++ said kind.Object place name maker ∷ []) arguments x (one-stays before (said kind.Object place name maker) x h)
-made-stays place name before _ x h = h
+made-stays : (owner : List ℕ) (place : ℕ) (name : List ℕ) (before : List Said) (e : Phrase) (x : Said) → Contains before x → Contains (made owner place name before e) x
+made-stays owner place name before (Node Called (Named q maker) arguments) x h =
+    let s = said (object_kind owner) place name maker in strings-stay (before ++ s ∷ []) arguments x (one-stays before s x h)
+made-stays owner place name before _ x h = h
 
-object-stays : (before : List Said) (e : Phrase) (x : Said) → Contains before x → Contains (with_object before e) x
-object-stays before (Node Bound (Named place name) maker) x h = made-stays place name before maker x h
-object-stays before _ x h = h
+object-stays : (owner : List ℕ) (before : List Said) (e : Phrase) (x : Said) → Contains before x → Contains (with_object owner before e) x
+object-stays owner before (Node Bound (Named place name) maker) x h = made-stays owner place name before maker x h
+object-stays owner before _ x h = h
 
 answer-stays : (before : List Said) (e : Phrase) (x : Said) → Contains before x → Contains (with_answer before e) x
 answer-stays before (Node Called word arguments) x h = strings-stay before arguments x h
@@ -69,7 +69,7 @@ mentions-stay owner before (Node phrase.Branch condition block) x h = mentions-s
 mentions-stay owner before (Node Set a b) x h = given-stays before b x h
 mentions-stay owner before (Node Append a b) x h = given-stays before b x h
 mentions-stay owner before (Node Jump a b) x h = call-stays owner before b x h
-mentions-stay owner before (Node New a b) x h = object-stays before b x h
+mentions-stay owner before (Node New a b) x h = object-stays owner before b x h
 mentions-stay owner before (Node Return a b) x h = answer-stays before b x h
 mentions-stay owner before (Node Called a b) x h = strings-stay before (Node Called a b) x h
 mentions-stay owner before _ x h = h

@@ -1,5 +1,5 @@
 -- The address lists of a sound text in numbers have no fault.
-use Rattle.std.proofs.Common.{◌≡◌, ◌<◌, ℕ, suc, Bool, true, false, length, List, [], ◌∷◌, ◌++◌, refl, sym, ◌∙◌, subst, Option, Some, None, arith, if◌then◌else◌}
+use Rattle.std.proofs.Common.{◌≡◌, ◌<◌, ℕ, suc, Bool, true, false, length, List, [], ◌∷◌, refl, sym, ◌∙◌, subst, Option, Some, None, arith, if◌then◌else◌}
 use Rattle.std.proofs.Math.Logic.{∥∥₁_elim}
 use Rattle.std.specs.List.{All}
 use Rattle.std.specs.Prelude.{Contains}

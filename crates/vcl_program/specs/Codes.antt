@@ -1,5 +1,5 @@
 -- The numbered form of a whole text.
-use Rattle.std.specs.Prelude.{ℕ, Bool, List, [], Option, Some, None, codes, position}
+use Rattle.std.specs.Prelude.{ℕ, Bool, List, [], codes, position}
 use Rattle.std.specs.Option.{unwrap_or}
 use Rattle.std.specs.Str.{bytes_eq}
 use Rattle.vcl_values.specs.declared.value.Backend.{Backend}

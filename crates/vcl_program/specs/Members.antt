@@ -1,5 +1,5 @@
 -- The members of directors, each where a text adds it.
-use Rattle.std.specs.Prelude.{ℕ, ◌-◌, ℤ, pos, Bool, ◌&&◌, nat_le, List, [], ◌∷◌, ◌++◌, length, take, Option, Some, None, codes, unsigned_abs, if◌then◌else◌}
+use Rattle.std.specs.Prelude.{ℕ, ◌-◌, pos, Bool, ◌&&◌, nat_le, List, [], ◌∷◌, length, take, Option, Some, None, codes, unsigned_abs, if◌then◌else◌}
 use Rattle.std.specs.Int.Signed.{lt_z}
 use Rattle.vcl_tree.specs.Endings.{ends_in}
 use Rattle.vcl_tree.specs.Phrase.{Phrase, Node, Named, Integer, Weight, More, Called, Group}

@@ -12,8 +12,6 @@ mod declarations;
 mod laws;
 mod members;
 mod numbering;
-#[cfg(test)]
-mod tests;
 
 pub use code::{Code, Director, Member, number_of};
 pub use compiled::Compiled;

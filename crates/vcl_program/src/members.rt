@@ -2,7 +2,6 @@
 ghost use Rattle.std.specs.Prelude.{◌≡◌, ◌≤◌, ◌-◌, ◌&&◌, pos, unsigned_abs, nat_le, [], length, take, position, slice_get, option_and_then, IfOk, OnOk};
 ghost use Rattle.std.specs.Int.Signed.{lt_z};
 ghost use Rattle.std.specs.Str.{bytes_eq};
-ghost use Rattle.vcl_tree.specs.Endings.{ends_in};
 ghost use Rattle.vcl_tree.specs.Phrase.{list_of};
 ghost use Rattle.vcl_check.specs.Views.{whole_part};
 ghost use Rattle.vcl_code.specs.Names.{thing_named};
@@ -15,7 +14,7 @@ use std::alloc::{AllocError, Global};
 use units::{Sequence, Text};
 use vcl_check::whole_part;
 use vcl_code::{Names, Read, Thing};
-use vcl_tree::{Action, Block, Expression, Item, Operation, Statement};
+use vcl_tree::{Action, Block, Expression, Item, Operation, Statement, ends_in};
 
 /// The members of all directors, in the text's order.
 pub fn members(
@@ -143,13 +142,6 @@ fn thing_named(names: &Names<'_>, name: &[u8]) -> Option<Thing>
         None => None,
         Some(number) => names.things.get(number).copied(),
     }
-}
-
-fn ends_in(suffix: &[u8], text: &[u8]) -> bool
-    ensures { result ≡ ends_in suffix.now text.now }
-{
-    let front = text.len().saturating_sub(suffix.len());
-    &text[front..] == suffix
 }
 
 // A name without its last twelve bytes, `.add_backend`.

@@ -1,5 +1,5 @@
 -- By the grammar, an expression without a fault is numbered with no part that has no meaning.
-use Rattle.std.proofs.Common.{◌≡◌, ℕ, Bool, true, false, not, ◌||◌, List, refl, sym, subst, Option, Some, None}
+use Rattle.std.proofs.Common.{◌≡◌, ℕ, Bool, true, not, ◌||◌, ◌&&◌, List, refl, sym, subst, Option, Some, None}
 use Rattle.std.proofs.lemmas.Option.{none-some}
 use Rattle.directors.specs.declared.director.DirectorKind.{DirectorKind}
 use Rattle.directors.specs.declared.director.DirectorKind.TheVariants as director
@@ -28,7 +28,7 @@ use Rattle.vcl_check.specs.declared.seen.Meaning.{Meaning}
 use Rattle.vcl_check.specs.declared.seen.Meaning.TheVariants as meaning
 use Rattle.vcl_check.specs.declared.seen.Sort.{Sort}
 use Rattle.vcl_check.specs.declared.seen.Sort.TheVariants as sort
-use Rattle.vcl_check.specs.Calls.{with_argument, is_string, is_weight, mistyped, unwritten, or_else, leftmost_unwritten, ill_called}
+use Rattle.vcl_check.specs.Calls.{with_argument, is_string, mistyped, unwritten, or_else, leftmost_unwritten, ill_called}
 use Rattle.vcl_check.specs.Kinds.{is_value, is_condition, is_ordered, alike, may_add, sum_kind, sum_sort, difference_kind, difference_sort, accepts, grouped_sort, is_ip, is_acl, is_searched}
 use Rattle.vcl_check.specs.Known as check
 use Rattle.vcl_check.specs.Known.{meaning_of}
@@ -45,7 +45,8 @@ use Rattle.vcl_code.specs.Arenas.{with_pattern}
 use Rattle.vcl_code.specs.Names.{Known, acl_of, callee_of}
 use Rattle.vcl_code.specs.Expressions.{numbered, numbered_arguments, string_of, second_string, substitution, called}
 use Rattle.vcl_store.specs.Presence.{AreCounted, IsPresent}
-use Rattle.vcl_store.proofs.Rows.{false-true, takes_of, gives_of}
+use Rattle.vcl_store.proofs.Rows.{false-true, both-true, takes_of, gives_of}
+use Rattle.vcl_store.proofs.Weights.{is_weightless, are_weightless, asked-weightless}
 use Rattle.vcl_store.proofs.Names.{Meet, ReadAs, name-read, Calls, of_language, of_table, of_director, to_director, KnownCall, function-calls}
 use Rattle.vcl_store.proofs.Clean.{Clean, left-clean, right-clean, fits, written, known-name}
 use Rattle.vcl_store.proofs.Values.{push-node, push-pattern, Adds, Good, unless-none, both-fits, or-none, value-adds, condition-adds, ordered-adds, alike-adds, accepts-adds, added-good, subtracted-good, grouped-good, string-adds, integer-adds, duration-adds, named-good, either-adds, both-adds, sum-adds, difference-adds, not-adds, group-adds, IsOrder, order-adds, MatchStands, match-adds, mismatch-adds, weight-no-string}
@@ -64,46 +65,51 @@ not-none x e = none-some x (sym e)
 
 -- what is taken where it stands
 abbrev Taken : Argument → Type 0
-Taken x = (p : Parameter) × (mistyped (Some p) x ≡ None) × (unwritten (Some p) x ≡ None)
+Taken x = (p : Parameter) × (is_weightless p ≡ true) × (mistyped (Some p) x ≡ None) × (unwritten (Some p) x ≡ None)
 
-one-taken : (t : Takes) (x : Argument) (place : ℕ) → ill_called t (seens.One x) place ≡ None → leftmost_unwritten t (seens.One x) ≡ None → Taken x
-one-taken takes.Nothing x place e u = absurd (not-none place e)
-one-taken (takes.One p) x place e u = (p, e, u)
-one-taken (takes.OneOrTwo p q) x place e u = (p, e, u)
-one-taken (takes.UpToTwo p q) x place e u = (p, e, u)
-one-taken (takes.Two p q) x place e u = absurd (not-none place e)
-one-taken (takes.Three p q r) x place e u = absurd (not-none place e)
+one-taken : (t : Takes) (x : Argument) (place : ℕ) → are_weightless t ≡ true → ill_called t (seens.One x) place ≡ None → leftmost_unwritten t (seens.One x) ≡ None → Taken x
+one-taken takes.Nothing x place w e u = absurd (not-none place e)
+one-taken (takes.One p) x place w e u = (p, w, e, u)
+one-taken (takes.OneOrTwo p q) x place w e u = (p, (both-true (is_weightless p) (is_weightless q) w).0, e, u)
+one-taken (takes.UpToTwo p q) x place w e u = (p, (both-true (is_weightless p) (is_weightless q) w).0, e, u)
+one-taken (takes.Two p q) x place w e u = absurd (not-none place e)
+one-taken (takes.Three p q r) x place w e u = absurd (not-none place e)
 
-two-taken : (t : Takes) (x y : Argument) (place : ℕ) → ill_called t (seens.Two x y) place ≡ None → leftmost_unwritten t (seens.Two x y) ≡ None → Taken x × Taken y
-two-taken takes.Nothing x y place e u = absurd (not-none place e)
-two-taken (takes.One p) x y place e u = absurd (not-none place e)
-two-taken (takes.OneOrTwo p q) x y place e u =
+two-taken : (t : Takes) (x y : Argument) (place : ℕ) → are_weightless t ≡ true → ill_called t (seens.Two x y) place ≡ None → leftmost_unwritten t (seens.Two x y) ≡ None → Taken x × Taken y
+two-taken takes.Nothing x y place w e u = absurd (not-none place e)
+two-taken (takes.One p) x y place w e u = absurd (not-none place e)
+two-taken (takes.OneOrTwo p q) x y place w e u =
+    let v = both-true (is_weightless p) (is_weightless q) w in
     let m = or-none (mistyped (Some p) x) (mistyped (Some q) y) e in
     let n = or-none (unwritten (Some p) x) (unwritten (Some q) y) u in
-    ((p, m.0, n.0), (q, m.1, n.1))
-two-taken (takes.UpToTwo p q) x y place e u =
+    ((p, v.0, m.0, n.0), (q, v.1, m.1, n.1))
+two-taken (takes.UpToTwo p q) x y place w e u =
+    let v = both-true (is_weightless p) (is_weightless q) w in
     let m = or-none (mistyped (Some p) x) (mistyped (Some q) y) e in
     let n = or-none (unwritten (Some p) x) (unwritten (Some q) y) u in
-    ((p, m.0, n.0), (q, m.1, n.1))
-two-taken (takes.Two p q) x y place e u =
+    ((p, v.0, m.0, n.0), (q, v.1, m.1, n.1))
+two-taken (takes.Two p q) x y place w e u =
+    let v = both-true (is_weightless p) (is_weightless q) w in
     let m = or-none (mistyped (Some p) x) (mistyped (Some q) y) e in
     let n = or-none (unwritten (Some p) x) (unwritten (Some q) y) u in
-    ((p, m.0, n.0), (q, m.1, n.1))
-two-taken (takes.Three p q r) x y place e u = absurd (not-none place e)
+    ((p, v.0, m.0, n.0), (q, v.1, m.1, n.1))
+two-taken (takes.Three p q r) x y place w e u = absurd (not-none place e)
 
-three-taken : (t : Takes) (x y z : Argument) (place : ℕ) → ill_called t (seens.Three x y z) place ≡ None → leftmost_unwritten t (seens.Three x y z) ≡ None
+three-taken : (t : Takes) (x y z : Argument) (place : ℕ) → are_weightless t ≡ true → ill_called t (seens.Three x y z) place ≡ None → leftmost_unwritten t (seens.Three x y z) ≡ None
     → Taken x × Taken y × Taken z
-three-taken takes.Nothing x y z place e u = absurd (not-none place e)
-three-taken (takes.One p) x y z place e u = absurd (not-none place e)
-three-taken (takes.OneOrTwo p q) x y z place e u = absurd (not-none place e)
-three-taken (takes.UpToTwo p q) x y z place e u = absurd (not-none place e)
-three-taken (takes.Two p q) x y z place e u = absurd (not-none place e)
-three-taken (takes.Three p q r) x y z place e u =
+three-taken takes.Nothing x y z place w e u = absurd (not-none place e)
+three-taken (takes.One p) x y z place w e u = absurd (not-none place e)
+three-taken (takes.OneOrTwo p q) x y z place w e u = absurd (not-none place e)
+three-taken (takes.UpToTwo p q) x y z place w e u = absurd (not-none place e)
+three-taken (takes.Two p q) x y z place w e u = absurd (not-none place e)
+three-taken (takes.Three p q r) x y z place w e u =
+    let s = both-true (is_weightless p) (is_weightless q && is_weightless r) w in
+    let t = both-true (is_weightless q) (is_weightless r) s.1 in
     let m = or-none (mistyped (Some p) x) (or_else (mistyped (Some q) y) (mistyped (Some r) z)) e in
     let o = or-none (mistyped (Some q) y) (mistyped (Some r) z) m.1 in
     let n = or-none (unwritten (Some p) x) (or_else (unwritten (Some q) y) (unwritten (Some r) z)) u in
     let v = or-none (unwritten (Some q) y) (unwritten (Some r) z) n.1 in
-    ((p, m.0, n.0), (q, o.0, v.0), (r, o.1, v.1))
+    ((p, s.0, m.0, n.0), (q, t.0, o.0, v.0), (r, t.1, o.1, v.1))
 
 pub too-many : (t : Takes) (place : ℕ) → ill_called t seens.More place ≡ None → ⊥
 too-many takes.Nothing place e = not-none place e
@@ -188,100 +194,76 @@ string-matches : (numbers : Known) (e : Phrase) (text : List ℕ) → string_of 
 string-matches numbers (String place text) source e = tt
 string-matches numbers _ source e = absurd (none-some source e)
 
-weight-adds : (known : check.Known) (numbers : Known) (e : Phrase) → is_weight (view_of known Value e).literal ≡ true → Good numbers (view_of known Value e).sort e → Adds numbers e
-weight-adds known numbers (Integer place n) h g = g
-weight-adds known numbers (Weight place digits) h g = g
-weight-adds known numbers (String place text) h g = absurd (false-true h)
-weight-adds known numbers Nothing h g = absurd (false-true h)
-weight-adds known numbers (At place) h g = absurd (false-true h)
-weight-adds known numbers (Named place name) h g = absurd (false-true h)
-weight-adds known numbers (Duration place n) h g = absurd (false-true h)
-weight-adds known numbers (Node label a b) h g = absurd (no-weight label h)
-  where
-    no-weight : (label : Label) → is_weight (view_of known Value (Node label a b)).literal ≡ true → ⊥
-    no-weight Either h = false-true h
-    no-weight Both h = false-true h
-    no-weight (Compared how) h = false-true h
-    no-weight Added h = false-true h
-    no-weight Subtracted h = false-true h
-    no-weight Not h = false-true h
-    no-weight Group h = false-true h
-    no-weight Called h = false-true h
-    no-weight _ h = false-true h
-
 -- an argument that is taken is a value
-taken-adds : (known : check.Known) (numbers : Known) (e : Phrase) (p : Parameter) → mistyped (Some p) (argument_of (view_of known Value e)) ≡ None
-    → unwritten (Some p) (argument_of (view_of known Value e)) ≡ None → Good numbers (view_of known Value e).sort e → Adds numbers e
-taken-adds known numbers e (parameter.Value k) m u g =
-    let v = view_of known Value e in accepts-adds numbers k v.sort e (unless-none (accepts k v.sort) v.first m) g
-taken-adds known numbers e parameter.Pattern m u g =
-    let v = view_of known Value e in
-    let s = string-text known e (unless-none (is_string v.literal) v.first u) in
-    string-of-adds numbers e s.0 s.1
-taken-adds known numbers e parameter.Weight m u g = let v = view_of known Value e in weight-adds known numbers e (unless-none (is_weight v.literal) v.first m) g
+taken-adds : (known : check.Known) (numbers : Known) (e : Phrase) → Taken (argument_of (view_of known Value e)) → Good numbers (view_of known Value e).sort e → Adds numbers e
+taken-adds known numbers e x g = by-parameter x.0 x.1 x.2 x.3
+  where
+    by-parameter : (p : Parameter) → is_weightless p ≡ true → mistyped (Some p) (argument_of (view_of known Value e)) ≡ None
+        → unwritten (Some p) (argument_of (view_of known Value e)) ≡ None → Adds numbers e
+    by-parameter (parameter.Value k) w m u = let v = view_of known Value e in accepts-adds numbers k v.sort e (unless-none (accepts k v.sort) v.first m) g
+    by-parameter parameter.Pattern w m u =
+        let v = view_of known Value e in
+        let s = string-text known e (unless-none (is_string v.literal) v.first u) in
+        string-of-adds numbers e s.0 s.1
+    by-parameter parameter.Weight w m u = absurd (false-true w)
 
 module _ (known : check.Known) (numbers : Known) (meet : Meet known numbers) (roots : List Subroutine) where
   -- arguments that a function takes
   pub arguments-add : {l : Phrase} → AreFine known numbers roots l → Clean known roots Arguments l → (t : Takes) (place : ℕ)
-      → ill_called t (view_of known Arguments l).arguments place ≡ None → leftmost_unwritten t (view_of known Arguments l).arguments ≡ None → ArgumentsAdd numbers l
-  arguments-add none c t place e u = nothing-adds numbers
-  arguments-add (more {e = x} none f) c t place e u =
+      → are_weightless t ≡ true → ill_called t (view_of known Arguments l).arguments place ≡ None → leftmost_unwritten t (view_of known Arguments l).arguments ≡ None → ArgumentsAdd numbers l
+  arguments-add none c t place w e u = nothing-adds numbers
+  arguments-add (more {e = x} none f) c t place w e u =
       let x-clean = right-clean known roots Arguments More Nothing x c in
-      let x-taken = one-taken t (argument_of (view_of known Value x)) place e u in
-      one-adds numbers x (taken-adds known numbers x x-taken.0 x-taken.1 x-taken.2 (f x-clean))
-  arguments-add (more {e = y} (more {e = x} none f) g) c t place e u =
+      let x-taken = one-taken t (argument_of (view_of known Value x)) place w e u in
+      one-adds numbers x (taken-adds known numbers x x-taken (f x-clean))
+  arguments-add (more {e = y} (more {e = x} none f) g) c t place w e u =
       let front = left-clean known roots Arguments More (Node More Nothing x) y c in
-      let both-taken = two-taken t (argument_of (view_of known Value x)) (argument_of (view_of known Value y)) place e u in
-      let x-taken = both-taken.0 in
-      let y-taken = both-taken.1 in
-      two-add numbers x y (taken-adds known numbers x x-taken.0 x-taken.1 x-taken.2 (f (right-clean known roots Arguments More Nothing x front)))
-      (taken-adds known numbers y y-taken.0 y-taken.1 y-taken.2 (g (right-clean known roots Arguments More (Node More Nothing x) y c)))
-  arguments-add (more {e = z} (more {e = y} (more {e = x} none f) g) h) c t place e u =
+      let both-taken = two-taken t (argument_of (view_of known Value x)) (argument_of (view_of known Value y)) place w e u in
+      two-add numbers x y (taken-adds known numbers x both-taken.0 (f (right-clean known roots Arguments More Nothing x front)))
+      (taken-adds known numbers y both-taken.1 (g (right-clean known roots Arguments More (Node More Nothing x) y c)))
+  arguments-add (more {e = z} (more {e = y} (more {e = x} none f) g) h) c t place w e u =
       let two = Node More (Node More Nothing x) y in
       let front = left-clean known roots Arguments More two z c in
       let first = left-clean known roots Arguments More (Node More Nothing x) y front in
-      let all-taken = three-taken t (argument_of (view_of known Value x)) (argument_of (view_of known Value y)) (argument_of (view_of known Value z)) place e u in
-      let x-taken = all-taken.0 in
-      let y-taken = all-taken.1 in
-      let z-taken = all-taken.2 in
-      three-add numbers x y z (taken-adds known numbers x x-taken.0 x-taken.1 x-taken.2 (f (right-clean known roots Arguments More Nothing x first)))
-      (taken-adds known numbers y y-taken.0 y-taken.1 y-taken.2 (g (right-clean known roots Arguments More (Node More Nothing x) y front)))
-      (taken-adds known numbers z z-taken.0 z-taken.1 z-taken.2 (h (right-clean known roots Arguments More two z c)))
-  arguments-add (more {e = z} (more {e = y} (more {e = x} (more {l = l} {e = w} k d) f) g) h) c t place e u =
-      let A : Phrase → Argument = λ v. argument_of (view_of known Value v) in
+      let all-taken = three-taken t (argument_of (view_of known Value x)) (argument_of (view_of known Value y)) (argument_of (view_of known Value z)) place w e u in
+      three-add numbers x y z (taken-adds known numbers x all-taken.0 (f (right-clean known roots Arguments More Nothing x first)))
+      (taken-adds known numbers y all-taken.1 (g (right-clean known roots Arguments More (Node More Nothing x) y front)))
+      (taken-adds known numbers z all-taken.2 (h (right-clean known roots Arguments More two z c)))
+  arguments-add (more {e = z} (more {e = y} (more {e = x} (more {l = l} {e = v} k d) f) g) h) c t place w e u =
+      let A : Phrase → Argument = λ p. argument_of (view_of known Value p) in
       let P : Seens → Type 0 = λ s. ill_called t s place ≡ None in
-      absurd (too-many t place (subst P (four-are-more (view_of known Arguments l).arguments (A w) (A x) (A y) (A z)) e))
+      absurd (too-many t place (subst P (four-are-more (view_of known Arguments l).arguments (A v) (A x) (A y) (A z)) e))
 
   -- a call of a function, whose arguments fit
   abbrev pub Listed : Phrase → Seens
   Listed l = (view_of known Arguments l).arguments
 
   pub xkey-adds : (place : ℕ) (name : List ℕ) (soft : Bool) {l : Phrase} → AreFine known numbers roots l → Clean known roots Arguments l → (p : Parameter) (at : ℕ)
-      → callee_of numbers name ≡ callee.Builtin (builtin.Xkey soft) → ill_called (takes.One p) (Listed l) at ≡ None → leftmost_unwritten (takes.One p) (Listed l) ≡ None
+      → is_weightless p ≡ true → callee_of numbers name ≡ callee.Builtin (builtin.Xkey soft) → ill_called (takes.One p) (Listed l) at ≡ None → leftmost_unwritten (takes.One p) (Listed l) ≡ None
       → Adds numbers (Node Called (Named place name) l)
   unfolding numbered_arguments
-  xkey-adds place name soft none c p at e i u = absurd (not-none at i)
-  xkey-adds place name soft (more {e = x} none f) c p at e i u =
-      let xs = arguments-add (more none f) c (takes.One p) at i u in
+  xkey-adds place name soft none c p at w e i u = absurd (not-none at i)
+  xkey-adds place name soft (more {e = x} none f) c p at w e i u =
+      let xs = arguments-add (more none f) c (takes.One p) at w i u in
       called-adds numbers place name (Node More Nothing x) (callee.Builtin (builtin.Xkey soft)) e
       (λ a q. push-node (numbered_arguments numbers (Node More Nothing x) a).arena (node.Xkey soft (numbered numbers x a).number) tt (xs a q).0)
-  xkey-adds place name soft (more (more none f) g) c p at e i u = absurd (not-none at i)
-  xkey-adds place name soft (more (more (more none f) g) h) c p at e i u = absurd (not-none at i)
-  xkey-adds place name soft (more {e = z} (more {e = y} (more {e = x} (more {l = l} {e = w} k d) f) g) h) c p at e i u =
-      let A : Phrase → Argument = λ v. argument_of (view_of known Value v) in
+  xkey-adds place name soft (more (more none f) g) c p at w e i u = absurd (not-none at i)
+  xkey-adds place name soft (more (more (more none f) g) h) c p at w e i u = absurd (not-none at i)
+  xkey-adds place name soft (more {e = z} (more {e = y} (more {e = x} (more {l = l} {e = v} k d) f) g) h) c p at w e i u =
+      let A : Phrase → Argument = λ x. argument_of (view_of known Value x) in
       let P : Seens → Type 0 = λ s. ill_called (takes.One p) s at ≡ None in
-      absurd (too-many (takes.One p) at (subst P (four-are-more (Listed l) (A w) (A x) (A y) (A z)) i))
+      absurd (too-many (takes.One p) at (subst P (four-are-more (Listed l) (A v) (A x) (A y) (A z)) i))
 
   pub substitute-adds : (place : ℕ) (name : List ℕ) (all : Bool) {l : Phrase} → AreFine known numbers roots l → Clean known roots Arguments l → (p r : Parameter) (at : ℕ)
-      → callee_of numbers name ≡ callee.Builtin (builtin.Substitute all) → ill_called (takes.Three p parameter.Pattern r) (Listed l) at ≡ None
+      → are_weightless (takes.Three p parameter.Pattern r) ≡ true → callee_of numbers name ≡ callee.Builtin (builtin.Substitute all) → ill_called (takes.Three p parameter.Pattern r) (Listed l) at ≡ None
       → leftmost_unwritten (takes.Three p parameter.Pattern r) (Listed l) ≡ None → Adds numbers (Node Called (Named place name) l)
   unfolding numbered_arguments
-  substitute-adds place name all none c p r at e i u = absurd (not-none at i)
-  substitute-adds place name all (more none f) c p r at e i u = absurd (not-none at i)
-  substitute-adds place name all (more (more none f) g) c p r at e i u = absurd (not-none at i)
-  substitute-adds place name all (more {e = z} (more {e = y} (more {e = x} none f) g) h) c p r at e i u =
+  substitute-adds place name all none c p r at w e i u = absurd (not-none at i)
+  substitute-adds place name all (more none f) c p r at w e i u = absurd (not-none at i)
+  substitute-adds place name all (more (more none f) g) c p r at w e i u = absurd (not-none at i)
+  substitute-adds place name all (more {e = z} (more {e = y} (more {e = x} none f) g) h) c p r at w e i u =
       let l : Phrase = Node More (Node More (Node More Nothing x) y) z in
-      let xs = arguments-add (more (more (more none f) g) h) c (takes.Three p parameter.Pattern r) at i u in
+      let xs = arguments-add (more (more (more none f) g) h) c (takes.Three p parameter.Pattern r) at w i u in
       let A : Phrase → Argument = λ v. argument_of (view_of known Value v) in
       let n = or-none (unwritten (Some p) (A x)) (or_else (unwritten (Some parameter.Pattern) (A y)) (unwritten (Some r) (A z))) u in
       let v = or-none (unwritten (Some parameter.Pattern) (A y)) (unwritten (Some r) (A z)) n.1 in
@@ -292,10 +274,10 @@ module _ (known : check.Known) (numbers : Known) (meet : Meet known numbers) (ro
       let P : Option (List ℕ) → Type 0 = λ o. IsPresent (substitution all o g.arguments g.arena).arena in
       let pattern = with_pattern text.0 g.arena in
       subst P (sym text.1) (push-node pattern.arena (node.Substitute all _ pattern.number _) tt (push-pattern g.arena text.0 (xs a q).0)))
-  substitute-adds place name all (more {e = z} (more {e = y} (more {e = x} (more {l = l} {e = w} k d) f) g) h) c p r at e i u =
-      let A : Phrase → Argument = λ v. argument_of (view_of known Value v) in
+  substitute-adds place name all (more {e = z} (more {e = y} (more {e = x} (more {l = l} {e = v} k d) f) g) h) c p r at w e i u =
+      let A : Phrase → Argument = λ x. argument_of (view_of known Value x) in
       let P : Seens → Type 0 = λ s. ill_called (takes.Three p parameter.Pattern r) s at ≡ None in
-      absurd (too-many (takes.Three p parameter.Pattern r) at (subst P (four-are-more (Listed l) (A w) (A x) (A y) (A z)) i))
+      absurd (too-many (takes.Three p parameter.Pattern r) at (subst P (four-are-more (Listed l) (A v) (A x) (A y) (A z)) i))
 
   -- a director is asked with one text or none
   two-asked : (kind : DirectorKind) (x y : Argument) (at : ℕ) → ill_called (method_of kind method.Backend).takes (seens.Two x y) at ≡ None → ⊥
@@ -319,7 +301,7 @@ module _ (known : check.Known) (numbers : Known) (meet : Meet known numbers) (ro
   director-adds place name k kind none c at e i u =
       called-adds numbers place name Nothing (callee.Director k) e (λ a q. push-node a (node.Director k) tt q)
   director-adds place name k kind (more {e = x} none f) c at e i u =
-      let xs = arguments-add (more none f) c (method_of kind method.Backend).takes at i u in
+      let xs = arguments-add (more none f) c (method_of kind method.Backend).takes at (asked-weightless kind) i u in
       called-adds numbers place name (Node More Nothing x) (callee.Director k) e
       (λ a q. push-node (numbered_arguments numbers (Node More Nothing x) a).arena (node.DirectorFor k (numbered numbers x a).number) tt (xs a q).0)
   director-adds place name k kind (more {e = y} (more {e = x} none f) g) c at e i u = absurd (two-asked kind _ _ at i)
@@ -332,8 +314,8 @@ module _ (known : check.Known) (numbers : Known) (meet : Meet known numbers) (ro
   built-good : (place : ℕ) (name : List ℕ) (b : Builtin) {l : Phrase} → AreFine known numbers roots l → Clean known roots Arguments l → (at : ℕ)
       → callee_of numbers name ≡ callee.Builtin b → ill_called (takes_of b) (Listed l) at ≡ None → leftmost_unwritten (takes_of b) (Listed l) ≡ None
       → Good numbers (given_sort (gives_of b)) (Node Called (Named place name) l)
-  built-good place name (builtin.Substitute all) g c at e i u = substitute-adds place name all g c (parameter.Value kind.String) (parameter.Value kind.String) at e i u
-  built-good place name (builtin.Xkey soft) g c at e i u = xkey-adds place name soft g c (parameter.Value kind.String) at e i u
+  built-good place name (builtin.Substitute all) g c at e i u = substitute-adds place name all g c (parameter.Value kind.String) (parameter.Value kind.String) at refl e i u
+  built-good place name (builtin.Xkey soft) g c at e i u = xkey-adds place name soft g c (parameter.Value kind.String) at refl e i u
   built-good place name builtin.HashData g c at e i u = tt
   built-good place name builtin.Synthetic g c at e i u = tt
   built-good place name builtin.Ban g c at e i u = tt
@@ -349,9 +331,9 @@ module _ (known : check.Known) (numbers : Known) (meet : Meet known numbers) (ro
       let U : Takes → Type 0 = λ t. leftmost_unwritten t (Listed l) ≡ None in
       let G : Option Kind → Type 0 = λ k. Good numbers (given_sort k) (Node Called (Named place name) l) in
       subst G (sym row.gives) (built-good place name b g c at e (subst I row.takes i) (subst U row.takes u))
-  function-good place name fn {l} (of_table k e) g c at i u =
-      given-good fn.gives (Node Called (Named place name) l) (stored-adds numbers place name l k e (arguments-add g c fn.takes at i u))
-  function-good place name fn {l} (of_director k kind e same ending) g c at i u =
+  function-good place name fn {l} (of_table k e w) g c at i u =
+      given-good fn.gives (Node Called (Named place name) l) (stored-adds numbers place name l k e (arguments-add g c fn.takes at w i u))
+  function-good place name fn {l} (of_director k kind e same) g c at i u =
       let I : Function → Type 0 = λ x. ill_called x.takes (Listed l) at ≡ None in
       let U : Function → Type 0 = λ x. leftmost_unwritten x.takes (Listed l) ≡ None in
       given-good fn.gives (Node Called (Named place name) l) (director-adds place name k kind g c at e (subst I same i) (subst U same u))
@@ -383,6 +365,7 @@ module _ (known : check.Known) (numbers : Known) (meet : Meet known numbers) (ro
   acl-named : (s : Sort) (name : List ℕ) → ReadAs numbers name s → is_acl s ≡ true → (k : ℕ) × (acl_of numbers name ≡ Some k)
   acl-named sort.Acl name r h = r
   acl-named (sort.Value k) name r h = absurd (false-true h)
+  acl-named sort.Weight name r h = absurd (false-true h)
   acl-named sort.Nothing name r h = absurd (false-true h)
   acl-named sort.Unknown name r h = absurd (false-true h)
 
@@ -457,6 +440,7 @@ module _ (known : check.Known) (numbers : Known) (meet : Meet known numbers) (ro
   right-matches (sort.Value kind.Bool) d e v a w g c = let t = string-text known e w in string-matches numbers e t.0 t.1
   right-matches (sort.Value kind.Backend) d e v a w g c = let t = string-text known e w in string-matches numbers e t.0 t.1
   right-matches sort.Acl d e v a w g c = absurd (false-true v)
+  right-matches sort.Weight d e v a w g c = absurd (false-true v)
   right-matches sort.Nothing d e v a w g c = absurd (false-true v)
   right-matches sort.Unknown d e v a w g c = absurd g
 
@@ -573,10 +557,11 @@ module _ (known : check.Known) (numbers : Known) (meet : Meet known numbers) (ro
     term-fine (grammar.variable h n) = named-fine h
     term-fine (grammar.call h k) = called-fine h (arguments-fine k)
 
-    pub arguments-fine : {l : Phrase} {ts rest : List Token} → IsArguments false l ts rest → AreFine known numbers roots l
+    pub arguments-fine : {b : Bool} {l : Phrase} {ts rest : List Token} → IsArguments b l ts rest → AreFine known numbers roots l
     arguments-fine (grammar.no_arguments) = none
     arguments-fine (grammar.arguments h) = list-fine h
 
-    list-fine : {l : Phrase} {ts rest : List Token} → IsArgumentList false l ts rest → AreFine known numbers roots l
+    list-fine : {b : Bool} {l : Phrase} {ts rest : List Token} → IsArgumentList b l ts rest → AreFine known numbers roots l
     list-fine (grammar.first_argument h) = more none (expression-fine h)
     list-fine (grammar.next_argument h k) = more (list-fine h) (expression-fine k)
+    list-fine (grammar.weight_argument h e) = more (list-fine h) (λ c. tt)

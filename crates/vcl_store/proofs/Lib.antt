@@ -6,4 +6,5 @@ pub mod Refusals
 pub mod Rows
 pub mod Statements
 pub mod Values
+pub mod Weights
 pub mod Whole

@@ -21,7 +21,7 @@ use Rattle.vcl_check.specs.declared.seen.Meaning.TheVariants as meaning
 use Rattle.vcl_check.specs.declared.seen.Sort.{Sort}
 use Rattle.vcl_check.specs.declared.seen.Sort.TheVariants as sort
 use Rattle.vcl_check.specs.Known as check
-use Rattle.vcl_check.specs.Known.{is_truth, is_available, is_imported, without, meaning_of, of_variable, of_read, of_read_thing, of_object, of_method, function_at, found_in, of_module, stored_named, of_stored, of_function, of_word, of_called}
+use Rattle.vcl_check.specs.Known.{is_truth, is_available, without, meaning_of, of_variable, of_read, of_read_thing, of_object, function_at, of_module, stored_named, of_stored, of_function, of_word, of_called}
 use Rattle.vcl_check.specs.Rules.{is_known}
 use Rattle.vcl_check.specs.Views.{sort_of}
 use Rattle.vcl_code.specs.declared.callees.Builtin.{Builtin}
@@ -31,6 +31,7 @@ use Rattle.vcl_code.specs.declared.names.Thing.TheVariants as thing
 use Rattle.vcl_code.specs.declared.node.ReturnWord.{ReturnWord}
 use Rattle.vcl_code.specs.Names.{Known, Target, Plain, Field, NoTarget, Read, OfTarget, Truth, NoRead, thing_named, target_of, of_thing, of_target, read_of, acl_in, acl_of, subroutine_in, subroutine_of, builtin_of, word_of, stored_at, stored_of, director_in, stored_or_director, builtin_or_other, callee_of}
 use Rattle.vcl_store.proofs.Rows.{false-true, if-true, IsTarget, target-found, IsRowOf, function-row, no-function-row, word-row}
+use Rattle.vcl_store.proofs.Weights.{are_weightless, asked-weightless, stored-weightless}
 
 -- a thing of a name has a number
 abbrev pub IsThing : Checked → Option Thing → Type 0
@@ -39,6 +40,7 @@ IsThing checked.Probe found = Unit {0}
 IsThing checked.Acl (Some (thing.Acl k)) = Unit {0}
 IsThing (checked.Object (Some kind)) (Some (thing.Director k)) = Unit {0}
 IsThing checked.Subroutine (Some (thing.Subroutine k)) = Unit {0}
+IsThing checked.NoObject found = Unit {0}
 IsThing _ _ = ⊥
 
 -- what is known to the check is known in numbers
@@ -129,6 +131,7 @@ name-read known numbers m name h = by-variable (variable_named name) refl h
     by-thing (Some checked.Probe) e h = absurd (false-true h)
     by-thing (Some checked.Subroutine) e h = absurd (false-true h)
     by-thing (Some (checked.Object kind)) e h = absurd (false-true h)
+    by-thing (Some checked.NoObject) e h = absurd (false-true h)
     by-thing None e h = absurd (false-true h)
 
     by-truth : (b : Bool) → is_truth name ≡ b → is_known (if b then meaning.Truth else of_read_thing (check.thing_named known name)) ≡ true
@@ -166,13 +169,14 @@ known-subroutine known numbers m name h = by-thing (check.thing_named known name
     by-thing (Some checked.Acl) e h = absurd (false-true h)
     by-thing (Some checked.Probe) e h = absurd (false-true h)
     by-thing (Some (checked.Object kind)) e h = absurd (false-true h)
+    by-thing (Some checked.NoObject) e h = absurd (false-true h)
     by-thing None e h = absurd (false-true h)
 
 -- What a function's name stands for: a function of the language, a stored one, or a method of a director.
 pub data Calls (numbers : Known) (name : List ℕ) (f : Function) : Type 0 where
   of_language : (b : Builtin) → callee_of numbers name ≡ callee.Builtin b → IsRowOf f b → builtin_of name ≡ Some b → Calls numbers name f
-  of_table : (k : ℕ) → callee_of numbers name ≡ callee.Stored k → Calls numbers name f
-  of_director : (k : ℕ) (kind : DirectorKind) → callee_of numbers name ≡ callee.Director k → f ≡ method_of kind method.Backend → ends_in (codes ".add_backend") name ≡ false → Calls numbers name f
+  of_table : (k : ℕ) → callee_of numbers name ≡ callee.Stored k → are_weightless f.takes ≡ true → Calls numbers name f
+  of_director : (k : ℕ) (kind : DirectorKind) → callee_of numbers name ≡ callee.Director k → f ≡ method_of kind method.Backend → Calls numbers name f
   to_director : (kind : DirectorKind) → f ≡ method_of kind method.AddBackend → Calls numbers name f
 
 abbrev pub KnownCall : Known → List ℕ → Meaning → Type 0
@@ -215,6 +219,7 @@ function-calls known numbers m name h = by-language (function_named name) refl h
         → (o ≡ Some (checked.Object None) → ⊥) → KnownCall numbers name (of_object method.AddBackend o)
     added-to (Some (checked.Object (Some kind))) h known-one nobody = known-one kind refl
     added-to (Some (checked.Object None)) h known-one nobody = absurd (nobody refl)
+    added-to (Some checked.NoObject) h known-one nobody = absurd (false-true h)
     added-to (Some checked.Backend) h known-one nobody = absurd (false-true h)
     added-to (Some checked.Acl) h known-one nobody = absurd (false-true h)
     added-to (Some checked.Probe) h known-one nobody = absurd (false-true h)
@@ -226,6 +231,7 @@ function-calls known numbers m name h = by-language (function_named name) refl h
         → (o ≡ Some (checked.Object None) → ⊥) → KnownCall numbers name (of_object method.Backend o)
     asked-of (Some (checked.Object (Some kind))) h known-one nobody = known-one kind refl
     asked-of (Some (checked.Object None)) h known-one nobody = absurd (nobody refl)
+    asked-of (Some checked.NoObject) h known-one nobody = absurd (false-true h)
     asked-of (Some checked.Backend) h known-one nobody = absurd (false-true h)
     asked-of (Some checked.Acl) h known-one nobody = absurd (false-true h)
     asked-of (Some checked.Probe) h known-one nobody = absurd (false-true h)
@@ -236,17 +242,18 @@ function-calls known numbers m name h = by-language (function_named name) refl h
     other : builtin_of name ≡ None → builtin_or_other numbers name (builtin_of name) ≡ stored_or_director numbers name (stored_of numbers name)
     other none = ap (λ (o : Option Builtin). builtin_or_other numbers name o) none
 
-    directed : builtin_of name ≡ None → ends_in (codes ".add_backend") name ≡ false → (s : Option ℕ) → stored_of numbers name ≡ s → ends_in (codes ".backend") name ≡ true → (kind : DirectorKind)
+    directed : builtin_of name ≡ None → (s : Option ℕ) → stored_of numbers name ≡ s → ends_in (codes ".backend") name ≡ true → (kind : DirectorKind)
         → check.thing_named known (without (codes ".backend") name) ≡ Some (checked.Object (Some kind)) → KnownCall numbers name (meaning.Function (method_of kind method.Backend))
-    directed none other-ending (Some k) s-is ending kind e = (method_of kind method.Backend, refl, of_table k (other none ∙ ap (λ (o : Option ℕ). stored_or_director numbers name o) s-is))
-    directed none other-ending None s-is ending kind e =
+    directed none (Some k) s-is ending kind e =
+        (method_of kind method.Backend, refl, of_table k (other none ∙ ap (λ (o : Option ℕ). stored_or_director numbers name o) s-is) (asked-weightless kind))
+    directed none None s-is ending kind e =
         let object : List ℕ = without (codes ".backend") name in
         let d = director-is kind (thing_named numbers object) (m.things object (checked.Object (Some kind)) e) in
         let found : stored_or_director numbers name (stored_of numbers name) ≡ callee.Director d.0 =
         ap (λ (o : Option ℕ). stored_or_director numbers name o) s-is
         ∙ if-true (ends_in (codes ".backend") name) (director_in (thing_named numbers object)) callee.Absent ending
         ∙ ap director_in d.1 in
-        (method_of kind method.Backend, refl, of_director d.0 kind (other none ∙ found) refl other-ending)
+        (method_of kind method.Backend, refl, of_director d.0 kind (other none ∙ found) refl)
 
     by-ending : (p q : Bool) → ends_in (codes ".add_backend") name ≡ p → ends_in (codes ".backend") name ≡ q → builtin_of name ≡ None
         → is_known (if p then of_object method.AddBackend (check.thing_named known (without (codes ".add_backend") name)) else (
@@ -258,13 +265,13 @@ function-calls known numbers m name h = by-language (function_named name) refl h
         added-to (check.thing_named known object) h (λ kind e. (method_of kind method.AddBackend, refl, to_director kind refl)) (λ e. m.things object (checked.Object None) e)
     by-ending false true p-is q-is none h =
         let object : List ℕ = without (codes ".backend") name in
-        asked-of (check.thing_named known object) h (λ kind e. directed none p-is (stored_of numbers name) refl q-is kind e) (λ e. m.things object (checked.Object None) e)
+        asked-of (check.thing_named known object) h (λ kind e. directed none (stored_of numbers name) refl q-is kind e) (λ e. m.things object (checked.Object None) e)
     by-ending false false p-is q-is none h = absurd (false-true h)
 
     by-stored : (o : Option Function) → stored_named known name ≡ o → builtin_of name ≡ None → is_known (of_stored known name o) ≡ true → KnownCall numbers name (of_stored known name o)
     by-stored (Some f) e none h =
         let r = stored-row known numbers m name f e in
-        (f, refl, of_table r.0 (other none ∙ ap (λ (o : Option ℕ). stored_or_director numbers name o) r.1))
+        (f, refl, of_table r.0 (other none ∙ ap (λ (o : Option ℕ). stored_or_director numbers name o) r.1) (stored-weightless known name f e))
     by-stored None e none h = by-ending (ends_in (codes ".add_backend") name) (ends_in (codes ".backend") name) refl refl none h
 
     by-import : (b : Bool) (f : Function) → function_named name ≡ Some f → is_known (if b then meaning.Function f else meaning.Unknown) ≡ true

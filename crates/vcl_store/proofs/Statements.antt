@@ -1,15 +1,13 @@
 -- A statement without a fault of a subroutine that traffic reaches is numbered with no part that has no meaning.
-use Rattle.std.proofs.Common.{◌≡◌, ℕ, ◌<◌, Bool, true, false, not, ◌&&◌, length, map, List, [], ◌∷◌, ◌++◌, position, refl, sym, ap, ◌∙◌, subst, Option, Some, None, option_and_then, slice_get, slice_index_or, if◌then◌else◌}
+use Rattle.std.proofs.Common.{◌≡◌, ℕ, ◌<◌, Bool, true, false, ◌&&◌, length, List, [], ◌∷◌, ◌++◌, position, refl, sym, ap, ◌∙◌, subst, Option, Some, None, option_and_then, slice_get, slice_index_or, if◌then◌else◌}
 use Rattle.std.specs.List.{list_all, list_any}
 use Rattle.std.specs.Prelude.{Contains}
 use Rattle.std.specs.Str.{bytes_eq}
-use Rattle.std.proofs.lemmas.List.Quantifiers.{position-Some}
 use Rattle.std.proofs.lemmas.Option.{none-some, slice_get-get_or}
-use Rattle.std.proofs.lemmas.Slice.Eq.{bytes_eq-Decides}
 use Rattle.vcl_values.specs.declared.value.Kind.TheVariants as kind
 use Rattle.vcl_tree.specs.Endings.{adds_backend}
 use Rattle.vcl_tree.specs.Phrase as phrase
-use Rattle.vcl_tree.specs.Phrase.{Phrase, Label, Node, Nothing, At, Named, More, Called, Bound, Set, Append, Unset, Jump, New, Return, If, ElseIf, Else}
+use Rattle.vcl_tree.specs.Phrase.{Phrase, Node, Nothing, At, Named, More, Called, Bound, Set, Append, Unset, Jump, New, Return, If, ElseIf, Else}
 use Rattle.vcl_tree.specs.ExpressionGrammar.{IsArguments}
 use Rattle.vcl_tree.specs.StatementGrammar as grammar
 use Rattle.vcl_tree.specs.StatementGrammar.{IsBlock, IsStatements, IsStatement, IsConditional, IsBranch}
@@ -46,7 +44,6 @@ use Rattle.vcl_check.specs.Views.{argument_of, view_of}
 use Rattle.vcl_code.specs.declared.arena.Arena.{Arena}
 use Rattle.vcl_code.specs.declared.callees.Builtin.{Builtin}
 use Rattle.vcl_code.specs.declared.callees.Builtin.TheVariants as builtin
-use Rattle.vcl_code.specs.declared.callees.TheConstants.{BUILTINS, BUILTIN_NAMES}
 use Rattle.vcl_code.specs.declared.names.Callee.{Callee}
 use Rattle.vcl_code.specs.declared.names.Callee.TheVariants as callee
 use Rattle.vcl_code.specs.declared.node.Action.{Action}
@@ -58,13 +55,14 @@ use Rattle.vcl_code.specs.declared.node.Choice.{Choice}
 use Rattle.vcl_code.specs.declared.node.Choice.TheVariants as choice
 use Rattle.vcl_code.specs.declared.node.ReturnWord.{ReturnWord}
 use Rattle.vcl_code.specs.Arenas.{Numbered}
-use Rattle.vcl_code.specs.Names.{Known, Target, Plain, Field, NoTarget, target_of, subroutine_of, builtin_of, word_of, callee_of}
+use Rattle.vcl_code.specs.Names.{Known, Target, Plain, Field, NoTarget, target_of, subroutine_of, word_of, callee_of}
 use Rattle.vcl_code.specs.Expressions.{numbered, numbered_arguments, second_string, Given, given, called}
 use Rattle.vcl_code.specs.Statements.{Acted, Arms, with_chain, with_arms, with_more_arms, if_acted, arms_in, set_acted, append_acted, unset_acted, call_acted, return_acted, evaluated, with_one, performed, action_of, arms_of, arm_of, actions_of}
 use Rattle.vcl_store.specs.Presence.{AreCounted, ActionStands, BlockStands, IsPresent}
 use Rattle.std.proofs.lemmas.List.Elements.{All-push}
 use Rattle.vcl_store.proofs.Rows.{false-true, both-true, passes, IsTarget, IsField, target-found, field-unset, takes_of}
 use Rattle.vcl_store.proofs.Names.{Meet, Calls, of_language, of_table, of_director, to_director, function-calls, known-variable, known-word, known-subroutine}
+use Rattle.vcl_store.proofs.Weights.{is_weightless, are_weightless}
 use Rattle.vcl_store.proofs.Values.{Adds, unless-none, condition-adds, accepts-adds, value-adds}
 use Rattle.vcl_store.proofs.Clean.{Clean, left-clean, right-clean, fits, placed, written, known-name, used-name}
 use Rattle.vcl_store.proofs.Expressions.{Fine, AreFine, none, more, not-none, arguments-add, stored-adds, xkey-adds, substitute-adds, director-adds, four-are-more, too-many, expression-fine, arguments-fine}
@@ -180,48 +178,27 @@ leftmost-plain t (seens.Three x y z) h =
     (none-or (unwritten (second_of t) y) (unwritten (third_of t) z) (second-plain t y h) (third-plain t z h))
 leftmost-plain t seens.More h = refl
 
-word-plain : (name : List ℕ) (w : Word) → word_named name ≡ Some w → are_plain w.takes ≡ true
-unfolding word_named
-word-plain name w e = by-row (position (λ known. bytes_eq known.now name) LANGUAGE_NAMES) e
-  where
-    by-row : (row : Option ℕ) → option_and_then (λ k. slice_get LANGUAGE_WORDS k) row ≡ Some w → are_plain w.takes ≡ true
-    by-row None e = absurd (none-some w e)
-    by-row (Some k) e = passes (λ (x : Word). are_plain x.takes) LANGUAGE_WORDS k w refl e
+-- what holds of the arguments of each word
+module _ (p : Takes → Bool) where
+  word-keeps : list_all (λ (x : Word). p x.takes) LANGUAGE_WORDS ≡ true → (name : List ℕ) (w : Word) → word_named name ≡ Some w → p w.takes ≡ true
+  unfolding word_named
+  word-keeps all name w e = by-row (position (λ known. bytes_eq known.now name) LANGUAGE_NAMES) e
+    where
+      by-row : (row : Option ℕ) → option_and_then (λ k. slice_get LANGUAGE_WORDS k) row ≡ Some w → p w.takes ≡ true
+      by-row None e = absurd (none-some w e)
+      by-row (Some k) e = passes (λ (x : Word). p x.takes) LANGUAGE_WORDS k w all e
 
-answer-plain : (w : Word) (given : Seens) → are_plain w.takes ≡ true → are_plain (answer_takes w given) ≡ true
-answer-plain w given h = by-time (is_timed w given)
-  where
-    by-time : (b : Bool) → are_plain (if b then takes.One (parameter.Value kind.Duration) else w.takes) ≡ true
-    by-time true = refl
-    by-time false = h
-
--- no function of the language is named like a method that adds a backend
-abbrev is_other : List ℕ → Bool
-is_other name = not (adds_backend name)
-
-untrue : (b : Bool) → not b ≡ true → b ≡ false
-untrue true e = absurd (false-true e)
-untrue false e = refl
-
-builtin-other : (name : List ℕ) (b : Builtin) → builtin_of name ≡ Some b → adds_backend name ≡ false
-unfolding builtin_of
-builtin-other name b e = by-row (position (λ known. bytes_eq known name) (map (λ known. known.now) BUILTIN_NAMES)) refl e
-  where
-    by-row : (row : Option ℕ) → position (λ known. bytes_eq known name) (map (λ known. known.now) BUILTIN_NAMES) ≡ row
-        → option_and_then (λ k. slice_get BUILTINS k) row ≡ Some b → adds_backend name ≡ false
-    by-row None at e = absurd (none-some b e)
-    by-row (Some k) at e =
-        let names : List (List ℕ) = map (λ known. known.now) BUILTIN_NAMES in
-        let x = position-Some (λ known. bytes_eq known name) names k name at in
-        let here = slice_get-get_or names k name x.0 in
-        let same = (bytes_eq-Decides _ name).0 x.1 in
-        untrue (adds_backend name) (ap is_other (sym same) ∙ passes is_other names k _ refl here)
+  answer-keeps : p (takes.One (parameter.Value kind.Duration)) ≡ true → (w : Word) (given : Seens) → p w.takes ≡ true → p (answer_takes w given) ≡ true
+  answer-keeps timed w given h = by-time (is_timed w given)
+    where
+      by-time : (b : Bool) → p (if b then takes.One (parameter.Value kind.Duration) else w.takes) ≡ true
+      by-time true = timed
+      by-time false = h
 
 all-contained : (p : Subroutine → Bool) (xs : List Subroutine) (s : Subroutine) → list_all p xs ≡ true → (k : ℕ) → k < length xs → slice_index_or xs k s ≡ s → p s ≡ true
 all-contained p xs s all k low e = passes p xs k s all (slice_get-get_or xs k s low ∙ ap (λ (x : Subroutine). Some x) e)
 
-module _ (known : check.Known) (numbers : Known) (meet : Meet known numbers) (roots : List Subroutine) (s : Subroutine) (reached : Contains roots s) (traffic : has scope.Init s ≡ false)
-    (free : (name : List ℕ) (k : ℕ) → callee_of numbers name ≡ callee.Stored k → adds_backend name ≡ false) where
+module _ (known : check.Known) (numbers : Known) (meet : Meet known numbers) (roots : List Subroutine) (s : Subroutine) (reached : Contains roots s) (traffic : has scope.Init s ≡ false) where
   -- what a statement and a name may do from the subroutine from which it is reached
   stands-there : (f : _) (a b : Seen) → misplaced roots f a b ≡ None → may_stand f b.meaning s ≡ true
   stands-there f a b e =
@@ -317,8 +294,9 @@ module _ (known : check.Known) (numbers : Known) (meet : Meet known numbers) (ro
       let list = (view_of known Arguments l).arguments in
       let takes = answer_takes w.0 list in
       let fit = answer-takes (word_named word) w.0 list q w.1 (fits known roots Statement Return (At p) b c) in
-      let plain = leftmost-plain takes list (answer-plain w.0 list (word-plain word w.0 w.1)) in
-      let x = arguments-add known numbers meet roots g (right-clean known roots Answer Called (Named q word) l answer) takes q fit plain a here in
+      let plain = leftmost-plain takes list (answer-keeps are_plain refl w.0 list (word-keeps are_plain refl word w.0 w.1)) in
+      let weightless = answer-keeps are_weightless refl w.0 list (word-keeps are_weightless refl word w.0 w.1) in
+      let x = arguments-add known numbers meet roots g (right-clean known roots Answer Called (Named q word) l answer) takes q weightless fit plain a here in
       return-present (word_of word) r.0 (numbered_arguments numbers l a) r.1 x.1 x.0
 
   -- a function that is called as a statement
@@ -334,40 +312,40 @@ module _ (known : check.Known) (numbers : Known) (meet : Meet known numbers) (ro
       subst P (sym e) (subst Q (sym (same o g)) (subst R e (f a here), tt))
 
   one-performed : (place : ℕ) (name : List ℕ) (k : Callee) (make : ℕ → Action) → ((i : ℕ) → ActionStands (make i)) → {l : Phrase} → AreFine known numbers roots l → Clean known roots Arguments l
-      → (p : Parameter) (at : ℕ) → callee_of numbers name ≡ k → ((o : Option (List ℕ)) (g : Given) → performed k o g ≡ with_one make g.arguments g.arena)
+      → (p : Parameter) (at : ℕ) → is_weightless p ≡ true → callee_of numbers name ≡ k → ((o : Option (List ℕ)) (g : Given) → performed k o g ≡ with_one make g.arguments g.arena)
       → ill_called (takes.One p) (view_of known Arguments l).arguments at ≡ None → leftmost_unwritten (takes.One p) (view_of known Arguments l).arguments ≡ None
       → ActsWell numbers (Node Called (Named place name) l)
   unfolding action_of numbered_arguments
-  one-performed place name k make stands none c p at e same i u = absurd (not-none at i)
-  one-performed place name k make stands (more {e = x} none f) c p at e same i u =
+  one-performed place name k make stands none c p at w e same i u = absurd (not-none at i)
+  one-performed place name k make stands (more {e = x} none f) c p at w e same i u =
       λ a here.
       let l : Phrase = Node More Nothing x in
-      let xs = arguments-add known numbers meet roots (more none f) c (takes.One p) at i u a here in
+      let xs = arguments-add known numbers meet roots (more none f) c (takes.One p) at w i u a here in
       let g = numbered_arguments numbers l a in
       let Q : Acted → Type 0 = λ y. IsPresent y.arena × ActionStands y.action in
       let P : Callee → Type 0 = λ y. Q (performed y (second_string l) g) in
       subst P (sym e) (subst Q (sym (same (second_string l) g)) (xs.0, stands (numbered numbers x a).number))
-  one-performed place name k make stands (more (more none f) g) c p at e same i u = absurd (not-none at i)
-  one-performed place name k make stands (more (more (more none f) g) h) c p at e same i u = absurd (not-none at i)
-  one-performed place name k make stands (more {e = z} (more {e = y} (more {e = x} (more {l = l} {e = w} m d) f) g) h) c p at e same i u =
-      let A : Phrase → Argument = λ v. argument_of (view_of known Value v) in
+  one-performed place name k make stands (more (more none f) g) c p at w e same i u = absurd (not-none at i)
+  one-performed place name k make stands (more (more (more none f) g) h) c p at w e same i u = absurd (not-none at i)
+  one-performed place name k make stands (more {e = z} (more {e = y} (more {e = x} (more {l = l} {e = v} m d) f) g) h) c p at w e same i u =
+      let A : Phrase → Argument = λ x. argument_of (view_of known Value x) in
       let P : Seens → Type 0 = λ q. ill_called (takes.One p) q at ≡ None in
-      absurd (too-many (takes.One p) at (subst P (four-are-more (view_of known Arguments l).arguments (A w) (A x) (A y) (A z)) i))
+      absurd (too-many (takes.One p) at (subst P (four-are-more (view_of known Arguments l).arguments (A v) (A x) (A y) (A z)) i))
 
   built-ran : (place : ℕ) (name : List ℕ) (b : Builtin) {l : Phrase} → AreFine known numbers roots l → Clean known roots Arguments l → (at : ℕ) → callee_of numbers name ≡ callee.Builtin b
       → ill_called (takes_of b) (view_of known Arguments l).arguments at ≡ None → leftmost_unwritten (takes_of b) (view_of known Arguments l).arguments ≡ None
       → ActsWell numbers (Node Called (Named place name) l)
   built-ran place name (builtin.Substitute all) {l} g c at e i u =
       ran place name l (callee.Builtin (builtin.Substitute all)) e (λ o x. refl)
-      (substitute-adds known numbers meet roots place name all g c (parameter.Value kind.String) (parameter.Value kind.String) at e i u)
+      (substitute-adds known numbers meet roots place name all g c (parameter.Value kind.String) (parameter.Value kind.String) at refl e i u)
   built-ran place name (builtin.Xkey soft) {l} g c at e i u =
-      ran place name l (callee.Builtin (builtin.Xkey soft)) e (λ o x. refl) (xkey-adds known numbers meet roots place name soft g c (parameter.Value kind.String) at e i u)
+      ran place name l (callee.Builtin (builtin.Xkey soft)) e (λ o x. refl) (xkey-adds known numbers meet roots place name soft g c (parameter.Value kind.String) at refl e i u)
   built-ran place name builtin.HashData g c at e i u =
-      one-performed place name (callee.Builtin builtin.HashData) action.HashData (λ i. tt) g c (parameter.Value kind.String) at e (λ o x. refl) i u
+      one-performed place name (callee.Builtin builtin.HashData) action.HashData (λ i. tt) g c (parameter.Value kind.String) at refl e (λ o x. refl) i u
   built-ran place name builtin.Synthetic g c at e i u =
-      one-performed place name (callee.Builtin builtin.Synthetic) action.Synthetic (λ i. tt) g c (parameter.Value kind.String) at e (λ o x. refl) i u
+      one-performed place name (callee.Builtin builtin.Synthetic) action.Synthetic (λ i. tt) g c (parameter.Value kind.String) at refl e (λ o x. refl) i u
   built-ran place name builtin.Ban g c at e i u =
-      one-performed place name (callee.Builtin builtin.Ban) action.Ban (λ i. tt) g c (parameter.Value kind.String) at e (λ o x. refl) i u
+      one-performed place name (callee.Builtin builtin.Ban) action.Ban (λ i. tt) g c (parameter.Value kind.String) at refl e (λ o x. refl) i u
 
   function-ran : (place : ℕ) (name : List ℕ) (fn : Function) {l : Phrase} → Calls numbers name fn → has fn.scope s ≡ true → AreFine known numbers roots l → Clean known roots Arguments l
       → (at : ℕ) → ill_called fn.takes (view_of known Arguments l).arguments at ≡ None → leftmost_unwritten fn.takes (view_of known Arguments l).arguments ≡ None
@@ -376,22 +354,13 @@ module _ (known : check.Known) (numbers : Known) (meet : Meet known numbers) (ro
       let I : Takes → Type 0 = λ t. ill_called t (view_of known Arguments l).arguments at ≡ None in
       let U : Takes → Type 0 = λ t. leftmost_unwritten t (view_of known Arguments l).arguments ≡ None in
       built-ran place name b g c at e (subst I row.takes i) (subst U row.takes u)
-  function-ran place name fn {l} (of_table k e) there g c at i u =
-      ran place name l (callee.Stored k) e (λ o x. refl) (stored-adds numbers place name l k e (arguments-add known numbers meet roots g c fn.takes at i u))
-  function-ran place name fn {l} (of_director k kind e same ending) there g c at i u =
+  function-ran place name fn {l} (of_table k e w) there g c at i u =
+      ran place name l (callee.Stored k) e (λ o x. refl) (stored-adds numbers place name l k e (arguments-add known numbers meet roots g c fn.takes at w i u))
+  function-ran place name fn {l} (of_director k kind e same) there g c at i u =
       let I : Function → Type 0 = λ x. ill_called x.takes (view_of known Arguments l).arguments at ≡ None in
       let U : Function → Type 0 = λ x. leftmost_unwritten x.takes (view_of known Arguments l).arguments ≡ None in
       ran place name l (callee.Director k) e (λ o x. refl) (director-adds known numbers meet roots place name k kind g c at e (subst I same i) (subst U same u))
   function-ran place name fn {l} (to_director kind same) there g c at i u =
-      let H : Function → Type 0 = λ x. has x.scope s ≡ true in
-      absurd (false-true (sym traffic ∙ subst H same there))
-
-  -- what is called there isn't what adds a backend
-  other-name : (name : List ℕ) (fn : Function) → Calls numbers name fn → has fn.scope s ≡ true → adds_backend name ≡ false
-  other-name name fn (of_language b e row is) there = builtin-other name b is
-  other-name name fn (of_table k e) there = free name k e
-  other-name name fn (of_director k kind e same ending) there = ending
-  other-name name fn (to_director kind same) there =
       let H : Function → Type 0 = λ x. has x.scope s ≡ true in
       absurd (false-true (sym traffic ∙ subst H same there))
 
@@ -405,8 +374,7 @@ module _ (known : check.Known) (numbers : Known) (meet : Meet known numbers) (ro
       let I : Meaning → Type 0 = λ m. ill_function m list place ≡ None in
       let U : Meaning → Type 0 = λ m. unwritten_call m list ≡ None in
       let there = subst T k.1 (used-there use'.Function place name name-clean) in
-      let A : Bool → Type 0 = λ b. IsArguments b l ts rest in
-      let g = arguments-fine known numbers meet roots (subst A (other-name name k.0 k.2 there) h) in
+      let g = arguments-fine known numbers meet roots h in
       function-ran place name k.0 k.2 there g (right-clean known roots Statement Called (Named place name) l c) place
       (subst I k.1 (fits known roots Statement Called (Named place name) l c)) (subst U k.1 (written known roots Statement Called (Named place name) l c))
 

@@ -71,27 +71,32 @@ or-none (Some p) b e = absurd (none-some p (sym e))
 pub value-adds : (numbers : Known) (s : Sort) (e : Phrase) → is_value s ≡ true → Good numbers s e → Adds numbers e
 value-adds numbers (sort.Value k) e h g = g
 value-adds numbers sort.Acl e h g = absurd (false-true h)
+value-adds numbers sort.Weight e h g = absurd (false-true h)
 value-adds numbers sort.Nothing e h g = absurd (false-true h)
 value-adds numbers sort.Unknown e h g = absurd g
 
 pub condition-adds : (numbers : Known) (s : Sort) (e : Phrase) → is_condition s ≡ true → Good numbers s e → Adds numbers e
 condition-adds numbers (sort.Value k) e h g = g
 condition-adds numbers sort.Acl e h g = absurd (false-true h)
+condition-adds numbers sort.Weight e h g = absurd (false-true h)
 condition-adds numbers sort.Nothing e h g = absurd (false-true h)
 condition-adds numbers sort.Unknown e h g = absurd g
 
 pub ordered-adds : (numbers : Known) (s : Sort) (e : Phrase) → is_ordered s ≡ true → Good numbers s e → Adds numbers e
 ordered-adds numbers (sort.Value k) e h g = g
 ordered-adds numbers sort.Acl e h g = absurd (false-true h)
+ordered-adds numbers sort.Weight e h g = absurd (false-true h)
 ordered-adds numbers sort.Nothing e h g = absurd (false-true h)
 ordered-adds numbers sort.Unknown e h g = absurd g
 
 pub alike-adds : (numbers : Known) (s t : Sort) (d e : Phrase) → alike s t ≡ true → Good numbers s d → Good numbers t e → Adds numbers e
 alike-adds numbers (sort.Value k) (sort.Value l) d e h f g = g
 alike-adds numbers (sort.Value k) sort.Acl d e h f g = absurd (false-true h)
+alike-adds numbers (sort.Value k) sort.Weight d e h f g = absurd (false-true h)
 alike-adds numbers (sort.Value k) sort.Nothing d e h f g = absurd (false-true h)
 alike-adds numbers (sort.Value k) sort.Unknown d e h f g = absurd g
 alike-adds numbers sort.Acl t d e h f g = absurd (false-true h)
+alike-adds numbers sort.Weight t d e h f g = absurd (false-true h)
 alike-adds numbers sort.Nothing t d e h f g = absurd (false-true h)
 alike-adds numbers sort.Unknown t d e h f g = absurd f
 
@@ -103,10 +108,15 @@ accepts-adds numbers kind.Bool (sort.Value l) e h g = g
 accepts-adds numbers kind.Ip (sort.Value l) e h g = g
 accepts-adds numbers kind.Backend (sort.Value l) e h g = g
 accepts-adds numbers kind.Int sort.Acl e h g = absurd (false-true h)
+accepts-adds numbers kind.Int sort.Weight e h g = absurd (false-true h)
 accepts-adds numbers kind.Duration sort.Acl e h g = absurd (false-true h)
+accepts-adds numbers kind.Duration sort.Weight e h g = absurd (false-true h)
 accepts-adds numbers kind.Bool sort.Acl e h g = absurd (false-true h)
+accepts-adds numbers kind.Bool sort.Weight e h g = absurd (false-true h)
 accepts-adds numbers kind.Ip sort.Acl e h g = absurd (false-true h)
+accepts-adds numbers kind.Ip sort.Weight e h g = absurd (false-true h)
 accepts-adds numbers kind.Backend sort.Acl e h g = absurd (false-true h)
+accepts-adds numbers kind.Backend sort.Weight e h g = absurd (false-true h)
 accepts-adds numbers kind.Int sort.Nothing e h g = absurd (false-true h)
 accepts-adds numbers kind.Duration sort.Nothing e h g = absurd (false-true h)
 accepts-adds numbers kind.Bool sort.Nothing e h g = absurd (false-true h)
@@ -134,9 +144,11 @@ pub added-good : (numbers : Known) (s t : Sort) (a b e : Phrase) → is_value s 
     → (Adds numbers a → Adds numbers b → Adds numbers e) → Good numbers (sum_sort s t) e
 added-good numbers (sort.Value k) (sort.Value l) a b e v h f g whole = sum-good numbers k l e h (whole f g)
 added-good numbers (sort.Value k) sort.Acl a b e v h f g whole = absurd (false-true h)
+added-good numbers (sort.Value k) sort.Weight a b e v h f g whole = absurd (false-true h)
 added-good numbers (sort.Value k) sort.Nothing a b e v h f g whole = absurd (false-true h)
 added-good numbers (sort.Value k) sort.Unknown a b e v h f g whole = absurd g
 added-good numbers sort.Acl t a b e v h f g whole = absurd (false-true v)
+added-good numbers sort.Weight t a b e v h f g whole = absurd (false-true v)
 added-good numbers sort.Nothing t a b e v h f g whole = absurd (false-true v)
 added-good numbers sort.Unknown t a b e v h f g whole = absurd f
 
@@ -154,15 +166,18 @@ pub subtracted-good : (numbers : Known) (s t : Sort) (a b e : Phrase) → is_ord
     → (Adds numbers a → Adds numbers b → Adds numbers e) → Good numbers (difference_sort s t) e
 subtracted-good numbers (sort.Value k) (sort.Value l) a b e o h f g whole = difference-good numbers k l e o h (whole f g)
 subtracted-good numbers (sort.Value k) sort.Acl a b e o h f g whole = absurd (false-true h)
+subtracted-good numbers (sort.Value k) sort.Weight a b e o h f g whole = absurd (false-true h)
 subtracted-good numbers (sort.Value k) sort.Nothing a b e o h f g whole = absurd (false-true h)
 subtracted-good numbers (sort.Value k) sort.Unknown a b e o h f g whole = absurd g
 subtracted-good numbers sort.Acl t a b e o h f g whole = absurd (false-true o)
+subtracted-good numbers sort.Weight t a b e o h f g whole = absurd (false-true o)
 subtracted-good numbers sort.Nothing t a b e o h f g whole = absurd (false-true o)
 subtracted-good numbers sort.Unknown t a b e o h f g whole = absurd f
 
 pub grouped-good : (numbers : Known) (s : Sort) (a e : Phrase) → is_value s ≡ true → Good numbers s a → (Adds numbers a → Adds numbers e) → Good numbers (grouped_sort s) e
 grouped-good numbers (sort.Value k) a e v g whole = whole g
 grouped-good numbers sort.Acl a e v g whole = absurd (false-true v)
+grouped-good numbers sort.Weight a e v g whole = absurd (false-true v)
 grouped-good numbers sort.Nothing a e v g whole = absurd (false-true v)
 grouped-good numbers sort.Unknown a e v g whole = absurd g
 
@@ -194,6 +209,7 @@ name-adds numbers place name h a p = read-adds (read_of numbers name) a h p
 pub named-good : (numbers : Known) (s : Sort) (place : ℕ) (name : List ℕ) → ReadAs numbers name s → Good numbers s (Named place name)
 named-good numbers (sort.Value k) place name h = name-adds numbers place name h
 named-good numbers sort.Acl place name h = tt
+named-good numbers sort.Weight place name h = absurd h
 named-good numbers sort.Nothing place name h = absurd h
 named-good numbers sort.Unknown place name h = absurd h
 

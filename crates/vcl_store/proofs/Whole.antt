@@ -1,19 +1,11 @@
 -- The numbered form of a sound text has no part without a meaning where a subroutine other than vcl_init reaches.
-use Rattle.std.proofs.Common.{◌≡◌, inl, inr, ℕ, zero, suc, ◌+◌, ◌-◌, ◌<◌, ◌==◌, Bool, true, false, length, take, drop, drop-cons, get_or, map, position, List, [], ◌∷◌, ◌++◌, codes, refl, sym, ap, ◌∙◌, subst, Option, Some, None, is_some, slice_index_or, if◌then◌else◌, arith}
+use Rattle.std.proofs.Common.{◌≡◌, inl, inr, ℕ, zero, suc, ◌+◌, ◌-◌, ◌<◌, Bool, true, length, map, List, [], ◌∷◌, codes, refl, sym, ap, ◌∙◌, subst, Option, Some, slice_index_or, arith}
 use Rattle.std.specs.Prelude.{Contains}
-use Rattle.std.specs.Str.{bytes_eq}
-use Rattle.std.proofs.lemmas.Bool.{eqb-true}
-use Rattle.std.proofs.lemmas.List.{take-append-drop}
-use Rattle.std.proofs.lemmas.List.Elements.{Contains-append_cases, Contains-get_or}
-use Rattle.std.proofs.lemmas.List.Quantifiers.{position-Some}
-use Rattle.std.proofs.lemmas.Slice.Eq.{bytes_eq-Decides}
-use Rattle.std.proofs.lemmas.Option.{none-some}
-use Rattle.vcl_values.specs.declared.value.Kind.TheVariants as kind
-use Rattle.vcl_tree.specs.Endings.{ends_in, adds_backend}
+use Rattle.std.proofs.lemmas.List.Elements.{Contains-append_cases}
 use Rattle.vcl_tree.specs.Grammar as grammar
 use Rattle.vcl_tree.specs.Grammar.{IsItem, IsItems, IsFile}
 use Rattle.vcl_tree.specs.Phrase as phrase
-use Rattle.vcl_tree.specs.Phrase.{Phrase, Node, Nothing, At, Named, More, Bound, New, chain}
+use Rattle.vcl_tree.specs.Phrase.{Phrase, Node, Nothing, At, Named, More, Bound, chain}
 use Rattle.vcl_tree.specs.StatementGrammar.{IsBlock}
 use Rattle.vcl_tree.specs.TreeView.{item_of, items_of}
 use Rattle.vcl_tree.specs.declared.error.Fault.{Fault}
@@ -26,7 +18,6 @@ use Rattle.vcl_tree.specs.declared.token.Token.{Token}
 use Rattle.vcl_language.specs.Names.{is_reserved, subroutine_named}
 use Rattle.vcl_language.specs.declared.scope.Subroutine.{Subroutine}
 use Rattle.vcl_language.specs.declared.scope.Subroutine.TheVariants.{Init}
-use Rattle.vmod_host.specs.Stored.{is_named}
 use Rattle.vmod_host.specs.declared.signature.Stored.{Stored}
 use Rattle.vcl_check.specs.Folded.{AnyOf}
 use Rattle.vcl_check.specs.Known as check
@@ -35,17 +26,12 @@ use Rattle.vcl_check.specs.Roles.{Block}
 use Rattle.vcl_check.specs.Sentences as sentences
 use Rattle.vcl_check.specs.Sentences.{roots_in}
 use Rattle.vcl_check.specs.Texts.{ItemFault, AnyFault, IsSound}
-use Rattle.vcl_code.specs.declared.callees.Builtin.{Builtin}
-use Rattle.vcl_code.specs.declared.names.Callee.TheVariants as callee
-use Rattle.vcl_code.specs.declared.names.Thing.{Thing}
-use Rattle.vcl_code.specs.declared.names.Thing.TheVariants as thing
-use Rattle.vcl_code.specs.Names.{Known, thing_named, builtin_of, stored_at, stored_of, director_in, stored_or_director, builtin_or_other, callee_of}
+use Rattle.vcl_code.specs.Names.{Known}
 use Rattle.vcl_code.specs.Statements.{actions_of, numbered_block}
 use Rattle.vcl_program.specs.Codes.{known_of}
 use Rattle.vcl_program.specs.Declarations.{is_init}
 use Rattle.vcl_store.specs.Joined.{IsJoined}
-use Rattle.vcl_store.specs.Presence.{MakesInInit, NamesNoMethod, IsWhole}
-use Rattle.vcl_store.proofs.Rows.{false-true, both-true}
+use Rattle.vcl_store.specs.Presence.{HasNoAbsent}
 use Rattle.vcl_store.proofs.Names.{Meet}
 use Rattle.vcl_store.proofs.Clean.{Clean}
 use Rattle.vcl_store.proofs.Statements.{chain-present, block-fine}
@@ -125,9 +111,9 @@ init-roots items stored rows name e =
     let R : Option Subroutine → List Subroutine = λ o. roots_by o (is_reserved name) (reaching rows (number_in (numbered_names (sentences.known_in items stored).names) name)) in
     ap R (ap subroutine_named (init-is name e) ∙ init-named)
 
-all-fit : (text : List ℕ) (joined : Tree) (stored : List Stored) → IsJoined text joined → IsSound joined.items stored → MakesInInit joined.items
+all-fit : (text : List ℕ) (joined : Tree) (stored : List Stored) → IsJoined text joined → IsSound joined.items stored
     → AllFit (sentences.known_in joined.items stored) joined.items
-all-fit text joined stored j s m place name block c =
+all-fit text joined stored j s place name block c =
     let r = joined-read text joined j place name block c in
     let C : List Subroutine → Type 0 = λ l. Clean (sentences.known_in joined.items stored) l Block block in
     record {
@@ -135,77 +121,14 @@ all-fit text joined stored j s m place name block c =
       rest = r.1;
       reads = r.2;
       init = λ e. subst C (init-roots joined.items stored s.faultless.rows name.text e) (block-clean joined.items stored s place name block c);
-      others = λ e sign made w. false-true (sym e ∙ m place name block sign made c w);
     }
 
--- A stored function has the name that its signature says.
-no-stored : (b : Bool) (o : Option Thing) (k : ℕ) → (if b then director_in o else callee.Absent) ≡ callee.Stored k → ⊥
-no-stored true (Some (thing.Director i)) k e = cc
-no-stored true (Some thing.Other) k e = cc
-no-stored true (Some (thing.Backend i)) k e = cc
-no-stored true (Some (thing.Acl i)) k e = cc
-no-stored true (Some (thing.Subroutine i)) k e = cc
-no-stored true None k e = cc
-no-stored false o k e = cc
-
-is-stored : (numbers : Known) (name : List ℕ) (b : Option Builtin) (s : Option ℕ) (k : ℕ) → builtin_or_other numbers name b ≡ callee.Stored k → stored_of numbers name ≡ s
-    → (i : ℕ) × (stored_of numbers name ≡ Some i)
-is-stored numbers name (Some b) s k e at = absurd (clash e)
-  where
-    clash : callee.Builtin b ≡ callee.Stored k → ⊥
-    clash e = cc
-is-stored numbers name None (Some i) k e at = (i, at)
-is-stored numbers name None None k e at =
-    let found : stored_or_director numbers name None ≡ callee.Stored k = ap (λ (o : Option ℕ). stored_or_director numbers name o) (sym at) ∙ e in
-    absurd (no-stored (ends_in (codes ".backend") name) (thing_named numbers (take (length name - 8) name)) k found)
-
-callee-stored : (numbers : Known) (name : List ℕ) (k : ℕ) → callee_of numbers name ≡ callee.Stored k → (i : ℕ) × (stored_of numbers name ≡ Some i)
-unfolding callee_of
-callee-stored numbers name k e = is-stored numbers name (builtin_of name) (stored_of numbers name) k e refl
-
-some_stored : Stored
-some_stored = record { tag = 0; signature = record { «module» = []; name = []; takes = []; gives = kind.Int } }
-
-split-name : (name : List ℕ) (d : ℕ) → d < length name → (get_or name d 0 == 46) ≡ true → take d name ++ 46 ∷ drop (d + 1) name ≡ name
-split-name name d low e =
-    let behind : drop d name ≡ get_or name d 0 ∷ drop (suc d) name = drop-cons name d 0 low in
-    let dot : get_or name d 0 ≡ 46 = eqb-true (get_or name d 0) 46 e in
-    let next : suc d ≡ d + 1 = omega arith in
-    let whole : drop d name ≡ 46 ∷ drop (d + 1) name = behind ∙ ap (λ (b : ℕ). b ∷ drop (suc d) name) dot ∙ ap (λ (n : ℕ). 46 ∷ drop n name) next in
-    ap (λ (l : List ℕ). take d name ++ l) (sym whole) ∙ take-append-drop d name
-
-stored-name : (numbers : Known) (name : List ℕ) → NamesNoMethod numbers.stored → (i : ℕ) → stored_of numbers name ≡ Some i → adds_backend name ≡ false
-stored-name numbers name none i e = by-dot (position (λ byte. byte == 46) name) refl e
-  where
-    by-entry : (d : ℕ) → d < length name → (get_or name d 0 == 46) ≡ true → position (λ entry. is_named (take d name) (drop (d + 1) name) entry.signature) numbers.stored ≡ Some i → adds_backend name ≡ false
-    by-entry d low dot at =
-        let x = position-Some (λ (entry : Stored). is_named (take d name) (drop (d + 1) name) entry.signature) numbers.stored i some_stored at in
-        let entry : Stored = get_or numbers.stored i some_stored in
-        let both = both-true (bytes_eq entry.signature.«module» (take d name)) (bytes_eq entry.signature.name (drop (d + 1) name)) x.1 in
-        let origin : entry.signature.«module» ≡ take d name = (bytes_eq-Decides _ _).0 both.0 in
-        let own : entry.signature.name ≡ drop (d + 1) name = (bytes_eq-Decides _ _).0 both.1 in
-        let same : entry.signature.«module» ++ 46 ∷ entry.signature.name ≡ name =
-        ap (λ (l : List ℕ). l ++ 46 ∷ entry.signature.name) origin ∙ ap (λ (l : List ℕ). take d name ++ 46 ∷ l) own ∙ split-name name d low dot in
-        let N : List ℕ → Type 0 = λ n. adds_backend n ≡ false in
-        subst N same (none entry (Contains-get_or numbers.stored i some_stored x.0))
-
-    by-import : (b : Bool) (d : ℕ) → d < length name → (get_or name d 0 == 46) ≡ true
-        → (if b then position (λ entry. is_named (take d name) (drop (d + 1) name) entry.signature) numbers.stored else None) ≡ Some i → adds_backend name ≡ false
-    by-import true d low dot at = by-entry d low dot at
-    by-import false d low dot at = absurd (none-some i at)
-
-    by-dot : (row : Option ℕ) → position (λ byte. byte == 46) name ≡ row → stored_at numbers name row ≡ Some i → adds_backend name ≡ false
-    by-dot None at e = absurd (none-some i e)
-    by-dot (Some d) at e =
-        let x = position-Some (λ byte. byte == 46) name d 0 at in
-        by-import (is_some (position (λ other. bytes_eq (take d name) other) numbers.imports)) d x.0 x.1 e
-
-pub no-absent : (text : List ℕ) (joined : Tree) (stored : List Stored) → IsJoined text joined → IsSound joined.items stored → IsWhole joined.items stored
+pub no-absent : (text : List ℕ) (joined : Tree) (stored : List Stored) → IsJoined text joined → IsSound joined.items stored → HasNoAbsent joined.items stored
 unfolding numbered_block
-no-absent text joined stored j s m free =
+no-absent text joined stored j s =
     let known : check.Known = sentences.known_in joined.items stored in
     let numbers : Known = known_of joined.items stored in
-    let fit : AllFit known joined.items = all-fit text joined stored j s m in
+    let fit : AllFit known joined.items = all-fit text joined stored j s in
     let meet : Meet known numbers = both-known known joined.items stored fit in
     record {
       rows = s.faultless.rows;
@@ -213,16 +136,15 @@ no-absent text joined stored j s m free =
       reached = s.faultless.reached;
       present = λ place name block c root reached traffic next a p.
           let roots = roots_in joined.items stored s.faultless.rows name.text in
-          let named : (n : List ℕ) (k : ℕ) → callee_of numbers n ≡ callee.Stored k → adds_backend n ≡ false = λ n k e. let i = callee-stored numbers n k e in stored-name numbers n free i.0 i.1 in
           let block-is = (fit place name block c).reads in
-          let x = block-fine known numbers meet roots root reached traffic named block-is (block-clean joined.items stored s place name block c) a p in
+          let x = block-fine known numbers meet roots root reached traffic block-is (block-clean joined.items stored s place name block c) a p in
           let d = actions_of numbers block a in chain-present d.actions next d.arena x.1 x.0;
     }
 
 -- the same of what is equal to them
 pub whole-of : (text : List ℕ) (joined tree : Tree) (stored others : List Stored) → tree ≡ joined → others ≡ stored → IsJoined text joined → IsSound joined.items stored
-    → IsWhole tree.items others
+    → HasNoAbsent tree.items others
 whole-of text joined tree stored others t e j s =
-    let T : Tree → Type 0 = λ x. IsWhole x.items others in
-    let S : List Stored → Type 0 = λ l. IsWhole joined.items l in
+    let T : Tree → Type 0 = λ x. HasNoAbsent x.items others in
+    let S : List Stored → Type 0 = λ l. HasNoAbsent joined.items l in
     subst T (sym t) (subst S (sym e) (no-absent text joined stored j s))

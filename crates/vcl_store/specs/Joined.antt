@@ -1,18 +1,18 @@
 -- The joined tree of a text, and why a text has none.
-use Rattle.std.specs.Prelude.{ℕ, ◌≡◌, ◌⊎◌, List, ◌++◌}
+use Rattle.std.specs.Prelude.{ℕ, ◌≡◌, ◌≤◌, ◌⊎◌, List, ◌++◌, length}
 use Rattle.vcl_tree.specs.declared.error.VclError.{VclError}
 use Rattle.vcl_tree.specs.declared.item.Tree.{Tree}
 use Rattle.vcl_tree.specs.declared.token.Token.{Token}
-use Rattle.vcl_tokens.specs.Reading.{Reads}
+use Rattle.vcl_tokens.specs.Reading.{Reads, text_limit}
 use Rattle.vcl_parse.specs.Parsing.{IsTree, IsFault}
 use Rattle.vcl_store.specs.declared.built_in.TheConstants.{BUILT_IN}
 
 unfoldable pub built_in_text : List ℕ
 built_in_text = BUILT_IN.now
 
--- by the grammar the text is of this tree
+-- by the grammar the text is of this tree, and it is within its limit
 abbrev pub IsTreeOf : List ℕ → Tree → Type 0
-IsTreeOf text tree = (tokens : List Token) × Reads 0 text tokens × IsTree tokens tree
+IsTreeOf text tree = (tokens : List Token) × Reads 0 text tokens × IsTree tokens tree × (length text ≤ text_limit)
 
 -- The joined tree of a text: its version, its items and behind them those of the built-in text.
 pub record IsJoined (text : List ℕ) (joined : Tree) : Type 0 where

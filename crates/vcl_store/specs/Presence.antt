@@ -1,8 +1,6 @@
 -- Numbered forms of which each part has a meaning.
-use Rattle.std.specs.Prelude.{ℕ, ◌≡◌, Bool, true, false, List, ◌∷◌, ◌++◌, Contains, length}
+use Rattle.std.specs.Prelude.{ℕ, ◌≡◌, Bool, false, List, Contains, length}
 use Rattle.std.specs.List.{All}
-use Rattle.vcl_tree.specs.Endings.{adds_backend}
-use Rattle.vcl_tree.specs.Phrase as phrase
 use Rattle.vcl_tree.specs.Phrase.{Phrase}
 use Rattle.vcl_tree.specs.declared.item.Item.{Item}
 use Rattle.vcl_tree.specs.declared.item.Item.TheVariants as item
@@ -11,9 +9,7 @@ use Rattle.vcl_language.specs.Scopes.{has}
 use Rattle.vcl_language.specs.declared.scope.Scope.TheVariants.{Init}
 use Rattle.vcl_language.specs.declared.scope.Subroutine.{Subroutine}
 use Rattle.vmod_host.specs.declared.signature.Stored.{Stored}
-use Rattle.vcl_check.specs.Faults.{Within}
 use Rattle.vcl_check.specs.Reaching.{AreReached}
-use Rattle.vcl_check.specs.Roles.{Block as InBlock, Statement}
 use Rattle.vcl_check.specs.Sentences.{roots_in}
 use Rattle.vcl_check.specs.Texts.{calls_in}
 use Rattle.vcl_code.specs.declared.arena.Arena.{Arena}
@@ -28,7 +24,6 @@ use Rattle.vcl_code.specs.declared.node.Node.TheVariants as node
 use Rattle.vcl_code.specs.Names.{Known}
 use Rattle.vcl_code.specs.Statements.{numbered_block}
 use Rattle.vcl_program.specs.Codes.{known_of}
-use Rattle.vcl_program.specs.Declarations.{is_init}
 
 -- there are no more than three
 abbrev pub AreCounted : Arguments → Type 0
@@ -60,17 +55,6 @@ pub record IsPresent (a : Arena) : Type 0 where
 abbrev pub AddsNoAbsent : Known → Phrase → Type 0
 AddsNoAbsent known block = (next : ℕ) (a : Arena) → IsPresent a → IsPresent (numbered_block known block next a).arena
 
--- Objects are made in vcl_init alone. It is asked of each subroutine that another one than vcl_init reaches; one that
--- nothing reaches may make objects, which in numbers are none.
-abbrev pub MakesInInit : List Item → Type 0
-MakesInInit items =
-    (place : ℕ) (name : Name) (block sign made : Phrase) → Contains items (item.Sub place name block)
-    → Within Statement (phrase.Node phrase.New sign made) InBlock block → is_init name.text ≡ true
-
--- no stored function has the name of a method that adds a backend, with which a weight may stand
-abbrev pub NamesNoMethod : List Stored → Type 0
-NamesNoMethod stored = (entry : Stored) → Contains stored entry → adds_backend (entry.signature.«module» ++ 46 ∷ entry.signature.name) ≡ false
-
 -- With rows that mark what calls lead to, each subroutine that is reached from another one than vcl_init has a block that
 -- is numbered with no part that has no meaning.
 pub record HasNoAbsent (items : List Item) (stored : List Stored) : Type 0 where
@@ -79,7 +63,3 @@ pub record HasNoAbsent (items : List Item) (stored : List Stored) : Type 0 where
   pub reached : AreReached (calls_in items stored) 0 rows
   pub present : (place : ℕ) (name : Name) (block : Phrase) → Contains items (item.Sub place name block)
       → (s : Subroutine) → Contains (roots_in items stored rows name.text) s → has Init s ≡ false → AddsNoAbsent (known_of items stored) block
-
--- a text of which this is known
-abbrev pub IsWhole : List Item → List Stored → Type 0
-IsWhole items stored = MakesInInit items → NamesNoMethod stored → HasNoAbsent items stored

@@ -17,6 +17,3 @@ pub use built_in::BUILT_IN;
 pub use joined::joined_tree;
 pub use library::{Kept, Library};
 pub use program::{checked, program_of};
-
-#[cfg(test)]
-mod tests;

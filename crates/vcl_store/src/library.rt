@@ -3,7 +3,7 @@ ghost use Rattle.std.specs.Prelude.{◌≡◌, ◌≢◌, ◌↔◌, ℕ, nat_eq
 ghost use Rattle.std.specs.Option.{option_copied};
 ghost use Rattle.indexmap.specs.IndexMap.{get};
 ghost use Rattle.vcl_store.specs.Joined.{IsJoined};
-ghost use Rattle.vcl_store.specs.Presence.{IsWhole};
+ghost use Rattle.vcl_store.specs.Presence.{HasNoAbsent};
 ghost use Rattle.vcl_store.specs.Refusals.{IsRefusalOf};
 
 use crate::program::program_of;
@@ -21,7 +21,7 @@ pub struct Kept {
     pub text: Text,
     pub compiled: Compiled,
     pub ghost joined: { ∥ IsJoined text compiled.program.tree ∥₁ },
-    pub ghost whole: { ∥ IsWhole compiled.program.tree.items compiled.program.stored ∥₁ },
+    pub ghost whole: { ∥ HasNoAbsent compiled.program.tree.items compiled.program.stored ∥₁ },
 }
 
 /// The programs that were made, each by its VCL's number.
@@ -52,7 +52,7 @@ impl Library {
     ) -> Result<&Compiled, VclError>
         ensures joined { IfOk result (λ compiled. ∥ IsJoined text.now compiled.now.program.tree ∥₁) }
         ensures stored { IfOk result (λ compiled. compiled.now.program.stored ≡ vmods.now.stored) }
-        ensures whole { IfOk result (λ compiled. ∥ IsWhole compiled.now.program.tree.items compiled.now.program.stored ∥₁) }
+        ensures whole { IfOk result (λ compiled. ∥ HasNoAbsent compiled.now.program.tree.items compiled.now.program.stored ∥₁) }
         ensures refused { IfErr result (IsRefusalOf text.now vmods.now.stored) }
     {
         self.keep(alloc, vcl, text, vmods)?;

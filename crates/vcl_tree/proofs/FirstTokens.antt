@@ -1,5 +1,5 @@
 -- What is read begins at the first token.
-use Rattle.std.proofs.Common.{◌≡◌, ℕ, List, [], ◌∷◌, Some, refl, sym, ◌∙◌, false}
+use Rattle.std.proofs.Common.{◌≡◌, ℕ, List, ◌∷◌, Some, refl, sym, ◌∙◌}
 use Rattle.vcl_tree.specs.Phrase.{Phrase, Label, Node}
 use Rattle.vcl_tree.specs.declared.token.Token.{Token}
 use Rattle.vcl_tree.specs.Places.{place_of, first_place}

@@ -1,5 +1,5 @@
 -- The order of faults of a text: by place, and at one place by the refusal's number.
-use Rattle.std.specs.Prelude.{ℕ, ◌≡◌, Bool, true, false, ◌||◌, ◌&&◌, ◌==◌, nat_lt}
+use Rattle.std.specs.Prelude.{Bool, ◌||◌, ◌&&◌, ◌==◌, nat_lt}
 use Rattle.vcl_tree.specs.Numbers.{number_of}
 use Rattle.vcl_tree.specs.declared.error.Fault.{Fault}
 

@@ -6,6 +6,7 @@
 #![tactic(auto)]
 
 mod attribute;
+mod endings;
 mod error;
 mod expression;
 mod item;
@@ -15,6 +16,7 @@ mod statement;
 mod token;
 
 pub use attribute::{Attribute, AttributeValue};
+pub use endings::{behind, dot_in, ends_in};
 pub use error::{Fault, Refusal, VclError, one_order};
 pub use expression::{Addend, Addition, Comparison, Expression, Operation};
 pub use item::{AclEntry, Item, Mask, Tree, Version};

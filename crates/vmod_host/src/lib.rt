@@ -15,7 +15,7 @@ mod tests;
 mod vmod;
 
 pub use integers::integer;
-pub use signature::{Signature, Stored};
+pub use signature::{Signature, Stored, stored_number};
 pub use strings::{strlen, tolower, toupper};
 pub use table::{TableError, VmodTable};
 pub use vmod::Vmod;

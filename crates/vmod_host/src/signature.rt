@@ -1,5 +1,5 @@
 // What a VCL text sees of a stored function.
-ghost use Rattle.std.specs.Prelude.{◌≡◌, IfOk};
+ghost use Rattle.std.specs.Prelude.{◌≡◌, IfOk, position};
 ghost use Rattle.vmod_host.specs.Stored.{is_named};
 
 use std::alloc::{AllocError, Global};
@@ -61,4 +61,13 @@ impl Signature {
     {
         self.module.bytes() == module_name && self.name.bytes() == name
     }
+}
+
+/// The number of the function of that module and name.
+pub fn stored_number(stored: &[Stored], module_name: &[u8], name: &[u8]) -> Option<usize>
+    ensures { result ≡ position (λ entry. is_named module_name.now name.now entry.signature) stored.now }
+{
+    stored
+        .iter()
+        .position(|entry| entry.signature.is_named(module_name, name))
 }

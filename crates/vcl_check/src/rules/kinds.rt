@@ -29,7 +29,7 @@ pub fn is_condition(sort: Sort) -> bool
 {
     match sort {
         Sort::Value(kind) => !matches!(kind, Kind::Ip),
-        Sort::Acl | Sort::Nothing => false,
+        Sort::Acl | Sort::Weight | Sort::Nothing => false,
         Sort::Unknown => true,
     }
 }
@@ -39,7 +39,7 @@ pub fn is_ordered(sort: Sort) -> bool
 {
     match sort {
         Sort::Value(kind) => matches!(kind, Kind::Int | Kind::Duration),
-        Sort::Acl | Sort::Nothing => false,
+        Sort::Acl | Sort::Weight | Sort::Nothing => false,
         Sort::Unknown => true,
     }
 }
@@ -51,9 +51,9 @@ pub fn alike(a: Sort, b: Sort) -> bool
         Sort::Value(first) => match b {
             Sort::Value(second) => same_kind(first, second),
             Sort::Unknown => true,
-            Sort::Acl | Sort::Nothing => false,
+            Sort::Acl | Sort::Weight | Sort::Nothing => false,
         },
-        Sort::Acl | Sort::Nothing => false,
+        Sort::Acl | Sort::Weight | Sort::Nothing => false,
         Sort::Unknown => true,
     }
 }
@@ -76,9 +76,9 @@ pub fn may_add(a: Sort, b: Sort) -> bool
         Sort::Value(first) => match b {
             Sort::Value(second) => adds(first, second),
             Sort::Unknown => true,
-            Sort::Acl | Sort::Nothing => false,
+            Sort::Acl | Sort::Weight | Sort::Nothing => false,
         },
-        Sort::Acl | Sort::Nothing => false,
+        Sort::Acl | Sort::Weight | Sort::Nothing => false,
         Sort::Unknown => is_value(b),
     }
 }

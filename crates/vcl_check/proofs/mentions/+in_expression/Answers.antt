@@ -1,30 +1,54 @@
-use Rattle.std.proofs.Common.{◌≡◌, ◌∙◌, List, refl, ap, subst, arith}
-use Rattle.std.specs.Prelude.{OnOk}
-use Rattle.vcl_tree.specs.Phrase.{Either, Both, Named, list_of}
-use Rattle.vcl_check.specs.Mentions.{Said, called_string, with_found, with_strings}
+use Rattle.std.proofs.Common.{◌≡◌, ◌+◌, ◌*◌, ◌∙◌, List, refl, ap, arith}
+use Rattle.vcl_tree.specs.Phrase.{Node, Either, Both, chain, phrase_size}
+use Rattle.vcl_check.specs.Mentions.{Said, with_strings}
+use Rattle.vcl_check.proofs.Chains.{operand-falls, first-falls, all-falls, term-falls, first-terms-fall, argument-falls}
 use Rattle.vcl_check.proofs.MentionLemmas.{strings-end, sum-strings-end, list-strings-end}
 use Rattle.vcl_check.proofs.mentions.+in_expression.Goals as goal
 
-pub returns-after-any : goal.returns-after-any
-returns-after-any t c =
-    rw (← c.e.view_is, c.in-Any.is, ← c.deref-operand-items.ensures.value) (strings-end Either (λ a b. refl) c.args.out.now.items (c.in-Any.first).value (c.in-Any.second).value c.deref-operand-items.result.now c.any.operand-index _ c.any.out.items
-    ((rw c.deref-in-Any.ensures at c.in_ok-in_expression-in-Any-2.ensures) ∙ ap (λ (s : List Said). with_strings s (c.in-Any.second).value) (rw c.deref.ensures at c.in_ok-in_expression-in-Any.ensures)) c.any.invariant (omega arith))
+pub in_expression-in_operands-requires-in-All : goal.in_expression-in_operands-requires-in-All
+in_expression-in_operands-requires-in-All t c =
+    let so_far : 2 * phrase_size c.args.e.now + 1 ≡ t = c.decreases in
+    let whole : 2 * phrase_size (chain Both (Node Both (c.in-All.first).value (c.in-All.second).value) (c.in-All.others).items) + 1 ≡ t = rw (← c.e.view_is, c.in-All.is) at so_far in
+    (all-falls _ _ _ _ _ _ t c.deref-in-All.ensures c.deref-in-All-2.ensures c.deref-in-All-3.ensures.value whole, tt)
 
-pub returns-after-all : goal.returns-after-all
-returns-after-all t c =
-    rw (← c.e.view_is, c.in-All.is, ← c.deref-operand-items-in-All.ensures.value) (strings-end Both (λ a b. refl) c.args.out.now.items (c.in-All.first).value (c.in-All.second).value c.deref-operand-items-in-All.result.now c.all.operand-index _ c.all.out.items
-    ((rw c.deref-in-All-2.ensures at c.in_ok-in_expression-in-All-2.ensures) ∙ ap (λ (s : List Said). with_strings s (c.in-All.second).value) (rw c.deref-in-All.ensures at c.in_ok-in_expression-in-All.ensures)) c.all.invariant (omega arith))
+pub in_operands-in_expression-requires : goal.in_operands-in_expression-requires
+in_operands-in_expression-requires t c = ((first-falls c.args.first.now c.args.second.now c.args.others.now t c.decreases).0, tt)
 
-pub returns-after-sum : goal.returns-after-sum
-returns-after-sum t c =
-    rw (← c.e.view_is, c.in-Sum.is, ← c.deref-addend-items.ensures.value) (sum-strings-end c.args.out.now.items ((c.in-Sum.second).value).sign (c.in-Sum.first).value ((c.in-Sum.second).value).term c.deref-addend-items.result.now c.sum.addend-index _ c.sum.out.items
-    ((rw c.deref-in-Sum-2.ensures at c.in_ok-in_expression-in-Sum-2.ensures) ∙ ap (λ (s : List Said). with_strings s ((c.in-Sum.second).value).term) (rw c.deref-in-Sum.ensures at c.in_ok-in_expression-in-Sum.ensures)) c.sum.invariant (omega arith))
+pub in_operands-in_expression-requires-2 : goal.in_operands-in_expression-requires-2
+in_operands-in_expression-requires-2 t c = ((first-falls c.args.first.now c.args.second.now c.args.others.now t c.decreases).1, tt)
 
-pub returns-after-arguments : goal.returns-after-arguments
-returns-after-arguments t c =
-    let e : c.arguments.out.items ≡ with_strings c.args.out.now.items (list_of c.deref-argument-items.result.now) =
-    list-strings-end c.args.out.now.items c.deref-argument-items.result.now c.arguments.argument-index _ c.arguments.out.items refl c.arguments.invariant (omega arith) in
-    let P : List Said → Type 0 = λ s.
-    OnOk c.found_in_call.result (c.found_in_call.new.out.items ≡ with_found s (called_string (Named 0 c.in-Call.name) (list_of (c.in-Call.arguments).items))) in
-    let called : P c.arguments.out.items = rw c.deref-in-Call.ensures.value at c.found_in_call.ensures in
-    rw (← c.e.view_is, c.in-Call.is) (subst P (rw c.deref-argument-items.ensures.value at e) called)
+pub in_operands-in_expression-requires-in-operands : goal.in_operands-in_expression-requires-in-operands
+in_operands-in_expression-requires-in-operands t c =
+    (operand-falls c.args.first.now c.args.second.now c.args.others.now c.operands.operand-index t c.operand-item.result c.operands-test.true c.operand-item.is c.decreases, tt)
+
+pub in_operands-returns-clause-any : goal.in_operands-returns-clause-any
+in_operands-returns-clause-any t c =
+    strings-end Either (λ a b. refl) c.args.out.now.items c.args.first.now c.args.second.now c.args.others.now c.operands.operand-index _ c.operands.out.items
+    (c.in_ok-in_expression-2.ensures ∙ ap (λ (s : List Said). with_strings s c.args.second.now) c.in_ok-in_expression.ensures) c.operands.invariant (omega arith)
+
+pub in_operands-returns-clause-all : goal.in_operands-returns-clause-all
+in_operands-returns-clause-all t c =
+    strings-end Both (λ a b. refl) c.args.out.now.items c.args.first.now c.args.second.now c.args.others.now c.operands.operand-index _ c.operands.out.items
+    (c.in_ok-in_expression-2.ensures ∙ ap (λ (s : List Said). with_strings s c.args.second.now) c.in_ok-in_expression.ensures) c.operands.invariant (omega arith)
+
+pub in_terms-in_expression-requires : goal.in_terms-in_expression-requires
+in_terms-in_expression-requires t c = ((first-terms-fall c.args.second.now.sign c.args.first.now c.args.second.now.term c.args.others.now t c.decreases).0, tt)
+
+pub in_terms-in_expression-requires-2 : goal.in_terms-in_expression-requires-2
+in_terms-in_expression-requires-2 t c = ((first-terms-fall c.args.second.now.sign c.args.first.now c.args.second.now.term c.args.others.now t c.decreases).1, tt)
+
+pub in_terms-in_expression-requires-in-terms : goal.in_terms-in_expression-requires-in-terms
+in_terms-in_expression-requires-in-terms t c =
+    (term-falls c.args.second.now.sign c.args.first.now c.args.second.now.term c.args.others.now c.terms.addend-index t c.addend-item.result c.terms-test.true c.addend-item.is c.decreases, tt)
+
+pub in_terms-returns : goal.in_terms-returns
+in_terms-returns t c =
+    sum-strings-end c.args.out.now.items c.args.second.now.sign c.args.first.now c.args.second.now.term c.args.others.now c.terms.addend-index _ c.terms.out.items
+    (c.in_ok-in_expression-2.ensures ∙ ap (λ (s : List Said). with_strings s c.args.second.now.term) c.in_ok-in_expression.ensures) c.terms.invariant (omega arith)
+
+pub in_arguments-in_expression-requires : goal.in_arguments-in_expression-requires
+in_arguments-in_expression-requires t c =
+    (argument-falls c.args.arguments.now c.arguments.argument-index t c.argument-item.result c.arguments-test.true c.argument-item.is c.decreases, tt)
+
+pub in_arguments-returns : goal.in_arguments-returns
+in_arguments-returns t c = list-strings-end c.args.out.now.items c.args.arguments.now c.arguments.argument-index _ c.arguments.out.items refl c.arguments.invariant (omega arith)

@@ -1,4 +1,4 @@
-use Rattle.std.proofs.Common.{◌≡◌, ◌∙◌, arith}
+use Rattle.std.proofs.Common.{◌∙◌, arith}
 use Rattle.vcl_program.specs.Blocks.{heads}
 use Rattle.vcl_program.proofs.Lists.{bodies-before}
 use Rattle.vcl_program.proofs.blocks.built_in_blocks.Goals as goal

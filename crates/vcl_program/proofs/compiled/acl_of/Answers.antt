@@ -1,4 +1,4 @@
-use Rattle.std.proofs.Common.{◌≡◌, List, sym, subst, ap, ◌∙◌, Err}
+use Rattle.std.proofs.Common.{List, sym, subst, ap, ◌∙◌, Err}
 use Rattle.acl_match.specs.declared.entry.AclEntry.{AclEntry as Network}
 use Rattle.acl_match.specs.Acl.{IsSound}
 use Rattle.vcl_program.proofs.SoundLists.{mask-refuted, clash-refuted}

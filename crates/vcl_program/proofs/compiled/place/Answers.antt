@@ -1,4 +1,4 @@
-use Rattle.std.proofs.Common.{◌≡◌, ℕ, List, sym, ap, ◌∙◌, position}
+use Rattle.std.proofs.Common.{ℕ, List, sym, ap, ◌∙◌, position}
 use Rattle.std.specs.Str.{bytes_eq}
 use Rattle.vcl_program.proofs.Found.{found-there, found-is}
 use Rattle.vcl_program.proofs.compiled.place.Goals as goal

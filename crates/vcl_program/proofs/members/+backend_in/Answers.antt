@@ -1,4 +1,3 @@
-use Rattle.std.proofs.Common.{◌≡◌}
 use Rattle.vcl_program.proofs.Lists.{either-none, both-none, sum-none}
 use Rattle.vcl_program.proofs.members.+backend_in.Goals as goal
 

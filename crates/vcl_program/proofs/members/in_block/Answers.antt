@@ -1,4 +1,4 @@
-use Rattle.std.proofs.Common.{◌≡◌, arith}
+use Rattle.std.proofs.Common.{arith}
 use Rattle.vcl_program.proofs.Lists.{members-end}
 use Rattle.vcl_program.proofs.members.in_block.Goals as goal
 

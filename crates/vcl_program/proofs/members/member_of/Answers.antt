@@ -1,4 +1,3 @@
-use Rattle.std.proofs.Common.{◌≡◌}
 use Rattle.vcl_tree.specs.Phrase.{At}
 use Rattle.vcl_program.proofs.Lists.{if-none, member-run}
 use Rattle.vcl_program.proofs.members.member_of.Goals as goal

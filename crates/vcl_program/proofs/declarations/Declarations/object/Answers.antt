@@ -1,4 +1,3 @@
-use Rattle.std.proofs.Common.{◌≡◌}
 use Rattle.vcl_tree.specs.Phrase.{At}
 use Rattle.vcl_program.proofs.Lists.{if-same}
 use Rattle.vcl_program.proofs.declarations.Declarations.object.Goals as goal

@@ -1,4 +1,4 @@
-use Rattle.std.proofs.Common.{◌≡◌, arith}
+use Rattle.std.proofs.Common.{arith}
 use Rattle.vcl_program.proofs.Lists.{objects-end}
 use Rattle.vcl_program.proofs.declarations.Declarations.objects.Goals as goal
 
