@@ -1,5 +1,5 @@
 -- Parts of a run one after another.
-use Rattle.std.proofs.Common.{◌≡◌, List, refl}
+use Rattle.std.proofs.Common.{◌≡◌, refl}
 use Rattle.vcl_operands.specs.Outs.{Out, On, Ends, Asks, and_then}
 
 pub bind_bind : {S A B C : Type 0} (m : Out S A) (f : A → S → Out S B) (g : B → S → Out S C) → and_then (and_then m f) g ≡ and_then m (λ a s. and_then (f a s) g)

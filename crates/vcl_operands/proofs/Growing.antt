@@ -1,22 +1,21 @@
 -- Numbering an expression only adds to the lists.
 use Rattle.std.proofs.lemmas.List.{append_assoc, append-nil}
 use Rattle.std.proofs.Common.{◌≡◌, ℕ, zero, suc, Bool, List, [], ◌∷◌, ◌++◌, length, Option, Some, None, refl, sym, ap, ◌∙◌, slice_get}
-use Rattle.vcl_tree.specs.Phrase.{Phrase, Node, String, Integer, Duration, Named, Nothing, More, Either, Both, Not, Group, Compared, Added, Subtracted, Called}
+use Rattle.vcl_tree.specs.Phrase.{Phrase, Node, String, Integer, Duration, Named, More, Either, Both, Not, Group, Compared, Added, Subtracted, Called}
 use Rattle.vcl_values.specs.declared.comparisons.Comparison.{Comparison}
 use Rattle.vcl_code.specs.declared.arena.Arena.{Arena}
 use Rattle.vcl_code.specs.declared.node.Node.{Node as Made}
 use Rattle.vcl_code.specs.declared.node.Arguments.{Arguments}
-use Rattle.vcl_code.specs.declared.node.Arguments.TheVariants.{Zero, One, Two, Three, More as TooMany}
+use Rattle.vcl_code.specs.declared.node.Arguments.TheVariants.{Zero, One, Three}
 use Rattle.vcl_code.specs.declared.names.Callee.{Callee}
 use Rattle.vcl_code.specs.declared.names.Callee.TheVariants as callee
-use Rattle.vcl_code.specs.declared.callees.Builtin.{Builtin}
 use Rattle.vcl_code.specs.declared.callees.Builtin.TheVariants as builtin
 use Rattle.vcl_code.specs.declared.node.Node.TheVariants as node
 use Rattle.vcl_code.specs.declared.node.Block.{Block}
 use Rattle.vcl_code.specs.declared.node.Branch.{Branch}
-use Rattle.vcl_code.specs.Arenas.{Numbered, at, with_node, with_block, with_branch, with_text, with_pattern, one, two}
+use Rattle.vcl_code.specs.Arenas.{Numbered, with_node, with_block, with_branch, with_text, with_pattern, one, two}
 use Rattle.vcl_code.specs.Names.{Known, Plain, Field, NoTarget, Read, OfTarget, Truth, Backend, NoRead, read_of, acl_of, callee_of}
-use Rattle.vcl_code.specs.Expressions.{numbered, numbered_arguments, absent, read_node, in_acl, searched, matched, ordered_as, asks_match, compared_with, Given, given, one_more, second_string, substitution, xkey, director, called}
+use Rattle.vcl_code.specs.Expressions.{numbered, numbered_arguments, read_node, in_acl, matched, ordered_as, asks_match, compared_with, Given, second_string, substitution, xkey, director, called}
 use Rattle.vcl_operands.specs.Later.{Begins, Later}
 
 pub begins-self : {T : Type 0} (xs : List T) → Begins xs xs

@@ -1,7 +1,7 @@
 -- The test whether a list takes an address says what the list's meaning says.
-use Rattle.std.proofs.Common.{◌≡◌, ◌↔◌, ℕ, ◌≤◌, ◌<◌, Bool, true, false, not, ◌&&◌, length, List, refl, sym, ◌∙◌, ap, subst, arith, slice_index_or}
+use Rattle.std.proofs.Common.{◌≡◌, ◌↔◌, ℕ, ◌≤◌, ◌<◌, Bool, true, false, not, ◌&&◌, length, List, refl, sym, subst, arith, slice_index_or}
 use Rattle.std.specs.Bool.{Decides}
-use Rattle.std.specs.List.{Contains, Any, list_any, list_all}
+use Rattle.std.specs.List.{Contains, list_all}
 use Rattle.std.proofs.lemmas.Bool.{eqb-true, eq-eqb}
 use Rattle.std.proofs.lemmas.Bool.Decides.{same_from_decides, nat_tests}
 use Rattle.std.proofs.lemmas.List.Folds.{Any-from_list_any, list_any-from_Any}

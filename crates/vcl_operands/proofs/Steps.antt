@@ -11,7 +11,7 @@ use Rattle.vcl_operands.specs.declared.frame.Frame.{Frame}
 use Rattle.vcl_operands.specs.declared.frame.Frame.TheVariants as frame
 use Rattle.vcl_operands.specs.declared.frame.Plan.{Plan}
 use Rattle.vcl_operands.specs.declared.frame.Plan.TheVariants as plan
-use Rattle.vcl_operands.specs.Outs.{Out, On, and_then, fail, known_on}
+use Rattle.vcl_operands.specs.Outs.{Out, and_then, fail, known_on}
 use Rattle.vcl_operands.specs.Meaning.{Operand}
 use Rattle.vcl_operands.specs.Falls.{Falls, reach}
 use Rattle.vcl_operands.specs.Nodes.{World, onward, with_rest, value_at, left_of, rest_of, given_if, leaf, plan_of, planned}

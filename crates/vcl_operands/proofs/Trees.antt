@@ -1,10 +1,9 @@
 -- An expression in numbers is worth what the expression is worth.
-use Rattle.std.proofs.Common.{◌≡◌, ◌<◌, ℕ, zero, suc, Bool, true, false, List, [], ◌∷◌, ◌++◌, length, Option, Some, None, option_map, option_and_then, refl, sym, ap, ◌∙◌, arith, slice_get, nat_lt, if◌then◌else◌}
+use Rattle.std.proofs.Common.{◌≡◌, ◌<◌, ℕ, Bool, true, false, List, [], ◌∷◌, ◌++◌, length, Option, Some, None, option_map, option_and_then, refl, sym, ap, ◌∙◌, arith, slice_get, nat_lt, if◌then◌else◌}
 use Rattle.std.proofs.Math.Path.{fun_ext}
-use Rattle.vcl_tree.specs.Phrase.{Phrase, Node, String, Integer, Duration, Named, Nothing, More, Either, Both, Not, Group, Compared, Added, Subtracted, Called}
+use Rattle.vcl_tree.specs.Phrase.{Phrase, Node, String, Integer, Duration, Named, More, Either, Both, Not, Group, Compared, Added, Subtracted, Called}
 use Rattle.vcl_values.specs.declared.comparisons.Comparison.{Comparison}
 use Rattle.vcl_values.specs.declared.value.Value.{Value}
-use Rattle.acl_match.specs.declared.entry.AclEntry.{AclEntry}
 use Rattle.vcl_code.specs.declared.arena.Arena.{Arena}
 use Rattle.vcl_code.specs.declared.node.Node.{Node as Made}
 use Rattle.vcl_code.specs.declared.node.Node.TheVariants as node
@@ -13,25 +12,25 @@ use Rattle.vcl_code.specs.declared.node.Arguments.TheVariants.{Zero, One, Two, T
 use Rattle.vcl_code.specs.declared.names.Callee.{Callee}
 use Rattle.vcl_code.specs.declared.names.Callee.TheVariants as callee
 use Rattle.vcl_code.specs.declared.callees.Builtin.TheVariants as builtin
-use Rattle.vcl_code.specs.Arenas.{Numbered, at, with_node, with_text, with_pattern, one, two}
+use Rattle.vcl_code.specs.Arenas.{Numbered, with_node, with_text, with_pattern, one, two}
 use Rattle.vcl_code.specs.Names.{Known, Plain, Field, NoTarget, Read, OfTarget, Truth, Backend, NoRead, read_of, acl_of, callee_of}
-use Rattle.vcl_code.specs.Expressions.{text_node, numbered, numbered_arguments, absent, read_node, in_acl, searched, matched, ordered_as, asks_match, compared_with, Given, given, one_more, with_argument, second_string, substitution, xkey, director, called}
+use Rattle.vcl_code.specs.Expressions.{text_node, numbered, numbered_arguments, absent, read_node, in_acl, searched, matched, ordered_as, asks_match, compared_with, Given, with_argument, second_string, substitution, xkey, director, called}
 use Rattle.vcl_turns.specs.declared.turn.Answer.{Answer}
-use Rattle.vcl_operands.specs.Outs.{Out, On, and_then, known_on, fail}
+use Rattle.vcl_operands.specs.Outs.{On, and_then, known_on, fail}
 use Rattle.vcl_operands.specs.Falls.{Falls}
 use Rattle.vcl_operands.specs.Later.{Later}
-use Rattle.vcl_operands.specs.Meaning.{Scene, scene, Operand, named_value, decides, sought_in, matched_in, comparison, purged, values_of, all_values, value_of, operands_of}
+use Rattle.vcl_operands.specs.Meaning.{Scene, scene, Operand, named_value, decides, sought_in, matched_in, comparison, values_of, all_values, value_of, operands_of}
 use Rattle.vcl_operands.specs.Meaning.{called as call_value}
-use Rattle.vcl_operands.specs.Nodes.{World, leaf, planned, node_value, value_at, with_rest, changed, combined}
+use Rattle.vcl_operands.specs.Nodes.{World, node_value, value_at, with_rest}
 use Rattle.vcl_context.specs.Fields.{field_value}
 use Rattle.vcl_values.specs.Operators.{text_value}
 use Rattle.std.proofs.lemmas.List.{length-append}
 use Rattle.std.proofs.lemmas.Bool.Decides.{nat_tests}
-use Rattle.vcl_operands.specs.Values.{ok_of, opposite, ordered, summed, lessened, substituted, asked, applied}
+use Rattle.vcl_operands.specs.Values.{ok_of, opposite, ordered, summed, lessened, substituted, applied}
 use Rattle.vcl_operands.specs.Values.{matched as match_value, sought as sought_value}
 use Rattle.vcl_operands.proofs.Binds.{bind_bind, and-then-same}
 use Rattle.vcl_operands.proofs.Depths.{at-node}
-use Rattle.vcl_operands.proofs.Growing.{get-later, get-pushed, later-self, later-trans, later-node, later-text, later-pattern, expression-later, called-later}
+use Rattle.vcl_operands.proofs.Growing.{get-pushed, later-trans, later-node, later-pattern, expression-later, called-later}
 
 abbrev pub scene_of : World → Scene
 scene_of w = scene w.code w.stored w.context

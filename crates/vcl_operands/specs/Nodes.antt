@@ -1,5 +1,5 @@
 -- What expressions in numbers are worth, and what is left of one whose evaluation is under way.
-use Rattle.std.specs.Prelude.{ℕ, zero, suc, Bool, true, false, List, [], ◌∷◌, ◌++◌, length, Option, Some, None, option_and_then, slice_get}
+use Rattle.std.specs.Prelude.{ℕ, zero, suc, true, false, List, [], ◌∷◌, ◌++◌, length, Option, Some, None, option_and_then, slice_get}
 use Rattle.vcl_values.specs.declared.value.Value.{Value}
 use Rattle.vcl_values.specs.declared.value.Value.TheVariants as value
 use Rattle.vcl_context.specs.Reading.{value_of as variable_value}
@@ -24,7 +24,7 @@ use Rattle.vcl_operands.specs.declared.evaluation.Outcome.{Outcome}
 use Rattle.vcl_operands.specs.declared.evaluation.Outcome.TheVariants as outcome
 use Rattle.vcl_turns.specs.declared.turn.Answer.{Answer}
 use Rattle.vcl_turns.specs.declared.turn.Command.TheVariants.{Xkey}
-use Rattle.vcl_operands.specs.Outs.{Out, On, and_then, fail, known_on, ask, number_of}
+use Rattle.vcl_operands.specs.Outs.{On, and_then, fail, known_on, ask, number_of}
 use Rattle.vcl_operands.specs.Meaning.{Operand, decides, purged}
 use Rattle.vcl_operands.specs.Values.{literal, named_field, truth_value, opposite, matched, sought, ordered, summed, lessened, substituted, backend_at, director_at, asked, applied}
 

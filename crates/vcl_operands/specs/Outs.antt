@@ -1,5 +1,5 @@
 -- What a part of a run comes to, with the answers that the run is given.
-use Rattle.std.specs.Prelude.{ℕ, ℤ, pos, List, [], ◌∷◌, Option, Some, None}
+use Rattle.std.specs.Prelude.{ℤ, pos, List, [], ◌∷◌, Option, Some, None}
 use Rattle.vcl_turns.specs.declared.turn.Answer.{Answer}
 use Rattle.vcl_turns.specs.declared.turn.Answer.TheVariants.{Number}
 use Rattle.vcl_turns.specs.declared.turn.Command.{Command}

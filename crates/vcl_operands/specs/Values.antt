@@ -1,6 +1,6 @@
 -- What the operators and functions of VCL make of values (the Varnish Reference Manual, VCL; docs/VCL.md). None is for what
 -- passes a range or a limit, and for what no sound text has; the run ends there as `fail`.
-use Rattle.std.specs.Prelude.{ℕ, Bool, false, not, List, [], ◌∷◌, length, nat_lt, Option, Some, None, is_some, option_map, option_and_then, slice_get, Result, Ok, Err, if◌then◌else◌}
+use Rattle.std.specs.Prelude.{ℕ, Bool, false, not, List, [], ◌∷◌, Option, Some, None, is_some, option_map, option_and_then, slice_get, Result, Ok, Err, if◌then◌else◌}
 use Rattle.std.specs.Bool.{beq}
 use Rattle.vcl_values.specs.declared.value.Backend.{Backend}
 use Rattle.vcl_values.specs.declared.value.Value.{Value}
@@ -9,7 +9,7 @@ use Rattle.vcl_values.specs.declared.value.Kind.{Kind}
 use Rattle.vcl_values.specs.declared.value.Kind.TheVariants as kind
 use Rattle.vcl_values.specs.declared.comparisons.Comparison.{Comparison}
 use Rattle.vcl_values.specs.Values.{kind_of, text_of, truth_of}
-use Rattle.vcl_values.specs.Operators.{sum_of, difference_of, text_value, text_within, text_limit, compared}
+use Rattle.vcl_values.specs.Operators.{sum_of, difference_of, text_value, text_within, compared}
 use Rattle.vcl_values.specs.Readings.{first_found}
 use Rattle.vcl_values.specs.Replacements.{replaced}
 use Rattle.acl_match.specs.declared.entry.AclEntry.{AclEntry}

@@ -11,8 +11,6 @@ mod laws;
 mod leaves;
 mod operators;
 mod stack;
-#[cfg(test)]
-mod tests;
 
 pub use calls::fitted;
 pub use evaluation::{Evaluation, Outcome};

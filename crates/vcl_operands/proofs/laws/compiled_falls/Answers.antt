@@ -1,4 +1,4 @@
-use Rattle.std.proofs.Common.{◌≡◌, sym, subst}
+use Rattle.std.proofs.Common.{sym, subst}
 use Rattle.vcl_program.specs.declared.code.Code.{Code}
 use Rattle.vcl_program.specs.Codes.{code_of}
 use Rattle.vcl_program.specs.Falling.{IsFalling, BranchesFall}

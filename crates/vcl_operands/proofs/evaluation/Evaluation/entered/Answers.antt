@@ -1,4 +1,4 @@
-use Rattle.std.proofs.Common.{◌≡◌, ◌<◌, ℕ, None, refl, sym}
+use Rattle.std.proofs.Common.{None, refl, sym}
 use Rattle.vcl_operands.specs.Nodes.{world}
 use Rattle.vcl_operands.proofs.Steps.{enter-none, enter-first, enter-calls, enter-leaf, first-weighs, calls-weighs, leaf-weighs}
 use Rattle.vcl_operands.proofs.evaluation.Evaluation.entered.Goals as goal

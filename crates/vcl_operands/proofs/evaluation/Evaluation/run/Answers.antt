@@ -1,4 +1,4 @@
-use Rattle.std.proofs.Common.{◌≡◌, ◌∙◌, sym}
+use Rattle.std.proofs.Common.{◌∙◌, sym}
 use Rattle.vcl_operands.specs.Nodes.{world, rest_of}
 use Rattle.vcl_operands.specs.Weights.{weight}
 use Rattle.vcl_operands.proofs.Steps.{give-preserved, give-smaller, reached-next}

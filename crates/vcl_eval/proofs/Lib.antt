@@ -1,0 +1,5 @@
+pub mod Depths
+pub mod Lefts
+pub mod Rises
+pub mod Steps
+pub mod Turns

@@ -1,0 +1,20 @@
+use Rattle.std.proofs.Common.{◌≡◌, ℤ, List, subst, w64}
+use Rattle.std.proofs.lemmas.Int.{to_z-of_z}
+use Rattle.vcl_turns.specs.declared.turn.Answer.{Answer}
+use Rattle.vcl_turns.specs.declared.turn.Answer.TheVariants.{Number}
+use Rattle.vcl_operands.specs.Nodes.{World, world, given_number, came_to}
+use Rattle.vcl_eval.proofs.Lefts.{counted-left}
+use Rattle.vcl_eval.proofs.Turns.{counted-follows}
+use Rattle.vcl_eval.proofs.live.Live.counted.Goals as goal
+
+pub returns-clause-value : goal.returns-clause-value
+returns-clause-value g c =
+    let w : World = world c.args.program.now.code c.args.functions.now.stored c.args.self.now.context in
+    let P : ℤ → Type 0 = λ n. (s : List Answer) → given_number w c.args.self.now.evaluation (Number n) s ≡ came_to w c.in_ok-outcome.outcome c.answer.new.self s in
+    counted-follows c.args.program.now.code c.args.functions.now.stored c.args.self.now c.run.new.self c.answer.new.self c.args.what c.in_ok-outcome.outcome c.args.count c.task_after.result c.run.result
+    c.task_after.ensures (subst P (to_z-of_z w64 c.args.count c.ranges.count) c.in_ok-outcome.ensures.value) c.run.ensures.value
+
+pub returns-clause-less : goal.returns-clause-less
+returns-clause-less g c =
+    counted-left c.args.program.now.code c.args.what c.in_ok-outcome.outcome c.task_after.result c.args.self.now c.run.new.self c.answer.new.self c.run.result c.task_after.ensures
+    c.in_ok-outcome.ensures.less c.run.ensures.less

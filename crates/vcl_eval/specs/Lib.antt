@@ -1,0 +1,8 @@
+pub mod Lives
+pub mod Returns
+pub mod Runs
+pub mod Statements
+pub mod States
+pub mod Statuses
+pub mod Turns
+pub mod Weights

@@ -1,0 +1,44 @@
+-- What the words of return come to, with their values. None ends the run as `fail`.
+use Rattle.std.specs.Prelude.{ℕ, ℤ, pos, ◌&&◌, List, Option, Some, None, option_and_then, if◌then◌else◌}
+use Rattle.vcl_values.specs.declared.value.Value.{Value}
+use Rattle.vcl_values.specs.declared.value.Value.TheVariants as value
+use Rattle.vcl_context.specs.Carried.{is_status, is_reason}
+use Rattle.vcl_code.specs.declared.node.ReturnWord.{ReturnWord}
+use Rattle.vcl_code.specs.declared.node.ReturnWord.TheVariants as word
+use Rattle.vcl_turns.specs.declared.turn.Return.{Return}
+use Rattle.vcl_turns.specs.declared.turn.Return.TheVariants as ending
+use Rattle.vcl_operands.specs.Values.{as_text}
+use Rattle.vcl_eval.specs.Statuses.{reason_of}
+
+-- a status from 200 to 999, and a reason that the line carries
+abbrev pub answered : (ℤ → List ℕ → Return) → ℤ → List ℕ → Option Return
+answered make status reason = if is_status status && is_reason reason then Some (make status reason) else None
+
+-- a word alone; `error` alone is error(503), and `synth` has a status always
+abbrev pub plain : ReturnWord → Option Return
+plain word.Hash = Some ending.Hash
+plain word.Pass = Some ending.Pass
+plain word.Purge = Some ending.Purge
+plain word.Restart = Some ending.Restart
+plain word.Lookup = Some ending.Lookup
+plain word.Deliver = Some ending.Deliver
+plain word.Fetch = Some ending.Fetch
+plain word.Abandon = Some ending.Abandon
+plain word.Retry = Some ending.Retry
+plain word.Ok = Some ending.Ok
+plain word.Error = answered ending.Error (pos 503) (reason_of (pos 503))
+plain word.Synth = None
+plain word.Fail = None
+
+-- with one value: a status whose reason goes with it, or the time of `pass`
+abbrev pub with_one : ReturnWord → Value → Option Return
+with_one word.Synth (value.Int status) = answered ending.Synth status (reason_of status)
+with_one word.Error (value.Int status) = answered ending.Error status (reason_of status)
+with_one word.Pass (value.Duration time) = Some (ending.PassFor time)
+with_one _ v = None
+
+-- with a status and a reason
+abbrev pub with_two : ReturnWord → Value → Value → Option Return
+with_two word.Synth (value.Int status) reason = option_and_then (answered ending.Synth status) (as_text reason)
+with_two word.Error (value.Int status) reason = option_and_then (answered ending.Error status) (as_text reason)
+with_two _ status reason = None

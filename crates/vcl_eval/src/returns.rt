@@ -1,0 +1,123 @@
+// How a subroutine returns.
+ghost use Rattle.std.specs.Prelude.{◌≡◌, IfOk};
+ghost use Rattle.vcl_context.specs.Carried.{is_status, is_reason};
+ghost use Rattle.vcl_eval.specs.Returns.{plain, with_one, with_two, answered};
+ghost use Rattle.vcl_eval.specs.Statuses.{reason_of};
+ghost use Rattle.vcl_turns.specs.declared.turn.Return.TheVariants.{Synth, Error};
+
+use std::alloc::{AllocError, Global};
+use units::Text;
+use vcl_code::ReturnWord;
+use vcl_operands::short_text;
+use vcl_turns::Return;
+use vcl_values::Value;
+
+/// A word alone.
+pub fn plain(alloc: Global, word: ReturnWord) -> Result<Option<Return>, AllocError>
+    ensures { IfOk result (λ ending. ending ≡ plain word) }
+{
+    match word {
+        ReturnWord::Hash => Ok(Some(Return::Hash)),
+        ReturnWord::Pass => Ok(Some(Return::Pass)),
+        ReturnWord::Purge => Ok(Some(Return::Purge)),
+        ReturnWord::Restart => Ok(Some(Return::Restart)),
+        ReturnWord::Lookup => Ok(Some(Return::Lookup)),
+        ReturnWord::Deliver => Ok(Some(Return::Deliver)),
+        ReturnWord::Fetch => Ok(Some(Return::Fetch)),
+        ReturnWord::Abandon => Ok(Some(Return::Abandon)),
+        ReturnWord::Retry => Ok(Some(Return::Retry)),
+        ReturnWord::Ok => Ok(Some(Return::Ok)),
+        ReturnWord::Error => Ok(erred(503, reason_of(alloc, 503)?)),
+        ReturnWord::Synth | ReturnWord::Fail => Ok(None),
+    }
+}
+
+/// A word with one value.
+pub fn with_one(
+    alloc: Global,
+    word: ReturnWord,
+    value: &Value,
+) -> Result<Option<Return>, AllocError>
+    ensures { IfOk result (λ ending. ending ≡ with_one word value.now) }
+{
+    match (word, value) {
+        (ReturnWord::Synth, Value::Int(status)) => {
+            Ok(synthesized(*status, reason_of(alloc, *status)?))
+        }
+        (ReturnWord::Error, Value::Int(status)) => Ok(erred(*status, reason_of(alloc, *status)?)),
+        (ReturnWord::Pass, Value::Duration(time)) => Ok(Some(Return::PassFor(*time))),
+        _ => Ok(None),
+    }
+}
+
+/// A word with a status and a reason.
+pub fn with_two(
+    alloc: Global,
+    word: ReturnWord,
+    status: &Value,
+    reason: &Value,
+) -> Result<Option<Return>, AllocError>
+    ensures { IfOk result (λ ending. ending ≡ with_two word status.now reason.now) }
+{
+    match (word, status) {
+        (ReturnWord::Synth, Value::Int(status)) => match short_text(alloc, reason)? {
+            Some(reason) => Ok(synthesized(*status, reason)),
+            None => Ok(None),
+        },
+        (ReturnWord::Error, Value::Int(status)) => match short_text(alloc, reason)? {
+            Some(reason) => Ok(erred(*status, reason)),
+            None => Ok(None),
+        },
+        _ => Ok(None),
+    }
+}
+
+fn synthesized(status: i64, reason: Text) -> Option<Return>
+    ensures { result ≡ answered Synth status reason }
+{
+    if is_status(status) && is_reason(reason.bytes()) {
+        Some(Return::Synth(status, reason))
+    } else {
+        None
+    }
+}
+
+fn erred(status: i64, reason: Text) -> Option<Return>
+    ensures { result ≡ answered Error status reason }
+{
+    if is_status(status) && is_reason(reason.bytes()) {
+        Some(Return::Error(status, reason))
+    } else {
+        None
+    }
+}
+
+fn is_status(status: i64) -> bool
+    ensures { result ≡ is_status status }
+{
+    199 < status && status < 1000
+}
+
+fn is_reason(text: &[u8]) -> bool
+    ensures { result ≡ is_reason text.now }
+{
+    text.iter()
+        .all(|byte| *byte == b'\t' || (*byte >= b' ' && *byte != 0x7f))
+}
+
+// The reason that goes with a status (RFC 9110, section 15).
+fn reason_of(alloc: Global, status: i64) -> Result<Text, AllocError>
+    ensures { IfOk result (λ reason. reason ≡ reason_of status) }
+{
+    match status {
+        200 => Text::of(alloc, b"OK"),
+        400 => Text::of(alloc, b"Bad Request"),
+        403 => Text::of(alloc, b"Forbidden"),
+        404 => Text::of(alloc, b"Not Found"),
+        405 => Text::of(alloc, b"Method Not Allowed"),
+        500 => Text::of(alloc, b"Internal Server Error"),
+        501 => Text::of(alloc, b"Not Implemented"),
+        503 => Text::of(alloc, b"Service Unavailable"),
+        _ => Text::of(alloc, b"Unknown"),
+    }
+}

@@ -1,0 +1,20 @@
+-- The answer to a turn suits the machine behind it.
+use Rattle.std.proofs.Common.{pos, Option, Some, None, IfSome, Result, Ok, Err, IfOk, sym, subst}
+use Rattle.vcl_turns.specs.declared.turn.Answer.{Answer}
+use Rattle.vcl_turns.specs.declared.turn.Command.TheVariants as command
+use Rattle.vcl_turns.specs.declared.turn.Turn.{Turn}
+use Rattle.vcl_turns.specs.declared.turn.Turn.TheVariants as turn
+use Rattle.vcl_eval.specs.declared.machine.Machine.{Machine}
+use Rattle.vcl_eval.specs.Turns.{Suits, SuitsBehind}
+use Rattle.vcl_eval_tests.specs.Following.{FollowsTurned}
+
+next-suits : {E : Type 0} (r : Result Turn E) (m : Machine) (a : Answer) → IfOk r (λ t. SuitsBehind t m) → FollowsTurned r (Some a) → Suits a m
+next-suits (Ok (turn.Need (command.Ban text))) m a h e = subst (λ (x : Answer). Suits x m) (sym e) h
+next-suits (Ok (turn.Need (command.Xkey keys soft))) m a h e = subst (λ (x : Answer). Suits x m) (sym e) (h (pos 7))
+next-suits (Ok (turn.End word c)) m a h e = absurd e
+next-suits (Err z) m a h e = absurd e
+
+pub next-suit : {E F : Type 0} (r : Result Turn E) (q : Result (Option Answer) F) (m : Machine) → IfOk r (λ t. SuitsBehind t m) → IfOk q (FollowsTurned r) → IfOk q (λ next. IfSome next (λ a. Suits a m))
+next-suit r (Ok (Some a)) m h k = next-suits r m a h k
+next-suit r (Ok None) m h k = tt
+next-suit r (Err z) m h k = tt

@@ -1,0 +1,45 @@
+// What a row wants, and what its run shows.
+use crate::programs::Subject;
+use crate::repeats::repeated;
+use crate::runs::shown;
+use std::alloc::{AllocError, Global};
+use vmod_host::VmodTable;
+
+/// The functions of `std`, and `std.strlen` alone with a body that copies its text.
+#[derive(Drop)]
+pub struct Tables {
+    pub usual: VmodTable,
+    pub copying: VmodTable,
+}
+
+/// Whether the line is a row: behind `#` it says what the rows behind it are about.
+pub fn is_row(line: &str) -> bool {
+    !line.is_empty() && !line.starts_with('#')
+}
+
+/// What the run of the row's statements shows, where the row wants something else. A row has the subroutine, how many
+/// statements were run before, the statements, `=>` and what is to be shown; or what is done again and how many times.
+pub fn otherwise(alloc: Global, tables: &Tables, line: &str) -> Result<Option<String>, AllocError> {
+    let (named, rest) = line.split_once(' ').unwrap_or((line, ""));
+    let (counted, rest) = rest.split_once(' ').unwrap_or((rest, ""));
+    let (statements, wanted) = rest.split_once(" => ").unwrap_or((rest, ""));
+    let functions = if named == "copying" {
+        &tables.copying
+    } else {
+        &tables.usual
+    };
+    let counted = counted.parse::<u32>().unwrap_or(0);
+    let shown = match Subject::named(named) {
+        Some(subject) => shown(alloc, functions, subject, counted, statements)?,
+        None => repeated(alloc, functions, named, counted, statements)?,
+    };
+    Ok(unless_same(shown, wanted))
+}
+
+fn unless_same(shown: String, wanted: &str) -> Option<String> {
+    if shown.as_str() == wanted {
+        None
+    } else {
+        Some(shown)
+    }
+}

@@ -1,0 +1,4 @@
+mod Chains
+mod Growing
+mod Texts
+mod Trees

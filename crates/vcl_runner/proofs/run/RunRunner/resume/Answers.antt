@@ -1,0 +1,18 @@
+use Rattle.vcl_runner.proofs.Nexts.{resumed-stands, resumed-turns, resumed-awaits, resumed-less}
+use Rattle.vcl_runner.proofs.run.RunRunner.resume.Goals as goal
+
+pub returns-clause-stands : goal.returns-clause-stands
+returns-clause-stands g c =
+    resumed-stands c.args.program.now.compiled.code c.args.program.now.compiled.program.tree.items c.args.program.now.compiled.program.stored c.args.program.now.functions.stored c.args.answer
+    c.args.self.now.machine c.resume.new.self c.resume.result (rw (c.deref.ensures) at c.resume.ensures.turn) c.resume.ensures.suits c.resume.ensures.alive c.resume.ensures.less
+
+pub returns-clause-turns : goal.returns-clause-turns
+returns-clause-turns g c =
+    resumed-turns c.args.program.now.compiled.code c.args.program.now.compiled.program.tree.items c.args.program.now.compiled.program.stored c.args.program.now.functions.stored c.args.answer
+    c.args.self.now.machine c.resume.new.self c.resume.result (rw (c.deref.ensures) at c.resume.ensures.turn) c.resume.ensures.alive
+
+pub returns-clause-fits : goal.returns-clause-fits
+returns-clause-fits g c = resumed-awaits c.resume.result c.resume.new.self c.resume.ensures.suits
+
+pub returns-clause-less : goal.returns-clause-less
+returns-clause-less g c = resumed-less c.args.program.now.compiled.code _ c.resume.result c.resume.new.self (c.resume.ensures.less c.requires.stands.1.1)
