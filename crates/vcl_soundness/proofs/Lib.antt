@@ -1,0 +1,15 @@
+pub mod Changes
+pub mod Expressions
+pub mod Lists
+pub mod Names
+pub mod Reached
+pub mod Said
+pub mod Same
+pub mod Sets
+pub mod Standard
+pub mod Statements
+pub mod Tables
+pub mod Typed
+pub mod Values
+pub mod Whole
+pub mod Words

@@ -1,0 +1,5 @@
+use Rattle.vcl_soundness.proofs.Whole.{run-told}
+use Rattle.vcl_soundness.proofs.laws.no_stray.Goals as goal
+
+pub returns : goal.returns
+returns c = run-told
