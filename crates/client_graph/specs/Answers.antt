@@ -1,5 +1,5 @@
 -- Where an answer leads (Varnish Reference Manual, VCL-Steps; Varnish Users Guide, "Hit-for-miss", "Grace mode and keep").
-use Rattle.std.specs.Prelude.{ℕ, Bool, true, false, List, [], Option, Some, None, option_map, is_some, if◌then◌else◌}
+use Rattle.std.specs.Prelude.{ℕ, Bool, true, false, Option, Some, None, option_map}
 use Rattle.cache_law.specs.declared.object.ObjectView.{ObjectView}
 use Rattle.cache_law.specs.declared.call.Query.{Query}
 use Rattle.cache_law.specs.declared.call.Reply.{Reply}

@@ -1,6 +1,6 @@
 -- Which state follows a subroutine of a client's request by its word (Varnish Reference Manual, VCL-Steps, "Client side";
 -- Varnish Users Guide, "Built in subroutines", "Grace mode and keep", "Hit-for-miss").
-use Rattle.std.specs.Prelude.{ℕ, ℤ, pos, nat_lt, ◌+◌, Bool, true, false, List, [], Option, Some, None, if◌then◌else◌}
+use Rattle.std.specs.Prelude.{ℕ, nat_lt, ◌+◌, Bool, true, false, List, Option, Some, None}
 use Rattle.cache_law.specs.declared.call.Query.{Query}
 use Rattle.vcl_context.specs.declared.context.Context.{Context}
 use Rattle.vcl_language.specs.declared.scope.Subroutine.{Subroutine}
@@ -19,11 +19,11 @@ use Rattle.client_graph.specs.declared.round.Wish.TheVariants as wish
 use Rattle.client_graph.specs.declared.round.State.{State}
 use Rattle.client_graph.specs.declared.round.State.TheVariants as state
 use Rattle.client_graph.specs.declared.round.Errand.TheVariants.{Store}
-use Rattle.client_graph.specs.declared.round.Spot.{Spot}
 use Rattle.client_graph.specs.declared.round.Spot.TheVariants as spot
 use Rattle.client_graph.specs.declared.round.Next.{Next}
 use Rattle.client_graph.specs.declared.round.Next.TheVariants.{Enter, Rest}
-use Rattle.client_graph.specs.Contexts.{context_again, without_key, with_response, with_bare_response, uncounted, made_body, synth_status}
+use Rattle.client_graph.specs.Contexts.{context_again, without_key, with_response, with_bare_response}
+use Rattle.vcl_context.specs.Unfilled.{uncounted, made_body, given_status}
 use Rattle.client_graph.specs.Shown.{opened_of, body_in}
 
 -- the subroutine that runs in a state
@@ -67,7 +67,7 @@ restarted_if false context round = failing TooManyRestarts context round
 
 -- the words that lead to the same from wherever they are given; what isn't a word there fails
 abbrev pub common : Return → Context → Round → Next
-common (word.Synth status reason) context round = synthesized (synth_status status) reason context round
+common (word.Synth status reason) context round = synthesized (given_status status) reason context round
 common word.Restart context round = restarted_if (may_restart round) context round
 common word context round = failing VclFailed context round
 

@@ -1,7 +1,6 @@
 // What is wanted where a round rests.
 ghost use Rattle.std.specs.Prelude.{◌≡◌, Option, None, Some, IfOk};
 ghost use Rattle.std.specs.Option.{option_copied};
-ghost use Rattle.cache_law.specs.declared.rounds.Order.{Order as Ordered};
 ghost use Rattle.delivery.specs.Finished.{finished};
 ghost use Rattle.client_graph.specs.Wants.{hint_at as hint_in, hint_text as text_of_hint, store_order as store_ordered, pass_order as pass_ordered, order_of as ordered, asks_with};
 
@@ -11,7 +10,7 @@ use cache_law::{Call, ObjectView, Target};
 use delivery::{failure_page, finish};
 use http_heads::RequestHead;
 use std::alloc::{AllocError, Global};
-use units::{Copied, Text};
+use units::{Copied, Text, lost};
 use vcl_context::Context;
 use vcl_values::Backend;
 
@@ -47,6 +46,16 @@ fn stale_copy(stale: &Option<ObjectView>) -> Result<Option<ObjectView>, AllocErr
     }
 }
 
+// The request of a fetch.
+fn request_of(alloc: Global, context: &Context, body: Text) -> Result<Request, AllocError>
+    ensures { IfOk result (λ request. request ≡ record { head = context.now.request.head; body = body }) }
+{
+    let Ok(head) = context.request.head.copied(alloc) else {
+        return Err(lost(body));
+    };
+    Ok(Request { head, body })
+}
+
 // A fetch of what may be stored.
 fn store_order(
     alloc: Global,
@@ -58,18 +67,30 @@ fn store_order(
 ) -> Result<Order, AllocError>
     ensures { IfOk result (λ order. order ≡ store_ordered hint background round.now held.now context.now) }
 {
+    let Ok(body) = Text::of(alloc, b"") else {
+        return Err(lost(hint));
+    };
+    let Ok(request) = request_of(alloc, context, body) else {
+        return Err(lost(hint));
+    };
+    let Ok(hint_text) = hint_text(alloc, &context.request.backend_hint) else {
+        return Err(lost((hint, request)));
+    };
+    let Ok(looked) = held.query.copy() else {
+        return Err(lost((hint, request, hint_text)));
+    };
+    let Ok(stale) = stale_copy(&held.stale) else {
+        return Err(lost((hint, request, hint_text, looked)));
+    };
     Ok(Order {
         number: held.token,
         vcl: round.vcl,
         peer: round.peer,
-        request: Request {
-            head: context.request.head.copied(alloc)?,
-            body: Text::of(alloc, b"")?,
-        },
+        request,
         hint,
-        hint_text: hint_text(alloc, &context.request.backend_hint)?,
-        looked: Some(held.query.copy()?),
-        stale: stale_copy(&held.stale)?,
+        hint_text,
+        looked: Some(looked),
+        stale,
         background,
         moment: held.moment,
     })
@@ -86,16 +107,22 @@ fn pass_order(
 ) -> Result<Order, AllocError>
     ensures { IfOk result (λ order. order ≡ pass_ordered hint round.now number moment context.now) }
 {
+    let Ok(body) = round.asked.body.copy() else {
+        return Err(lost(hint));
+    };
+    let Ok(request) = request_of(alloc, context, body) else {
+        return Err(lost(hint));
+    };
+    let Ok(hint_text) = hint_text(alloc, &context.request.backend_hint) else {
+        return Err(lost((hint, request)));
+    };
     Ok(Order {
         number,
         vcl: round.vcl,
         peer: round.peer,
-        request: Request {
-            head: context.request.head.copied(alloc)?,
-            body: round.asked.body.copy()?,
-        },
+        request,
         hint,
-        hint_text: hint_text(alloc, &context.request.backend_hint)?,
+        hint_text,
         looked: None,
         stale: None,
         background: false,
@@ -129,14 +156,12 @@ fn send(
 ) -> Result<Want, AllocError>
     ensures { IfOk result (λ want. want ≡ Want.Send (finished asked.now context.now.request.head.fields context.now.response body.now)) }
 {
-    let head = context.response.copied(alloc)?;
-    Ok(Want::Send(finish(
-        alloc,
-        asked,
-        &context.request.head.fields,
-        head,
-        body.copy()?,
-    )?))
+    let body = body.copy()?;
+    let Ok(head) = context.response.copied(alloc) else {
+        return Err(lost(body));
+    };
+    let fields = &context.request.head.fields;
+    Ok(Want::Send(finish(alloc, asked, fields, head, body)?))
 }
 
 /// What is wanted where the round rests, by `asks_with` of `specs/Wants.antt`. `hint` is the target that `Spot::hint`

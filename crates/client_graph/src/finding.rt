@@ -138,13 +138,12 @@ pub fn cached_at(
 pub fn passed_at(alloc: Global, view: &ObjectView, moment: u64) -> Result<CachedObject, AllocError>
     ensures { IfOk result (λ object. object ≡ passed_on view.now moment) }
 {
-    Ok(CachedObject {
-        hits: 0,
-        ttl: 0,
-        grace: 0,
-        keep: 0,
-        ..cached_at(alloc, true, view, moment)?
-    })
+    let mut object = cached_at(alloc, true, view, moment)?;
+    object.hits = 0;
+    object.ttl = 0;
+    object.grace = 0;
+    object.keep = 0;
+    Ok(object)
 }
 
 /// What vcl_deliver begins with.

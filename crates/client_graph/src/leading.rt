@@ -1,18 +1,18 @@
 // Where a subroutine's word leads.
-ghost use Rattle.std.specs.Prelude.{◌≡◌, ◌<◌, ◌↔◌, IsTrue, IfOk};
+ghost use Rattle.std.specs.Prelude.{◌≡◌, ◌<◌, Option, IfOk, option_map};
+ghost use Rattle.client_graph.specs.declared.round.Held.{Held as Open};
+ghost use Rattle.client_graph.specs.Contexts.{without_key};
 ghost use Rattle.client_graph.specs.Graph.{subroutine_of, enter as entered, synthesized, failing, may_restart as may, restarted, restarted_if as restarts_if, common as common_next, giving_up, restarted_late as late, late_restart as late_next, last_restart as last_next, query_of as query_in, delivered_hit as hit_next, leads};
 
-use crate::contexts::{
-    context_again, made_body, synth_status, uncounted, with_bare_response, with_response,
-    without_key,
-};
+use crate::contexts::{context_again, forget_key, put_bare_response, put_response};
 use crate::finding::{body_of, opened};
 use crate::{Errand, Held, Next, Round, Shown, Spot, State, Wish};
 use cache_law::{Options, Query, RequestView, Shared};
 use delivery::{Failure, Numbers, open_synthetic};
 use std::alloc::{AllocError, Global};
-use units::{Copied, Text};
-use vcl_context::Context;
+use std::mem;
+use units::{Copied, Text, lost};
+use vcl_context::{Context, given_status, made_body};
 use vcl_language::Subroutine;
 use vcl_turns::Return;
 
@@ -38,12 +38,13 @@ impl State {
 }
 
 /// The subroutine of a state runs, with no statement counted.
-pub fn enter(state: State, context: Context, round: Round) -> Next
+pub fn enter(state: State, mut context: Context, round: Round) -> Next
     ensures { result ≡ entered state context round }
 {
+    context.statements = 0;
     Next::Enter {
         state,
-        context: uncounted(context),
+        context,
         round,
     }
 }
@@ -52,13 +53,16 @@ fn synthesize(
     alloc: Global,
     status: u16,
     reason: &Text,
-    context: Context,
+    mut context: Context,
     round: Round,
 ) -> Result<Next, AllocError>
     ensures { IfOk result (λ next. next ≡ synthesized status reason.now context round) }
 {
-    let response = open_synthetic(alloc, status, reason, round.number)?;
-    Ok(enter(State::Synth, with_bare_response(response, context), round))
+    let Ok(response) = open_synthetic(alloc, status, reason, round.number) else {
+        return Err(lost((context, round)));
+    };
+    put_bare_response(response, &mut context);
+    Ok(enter(State::Synth, context, round))
 }
 
 /// vcl_synth tells the client of a failure.
@@ -70,7 +74,9 @@ pub fn fail(
 ) -> Result<Next, AllocError>
     ensures { IfOk result (λ next. next ≡ failing failure context round) }
 {
-    let reason = Text::of(alloc, failure.reason())?;
+    let Ok(reason) = Text::of(alloc, failure.reason()) else {
+        return Err(lost((context, round)));
+    };
     synthesize(alloc, 503, &reason, context, round)
 }
 
@@ -80,13 +86,15 @@ fn may_restart(round: &Round) -> bool
     round.restarts < MOST_RESTARTS
 }
 
-fn restart(alloc: Global, context: Context, round: Round) -> Result<Next, AllocError>
+fn restart(alloc: Global, mut context: Context, mut round: Round) -> Result<Next, AllocError>
     requires { round.restarts < 4 }
     ensures { IfOk result (λ next. next ≡ restarted context round) }
 {
-    let restarts = round.restarts + 1;
-    let context = context_again(alloc, restarts, round.peer, context)?;
-    Ok(enter(State::Recv, context, Round { restarts, ..round }))
+    round.restarts += 1;
+    let Ok(()) = context_again(alloc, round.restarts, round.peer, &mut context) else {
+        return Err(lost((context, round)));
+    };
+    Ok(enter(State::Recv, context, round))
 }
 
 fn restart_if_allowed(alloc: Global, context: Context, round: Round) -> Result<Next, AllocError>
@@ -100,15 +108,51 @@ fn restart_if_allowed(alloc: Global, context: Context, round: Round) -> Result<N
 }
 
 // The words that lead to the same from wherever they are given.
-fn common(alloc: Global, word: Return, context: Context, round: Round) -> Result<Next, AllocError>
-    ensures { IfOk result (λ next. next ≡ common_next word context round) }
+fn common(alloc: Global, word: &Return, context: Context, round: Round) -> Result<Next, AllocError>
+    ensures { IfOk result (λ next. next ≡ common_next word.now context round) }
 {
     match word {
         Return::Synth(status, reason) => {
-            synthesize(alloc, synth_status(status), &reason, context, round)
+            synthesize(alloc, given_status(*status), reason, context, round)
         }
         Return::Restart => restart_if_allowed(alloc, context, round),
         _ => fail(alloc, Failure::VclFailed, context, round),
+    }
+}
+
+fn held_of(mut shown: Shown) -> Option<Held>
+    ensures { result ≡ shown.held }
+{
+    shown.held.take()
+}
+
+// The token of a fetch that isn't made.
+fn token_of(held: Option<Held>) -> Option<u64>
+    ensures { result ≡ option_map (λ (fetch : Open). fetch.token) held }
+{
+    match held {
+        Some(held) => Some(held.token),
+        None => None,
+    }
+}
+
+fn give_up_first(token: u64, next: Next) -> Next
+    ensures { (held : Open) → held.token ≡ token → result ≡ giving_up (Some held) next }
+{
+    match next {
+        Next::Enter {
+            state,
+            context,
+            round,
+        } => Next::Rest {
+            spot: Spot::Drop {
+                token,
+                state,
+                context,
+            },
+            round,
+        },
+        next => next,
     }
 }
 
@@ -116,48 +160,22 @@ fn common(alloc: Global, word: Return, context: Context, round: Round) -> Result
 fn give_up(held: Option<Held>, next: Next) -> Next
     ensures { result ≡ giving_up held next }
 {
-    match (held, next) {
-        (
-            Some(held),
-            Next::Enter {
-                state,
-                context,
-                round,
-            },
-        ) => Next::Rest {
-            spot: Spot::Drop {
-                token: held.token,
-                state,
-                context,
-            },
-            round,
-        },
-        (_, next) => next,
+    match token_of(held) {
+        Some(token) => give_up_first(token, next),
+        None => next,
     }
 }
 
 // A restart that happens gives up the fetch that was to be made behind the response.
-fn restart_late(alloc: Global, context: Context, round: Round) -> Result<Next, AllocError>
+fn restart_late(alloc: Global, context: Context, mut round: Round) -> Result<Next, AllocError>
     requires { round.restarts < 4 }
     ensures { IfOk result (λ next. next ≡ late context round) }
 {
-    let Round {
-        number,
-        vcl,
-        peer,
-        asked,
-        restarts,
-        later,
-    } = round;
-    let round = Round {
-        number,
-        vcl,
-        peer,
-        asked,
-        restarts,
-        later: None,
+    let later = round.later.take();
+    let Ok(next) = restart(alloc, context, round) else {
+        return Err(lost(later));
     };
-    Ok(give_up(later, restart(alloc, context, round)?))
+    Ok(give_up(later, next))
 }
 
 // `restart` in vcl_deliver.
@@ -206,26 +224,51 @@ fn query_of(alloc: Global, context: &Context) -> Result<Query, AllocError>
     })
 }
 
+fn shared_query(alloc: Global, context: &Context) -> Result<Shared<Query>, AllocError>
+    ensures { IfOk result (λ query. query ≡ query_in context.now) }
+{
+    Shared::new(alloc, query_of(alloc, context)?)
+}
+
+// The key is made for a lookup.
+fn look_up(alloc: Global, context: Context, round: Round) -> Result<Next, AllocError>
+    ensures { IfOk result (λ next. next ≡ leads (State.Hash Wish.Lookup) Return.Lookup context round) }
+{
+    let Ok(query) = shared_query(alloc, &context) else {
+        return Err(lost((context, round)));
+    };
+    Ok(Next::Rest {
+        spot: Spot::Look { query, context },
+        round,
+    })
+}
+
 // The key is made, for a lookup or for a purge.
 fn use_key(alloc: Global, wish: Wish, context: Context, round: Round) -> Result<Next, AllocError>
     ensures { IfOk result (λ next. next ≡ leads (State.Hash wish) Return.Lookup context round) }
 {
-    let spot = match wish {
-        Wish::Lookup => Spot::Look {
-            query: Shared::new(alloc, query_of(alloc, &context)?)?,
-            context,
-        },
-        Wish::Purge => Spot::Purge { context },
-    };
-    Ok(Next::Rest { spot, round })
+    match wish {
+        Wish::Lookup => look_up(alloc, context, round),
+        Wish::Purge => Ok(Next::Rest {
+            spot: Spot::Purge { context },
+            round,
+        }),
+    }
+}
+
+// The fetch is made behind the response.
+fn fetch_later(held: Option<Held>, round: &mut Round)
+    ensures { round.new ≡ record round.old { later = held } }
+{
+    drop(mem::replace(&mut round.later, held));
 }
 
 // An object that was found is delivered.
 fn deliver_hit(
     alloc: Global,
     shown: Shown,
-    context: Context,
-    round: Round,
+    mut context: Context,
+    mut round: Round,
 ) -> Result<Next, AllocError>
     ensures { IfOk result (λ next. next ≡ hit_next shown context round) }
 {
@@ -233,44 +276,49 @@ fn deliver_hit(
         round: round.number,
         object: Some(shown.view.number),
     };
-    let response = opened(alloc, numbers, &shown.view, shown.moment)?;
-    let body = body_of(alloc, &shown.view.object)?;
-    Ok(enter(
-        State::Deliver(body),
-        with_response(response, context),
-        Round {
-            later: shown.held,
-            ..round
-        },
-    ))
+    let Ok(response) = opened(alloc, numbers, &shown.view, shown.moment) else {
+        return Err(lost((shown, context, round)));
+    };
+    let Ok(body) = body_of(alloc, &shown.view.object) else {
+        return Err(lost((response, shown, context, round)));
+    };
+    put_response(response, &mut context);
+    fetch_later(held_of(shown), &mut round);
+    Ok(enter(State::Deliver(body), context, round))
 }
 
 // The response that VCL made is sent.
 fn send_made(alloc: Global, context: Context, round: Round) -> Result<Next, AllocError>
     ensures { IfOk result (λ next. next ≡ leads State.Synth Return.Deliver context round) }
 {
-    let body = made_body(alloc, &context)?;
+    let Ok(body) = made_body(alloc, &context.body) else {
+        return Err(lost((context, round)));
+    };
     Ok(Next::Rest {
         spot: Spot::Send { context, body },
         round,
     })
 }
 
+// A key is to be made.
+fn make_key(alloc: Global, wish: Wish, mut context: Context, round: Round) -> Next
+    ensures { result ≡ entered (State.Hash wish) (without_key context) round }
+{
+    forget_key(alloc, &mut context);
+    enter(State::Hash(wish), context, round)
+}
+
 fn lead_recv(
     alloc: Global,
-    word: Return,
+    word: &Return,
     context: Context,
     round: Round,
 ) -> Result<Next, AllocError>
-    ensures { IfOk result (λ next. next ≡ leads State.Recv word context round) }
+    ensures { IfOk result (λ next. next ≡ leads State.Recv word.now context round) }
 {
     match word {
-        Return::Hash => Ok(enter(
-            State::Hash(Wish::Lookup),
-            without_key(alloc, context),
-            round,
-        )),
-        Return::Purge => Ok(enter(State::Hash(Wish::Purge), without_key(alloc, context), round)),
+        Return::Hash => Ok(make_key(alloc, Wish::Lookup, context, round)),
+        Return::Purge => Ok(make_key(alloc, Wish::Purge, context, round)),
         Return::Pass => Ok(enter(State::Pass, context, round)),
         word => common(alloc, word, context, round),
     }
@@ -279,11 +327,11 @@ fn lead_recv(
 fn lead_hash(
     alloc: Global,
     wish: Wish,
-    word: Return,
+    word: &Return,
     context: Context,
     round: Round,
 ) -> Result<Next, AllocError>
-    ensures { IfOk result (λ next. next ≡ leads (State.Hash wish) word context round) }
+    ensures { IfOk result (λ next. next ≡ leads (State.Hash wish) word.now context round) }
 {
     match word {
         Return::Lookup => use_key(alloc, wish, context, round),
@@ -294,27 +342,32 @@ fn lead_hash(
 fn lead_hit(
     alloc: Global,
     shown: Shown,
-    word: Return,
+    word: &Return,
     context: Context,
     round: Round,
 ) -> Result<Next, AllocError>
-    ensures { IfOk result (λ next. next ≡ leads (State.Hit shown) word context round) }
+    ensures { IfOk result (λ next. next ≡ leads (State.Hit shown) word.now context round) }
 {
     match word {
         Return::Deliver => deliver_hit(alloc, shown, context, round),
-        Return::Pass => Ok(give_up(shown.held, enter(State::Pass, context, round))),
-        word => Ok(give_up(shown.held, common(alloc, word, context, round)?)),
+        Return::Pass => Ok(give_up(held_of(shown), enter(State::Pass, context, round))),
+        word => {
+            let Ok(next) = common(alloc, word, context, round) else {
+                return Err(lost(shown));
+            };
+            Ok(give_up(held_of(shown), next))
+        }
     }
 }
 
 fn lead_miss(
     alloc: Global,
     held: Held,
-    word: Return,
+    word: &Return,
     context: Context,
     round: Round,
 ) -> Result<Next, AllocError>
-    ensures { IfOk result (λ next. next ≡ leads (State.Miss held) word context round) }
+    ensures { IfOk result (λ next. next ≡ leads (State.Miss held) word.now context round) }
 {
     match word {
         Return::Fetch => Ok(Next::Rest {
@@ -325,17 +378,22 @@ fn lead_miss(
             round,
         }),
         Return::Pass => Ok(give_up(Some(held), enter(State::Pass, context, round))),
-        word => Ok(give_up(Some(held), common(alloc, word, context, round)?)),
+        word => {
+            let Ok(next) = common(alloc, word, context, round) else {
+                return Err(lost(held));
+            };
+            Ok(give_up(Some(held), next))
+        }
     }
 }
 
 fn lead_pass(
     alloc: Global,
-    word: Return,
+    word: &Return,
     context: Context,
     round: Round,
 ) -> Result<Next, AllocError>
-    ensures { IfOk result (λ next. next ≡ leads State.Pass word context round) }
+    ensures { IfOk result (λ next. next ≡ leads State.Pass word.now context round) }
 {
     match word {
         Return::Fetch => Ok(Next::Rest {
@@ -349,37 +407,64 @@ fn lead_pass(
 fn lead_deliver(
     alloc: Global,
     body: Text,
-    word: Return,
+    word: &Return,
     context: Context,
     round: Round,
 ) -> Result<Next, AllocError>
-    ensures { IfOk result (λ next. next ≡ leads (State.Deliver body) word context round) }
+    ensures { IfOk result (λ next. next ≡ leads (State.Deliver body) word.now context round) }
 {
     match word {
         Return::Deliver => Ok(Next::Rest {
             spot: Spot::Send { context, body },
             round,
         }),
-        Return::Restart => late_restart(alloc, context, round),
-        word => common(alloc, word, context, round),
+        Return::Restart => {
+            drop(body);
+            late_restart(alloc, context, round)
+        }
+        word => {
+            drop(body);
+            common(alloc, word, context, round)
+        }
     }
 }
 
 fn lead_synth(
     alloc: Global,
-    word: Return,
+    word: &Return,
     context: Context,
     round: Round,
 ) -> Result<Next, AllocError>
-    ensures { IfOk result (λ next. next ≡ leads State.Synth word context round) }
+    ensures { IfOk result (λ next. next ≡ leads State.Synth word.now context round) }
 {
     match word {
         Return::Deliver => send_made(alloc, context, round),
         Return::Restart => last_restart(alloc, context, round),
-        _word => Ok(Next::Rest {
+        _ => Ok(Next::Rest {
             spot: Spot::Fail { context },
             round,
         }),
+    }
+}
+
+fn lead_by(
+    alloc: Global,
+    state: State,
+    word: &Return,
+    context: Context,
+    round: Round,
+) -> Result<Next, AllocError>
+    ensures { IfOk result (λ next. next ≡ leads state word.now context round) }
+{
+    match state {
+        State::Recv => lead_recv(alloc, word, context, round),
+        State::Hash(wish) => lead_hash(alloc, wish, word, context, round),
+        State::Purge => common(alloc, word, context, round),
+        State::Hit(shown) => lead_hit(alloc, shown, word, context, round),
+        State::Miss(held) => lead_miss(alloc, held, word, context, round),
+        State::Pass => lead_pass(alloc, word, context, round),
+        State::Deliver(body) => lead_deliver(alloc, body, word, context, round),
+        State::Synth => lead_synth(alloc, word, context, round),
     }
 }
 
@@ -394,14 +479,5 @@ pub fn lead(
 ) -> Result<Next, AllocError>
     ensures { IfOk result (λ next. next ≡ leads state word context round) }
 {
-    match state {
-        State::Recv => lead_recv(alloc, word, context, round),
-        State::Hash(wish) => lead_hash(alloc, wish, word, context, round),
-        State::Purge => common(alloc, word, context, round),
-        State::Hit(shown) => lead_hit(alloc, shown, word, context, round),
-        State::Miss(held) => lead_miss(alloc, held, word, context, round),
-        State::Pass => lead_pass(alloc, word, context, round),
-        State::Deliver(body) => lead_deliver(alloc, body, word, context, round),
-        State::Synth => lead_synth(alloc, word, context, round),
-    }
+    lead_by(alloc, state, &word, context, round)
 }

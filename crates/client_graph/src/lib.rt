@@ -8,6 +8,7 @@
 
 mod asking;
 mod contexts;
+mod dropping;
 mod finding;
 mod leading;
 mod opening;

@@ -8,7 +8,7 @@ use cache_law::rounds::Request;
 use http_heads::RequestHead;
 use message_fields::forward;
 use std::alloc::{AllocError, Global};
-use units::Copied;
+use units::{Copied, lost};
 
 // The head that VCL gets of the one that came.
 fn head_for(alloc: Global, peer: [u8; 4], head: &RequestHead) -> Result<RequestHead, AllocError>
@@ -20,11 +20,14 @@ fn head_for(alloc: Global, peer: [u8; 4], head: &RequestHead) -> Result<RequestH
         version,
         fields,
     } = head.copied(alloc)?;
+    let Ok(fields) = forward(alloc, fields, peer) else {
+        return Err(lost((method, url)));
+    };
     Ok(RequestHead {
         method,
         url,
         version,
-        fields: forward(alloc, fields, peer)?,
+        fields,
     })
 }
 
@@ -39,10 +42,15 @@ pub fn open(
 ) -> Result<Next, AllocError>
     ensures { IfOk result (λ next. next ≡ opening number vcl request peer) }
 {
-    let head = head_for(alloc, peer, &request.head)?;
+    let Ok(head) = head_for(alloc, peer, &request.head) else {
+        return Err(lost(request));
+    };
+    let Ok(context) = first_context(alloc, peer, head) else {
+        return Err(lost(request));
+    };
     Ok(Next::Enter {
         state: State::Recv,
-        context: first_context(alloc, peer, head)?,
+        context,
         round: Round {
             number,
             vcl,

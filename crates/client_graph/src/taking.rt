@@ -1,10 +1,14 @@
 // Where an answer leads.
-ghost use Rattle.std.specs.Prelude.{◌≡◌, Bool, Option, None, Some, IfOk, option_map};
-ghost use Rattle.client_graph.specs.Answers.{over as over_next, held as held_by, hit as hit_next, looked_up as looked, purged as purged_next, dropped as dropped_next, drawn as drawn_next, fetched_object as object_fetched, fetched as fetched_next, sent as sent_next, after_background as behind, takes};
-ghost use Rattle.client_graph.specs.declared.round.Errand.{Errand as Fetching};
+ghost use Rattle.std.specs.Prelude.{◌≡◌, ℕ, true, false, IfOk, option_map};
+ghost use Rattle.vcl_context.specs.declared.context.Context.{Context as Worked};
+ghost use Rattle.client_graph.specs.declared.round.Held.{Held as Open};
+ghost use Rattle.client_graph.specs.Graph.{enter as entered};
+ghost use Rattle.client_graph.specs.Contexts.{marked};
+ghost use Rattle.client_graph.specs.Answers.{held as held_by, hit as hit_next, looked_up as looked, purged as purged_next, dropped as dropped_next, drawn as drawn_next, fetched_object as object_fetched, fetched as fetched_next, sent as sent_next, after_background as behind, takes};
 ghost use Rattle.client_graph.specs.Shown.{confirmable as confirms};
 
-use crate::contexts::{marked, with_object, with_response};
+use crate::contexts::{mark, put_object, put_response};
+use crate::dropping::over;
 use crate::finding::{body_of, cached_at, confirmable, opened, passed_at};
 use crate::leading::{enter, fail};
 use crate::{Errand, Held, Next, Round, Shown, Spot, State};
@@ -12,17 +16,8 @@ use cache_law::rounds::{FetchOutcome, Given};
 use cache_law::{ObjectView, Query, Reply, Shared};
 use delivery::{Failure, Numbers};
 use std::alloc::{AllocError, Global};
+use units::{Text, lost};
 use vcl_context::{CachedObject, Context};
-
-// What can't be answered here ends the round.
-fn over(round: Round) -> Next
-    ensures { result ≡ over_next round }
-{
-    Next::Rest {
-        spot: Spot::Over,
-        round,
-    }
-}
 
 // The fetch of a newer object, where the lookup gave its token.
 fn held_for(
@@ -33,15 +28,19 @@ fn held_for(
 ) -> Result<Option<Held>, AllocError>
     ensures { IfOk result (λ held. held ≡ option_map (λ number. held_by number query moment (confirms view.now)) token) }
 {
-    match token {
-        Some(token) => Ok(Some(Held {
-            token,
-            query,
-            moment,
-            stale: confirmable(view)?,
-        })),
-        None => Ok(None),
-    }
+    let Some(token) = token else {
+        drop(query);
+        return Ok(None);
+    };
+    let Ok(stale) = confirmable(view) else {
+        return Err(lost(query));
+    };
+    Ok(Some(Held {
+        token,
+        query,
+        moment,
+        stale,
+    }))
 }
 
 // An object was found.
@@ -50,19 +49,37 @@ fn hit(
     view: ObjectView,
     token: Option<u64>,
     query: Shared<Query>,
-    context: Context,
+    mut context: Context,
     moment: u64,
     round: Round,
 ) -> Result<Next, AllocError>
     ensures { IfOk result (λ next. next ≡ hit_next view token query context moment round) }
 {
-    let object = cached_at(alloc, false, &view, moment)?;
-    let held = held_for(token, &view, query, moment)?;
-    Ok(enter(
-        State::Hit(Shown { view, moment, held }),
-        with_object(object, marked(false, false, context)),
-        round,
-    ))
+    let Ok(object) = cached_at(alloc, false, &view, moment) else {
+        return Err(lost((view, query, context, round)));
+    };
+    put_object(object, &mut context);
+    let Ok(held) = held_for(token, &view, query, moment) else {
+        return Err(lost((view, context, round)));
+    };
+    mark(false, false, &mut context);
+    Ok(enter(State::Hit(Shown { view, moment, held }), context, round))
+}
+
+// No object was found that is given.
+fn missed(is_hitmiss: bool, held: Held, mut context: Context, round: Round) -> Next
+    ensures { result ≡ entered (State.Miss held) (marked is_hitmiss false context) round }
+{
+    mark(is_hitmiss, false, &mut context);
+    enter(State::Miss(held), context, round)
+}
+
+// A marker says that the request is passed.
+fn hit_a_pass(mut context: Context, round: Round) -> Next
+    ensures { result ≡ entered State.Pass (marked false true context) round }
+{
+    mark(false, true, &mut context);
+    enter(State::Pass, context, round)
 }
 
 // The lookup was answered.
@@ -79,32 +96,49 @@ fn looked_up(
     match reply {
         Reply::Hit(view) => hit(alloc, view, None, query, context, moment, round),
         Reply::Grace { object, token } => hit(alloc, object, token, query, context, moment, round),
-        Reply::Miss { token, stale } => Ok(enter(
-            State::Miss(Held {
+        Reply::Miss { token, stale } => {
+            let held = Held {
                 token,
                 query,
                 moment,
                 stale,
-            }),
-            marked(false, false, context),
-            round,
-        )),
-        Reply::HitMiss { token } => Ok(enter(
-            State::Miss(Held {
+            };
+            Ok(missed(false, held, context, round))
+        }
+        Reply::HitMiss { token } => {
+            let held = Held {
                 token,
                 query,
                 moment,
                 stale: None,
-            }),
-            marked(true, false, context),
-            round,
-        )),
-        Reply::HitPass => Ok(enter(State::Pass, marked(false, true, context), round)),
+            };
+            Ok(missed(true, held, context, round))
+        }
+        Reply::HitPass => {
+            drop(query);
+            Ok(hit_a_pass(context, round))
+        }
         Reply::Wait(_) => Ok(Next::Rest {
             spot: Spot::Look { query, context },
             round,
         }),
-        _ => Ok(over(round)),
+        other => Ok(over((other, query, context), round)),
+    }
+}
+
+// The key was looked up.
+fn take_lookup(
+    alloc: Global,
+    query: Shared<Query>,
+    context: Context,
+    given: Given,
+    round: Round,
+) -> Result<Next, AllocError>
+    ensures { IfOk result (λ next. next ≡ takes (Spot.Look query context) given round) }
+{
+    match given {
+        Given::Reply(told) => looked_up(alloc, query, context, told.moment, told.reply, round),
+        other => Ok(over((other, query, context), round)),
     }
 }
 
@@ -113,7 +147,17 @@ fn purged(context: Context, reply: Reply, round: Round) -> Next
 {
     match reply {
         Reply::Purged(_) => enter(State::Purge, context, round),
-        _ => over(round),
+        other => over((other, context), round),
+    }
+}
+
+// The key was purged.
+fn take_purge(context: Context, given: Given, round: Round) -> Next
+    ensures { result ≡ takes (Spot.Purge context) given round }
+{
+    match given {
+        Given::Reply(told) => purged(context, told.reply, round),
+        other => over((other, context), round),
     }
 }
 
@@ -127,7 +171,16 @@ fn dropped(state: State, context: Context, reply: Reply, round: Round) -> Next
             context,
             round,
         },
-        _ => over(round),
+        other => over((other, state, context), round),
+    }
+}
+
+fn take_drop(state: State, context: Context, given: Given, round: Round) -> Next
+    ensures { (token : ℕ) → result ≡ takes (Spot.Drop token state context) given round }
+{
+    match given {
+        Given::Reply(told) => dropped(state, context, told.reply, round),
+        other => over((other, state, context), round),
     }
 }
 
@@ -142,7 +195,17 @@ fn drawn(context: Context, moment: u64, reply: Reply, round: Round) -> Next
             },
             round,
         },
-        _ => over(round),
+        other => over((other, context), round),
+    }
+}
+
+// A number was drawn.
+fn take_number(context: Context, given: Given, round: Round) -> Next
+    ensures { result ≡ takes (Spot.Draw context) given round }
+{
+    match given {
+        Given::Reply(told) => drawn(context, told.moment, told.reply, round),
+        other => over((other, context), round),
     }
 }
 
@@ -165,81 +228,87 @@ fn fetched_object(
 // The response of a fetch is delivered.
 fn deliver_fetched(
     alloc: Global,
-    object: CachedObject,
+    errand: &Errand,
+    mut context: Context,
     view: &ObjectView,
     moment: u64,
-    context: Context,
+    uncacheable: bool,
     round: Round,
 ) -> Result<Next, AllocError>
-    ensures { IfOk result (λ next. (errand : Fetching) (uncacheable : Bool) → object ≡ object_fetched errand uncacheable view.now moment
-        → next ≡ fetched_next errand context (FetchOutcome.Delivered view.now moment uncacheable) round) }
+    ensures { IfOk result (λ next. next ≡ fetched_next errand.now context (FetchOutcome.Delivered view.now moment uncacheable) round) }
 {
+    let Ok(object) = fetched_object(alloc, errand, uncacheable, view, moment) else {
+        return Err(lost((context, round)));
+    };
+    put_object(object, &mut context);
     let numbers = Numbers {
         round: round.number,
         object: None,
     };
-    let response = opened(alloc, numbers, view, moment)?;
-    let body = body_of(alloc, &view.object)?;
-    Ok(enter(
-        State::Deliver(body),
-        with_response(response, with_object(object, context)),
-        round,
-    ))
+    let Ok(response) = opened(alloc, numbers, view, moment) else {
+        return Err(lost((context, round)));
+    };
+    put_response(response, &mut context);
+    let Ok(body) = body_of(alloc, &view.object) else {
+        return Err(lost((context, round)));
+    };
+    Ok(enter(State::Deliver(body), context, round))
 }
 
 // The fetch is over.
 fn fetched(
     alloc: Global,
-    errand: Errand,
+    errand: &Errand,
     context: Context,
-    outcome: FetchOutcome,
+    outcome: &FetchOutcome,
     round: Round,
 ) -> Result<Next, AllocError>
-    ensures { IfOk result (λ next. next ≡ fetched_next errand context outcome round) }
+    ensures { IfOk result (λ next. next ≡ fetched_next errand.now context outcome.now round) }
 {
     match outcome {
         FetchOutcome::Delivered {
             object,
             moment,
             uncacheable,
-        } => {
-            let shown = fetched_object(alloc, &errand, uncacheable, &object, moment)?;
-            deliver_fetched(alloc, shown, &object, moment, context, round)
-        }
+        } => deliver_fetched(alloc, errand, context, object, *moment, *uncacheable, round),
         FetchOutcome::Failed => fail(alloc, Failure::FetchFailed, context, round),
-        FetchOutcome::Ended => Ok(over(round)),
+        FetchOutcome::Ended => Ok(over(context, round)),
+    }
+}
+
+fn take_outcome(
+    alloc: Global,
+    errand: Errand,
+    context: Context,
+    given: Given,
+    round: Round,
+) -> Result<Next, AllocError>
+    ensures { IfOk result (λ next. next ≡ takes (Spot.Fetch errand context) given round) }
+{
+    match given {
+        Given::Fetched(outcome) => {
+            let next = fetched(alloc, &errand, context, &outcome, round);
+            drop((errand, outcome));
+            next
+        }
+        other => Ok(over((other, errand, context), round)),
     }
 }
 
 // The response was sent.
-fn sent(context: Context, round: Round) -> Next
+fn sent(context: Context, mut round: Round) -> Next
     ensures { result ≡ sent_next context round.later round }
 {
-    let Round {
-        number,
-        vcl,
-        peer,
-        asked,
-        restarts,
-        later,
-    } = round;
-    let round = Round {
-        number,
-        vcl,
-        peer,
-        asked,
-        restarts,
-        later: None,
-    };
-    match later {
-        Some(held) => Next::Rest {
-            spot: Spot::Background { held, context },
-            round,
-        },
-        None => Next::Rest {
+    let Some(held) = round.later.take() else {
+        drop(context);
+        return Next::Rest {
             spot: Spot::End,
             round,
-        },
+        };
+    };
+    Next::Rest {
+        spot: Spot::Background { held, context },
+        round,
     }
 }
 
@@ -249,7 +318,7 @@ fn sent_if(given: Given, context: Context, round: Round) -> Next
 {
     match given {
         Given::Sent => sent(context, round),
-        _other => over(round),
+        other => over((other, context), round),
     }
 }
 
@@ -261,7 +330,16 @@ fn after_background(outcome: FetchOutcome, round: Round) -> Next
             spot: Spot::End,
             round,
         },
-        _ => over(round),
+        other => over(other, round),
+    }
+}
+
+fn take_background(given: Given, round: Round) -> Next
+    ensures { (held : Open) (context : Worked) → result ≡ takes (Spot.Background held context) given round }
+{
+    match given {
+        Given::Fetched(outcome) => after_background(outcome, round),
+        other => over(other, round),
     }
 }
 
@@ -270,44 +348,24 @@ pub fn take(alloc: Global, spot: Spot, given: Given, round: Round) -> Result<Nex
     ensures { IfOk result (λ next. next ≡ takes spot given round) }
 {
     match spot {
-        Spot::Look { query, context } => match given {
-            Given::Reply(told) => {
-                looked_up(alloc, query, context, told.moment, told.reply, round)
-            }
-            _other => Ok(over(round)),
-        },
-        Spot::Purge { context } => match given {
-            Given::Reply(told) => Ok(purged(context, told.reply, round)),
-            _other => Ok(over(round)),
-        },
+        Spot::Look { query, context } => take_lookup(alloc, query, context, given, round),
+        Spot::Purge { context } => Ok(take_purge(context, given, round)),
         Spot::Drop {
-            token: _token,
+            token: _,
             state,
             context,
-        } => match given {
-            Given::Reply(told) => Ok(dropped(state, context, told.reply, round)),
-            _other => Ok(over(round)),
-        },
-        Spot::Draw { context } => match given {
-            Given::Reply(told) => Ok(drawn(context, told.moment, told.reply, round)),
-            _other => Ok(over(round)),
-        },
-        Spot::Fetch { errand, context } => match given {
-            Given::Fetched(outcome) => fetched(alloc, errand, context, outcome, round),
-            _other => Ok(over(round)),
-        },
-        Spot::Send {
-            context,
-            body: _body,
-        } => Ok(sent_if(given, context, round)),
+        } => Ok(take_drop(state, context, given, round)),
+        Spot::Draw { context } => Ok(take_number(context, given, round)),
+        Spot::Fetch { errand, context } => take_outcome(alloc, errand, context, given, round),
+        Spot::Send { context, body } => {
+            drop(body);
+            Ok(sent_if(given, context, round))
+        }
         Spot::Fail { context } => Ok(sent_if(given, context, round)),
-        Spot::Background {
-            held: _held,
-            context: _context,
-        } => match given {
-            Given::Fetched(outcome) => Ok(after_background(outcome, round)),
-            _other => Ok(over(round)),
-        },
-        Spot::End | Spot::Over => Ok(over(round)),
+        Spot::Background { held, context } => {
+            drop((held, context));
+            Ok(take_background(given, round))
+        }
+        Spot::End | Spot::Over => Ok(over(given, round)),
     }
 }

@@ -1,11 +1,12 @@
 // Arrows from what is answered and given.
-use crate::making::{begun, held, query, view};
+use crate::making::{Beginning, begun, held, query, view};
 use crate::names::shown;
 use cache_law::rounds::{FetchOutcome, Given};
 use cache_law::{Reply, Told};
-use client_graph::{Errand, Next, Round, Spot, State, take};
+use client_graph::{Errand, Next, Spot, State, take};
 use std::alloc::{AllocError, Global};
-use units::Text;
+use std::mem;
+use units::{Text, lost};
 use vcl_context::Context;
 
 fn told(reply: Reply) -> Given {
@@ -34,37 +35,42 @@ fn reply_of(alloc: Global, name: &str) -> Result<Reply, AllocError> {
     })
 }
 
-/// Where the answer to a lookup leads.
-pub fn looked_up(alloc: Global, name: &str) -> Result<&'static str, AllocError> {
-    let reply = reply_of(alloc, name)?;
-    let next = look(alloc, begun(alloc, "GET", 11)?, reply)?;
-    shown(alloc, &next)
+/// The round behind the answer of this name to its lookup at 3000.
+pub fn look(alloc: Global, name: &str, begun: Beginning) -> Result<Next, AllocError> {
+    let Beginning { context, round } = begun;
+    let Ok(query) = query(alloc) else {
+        return Err(lost((context, round)));
+    };
+    let Ok(reply) = reply_of(alloc, name) else {
+        return Err(lost((query, context, round)));
+    };
+    take(alloc, Spot::Look { query, context }, told(reply), round)
 }
 
-/// The round behind the answer to its lookup at 3000.
-pub fn look(alloc: Global, next: Next, reply: Reply) -> Result<Next, AllocError> {
-    let query = query(alloc)?;
-    match next {
-        Next::Enter { context, round, .. } => take(
-            alloc,
-            Spot::Look { query, context },
-            told(reply),
-            round,
-        ),
-        Next::Rest { spot, round } => Ok(Next::Rest { spot, round }),
+/// Where the answer to a lookup leads.
+pub fn looked_up(alloc: Global, name: &str) -> Result<&'static str, AllocError> {
+    match begun(alloc, "GET", 11)? {
+        Some(begun) => shown(alloc, look(alloc, name, begun)?),
+        None => Ok("no subroutine"),
     }
+}
+
+fn give(alloc: Global, name: &str, begun: Beginning) -> Result<&'static str, AllocError> {
+    let Beginning { context, round } = begun;
+    let Ok(given) = given_of(alloc, name) else {
+        return Err(lost((context, round)));
+    };
+    let Ok(spot) = spot_of(alloc, name, context) else {
+        return Err(lost((given, round)));
+    };
+    shown(alloc, take(alloc, spot, given, round)?)
 }
 
 /// Where it leads what is given at another place.
 pub fn given(alloc: Global, name: &str) -> Result<&'static str, AllocError> {
-    let given = given_of(alloc, name)?;
     match begun(alloc, "GET", 11)? {
-        Next::Enter { context, round, .. } => {
-            let spot = spot_of(alloc, name, context)?;
-            let next = take(alloc, spot, given, round)?;
-            shown(alloc, &next)
-        }
-        Next::Rest { .. } => Ok("no subroutine"),
+        Some(begun) => give(alloc, name, begun),
+        None => Ok("no subroutine"),
     }
 }
 
@@ -85,39 +91,61 @@ fn given_of(alloc: Global, name: &str) -> Result<Given, AllocError> {
     })
 }
 
+fn fetch(alloc: Global, context: Context) -> Result<Spot, AllocError> {
+    let Ok(held) = held(alloc) else {
+        return Err(lost(context));
+    };
+    Ok(Spot::Fetch {
+        errand: Errand::Store(held),
+        context,
+    })
+}
+
+fn background(alloc: Global, context: Context) -> Result<Spot, AllocError> {
+    let Ok(held) = held(alloc) else {
+        return Err(lost(context));
+    };
+    Ok(Spot::Background { held, context })
+}
+
+fn end(context: Context) -> Spot {
+    drop(context);
+    Spot::End
+}
+
 fn spot_of(alloc: Global, name: &str, context: Context) -> Result<Spot, AllocError> {
-    Ok(match name {
-        "purged" => Spot::Purge { context },
-        "dropped" => Spot::Drop {
+    match name {
+        "purged" => Ok(Spot::Purge { context }),
+        "dropped" => Ok(Spot::Drop {
             token: 7,
             state: State::Pass,
             context,
-        },
-        "drawn" => Spot::Draw { context },
-        "fetched" | "not_fetched" => Spot::Fetch {
-            errand: Errand::Store(held(alloc)?),
-            context,
-        },
-        "failed" => Spot::Fail { context },
-        "fetched_behind" => Spot::Background {
-            held: held(alloc)?,
-            context,
-        },
-        _ => Spot::End,
-    })
+        }),
+        "drawn" => Ok(Spot::Draw { context }),
+        "fetched" | "not_fetched" => fetch(alloc, context),
+        "failed" => Ok(Spot::Fail { context }),
+        "fetched_behind" => background(alloc, context),
+        _ => Ok(end(context)),
+    }
 }
 
 /// Where it leads that a response is sent, where a fetch is kept for later.
 pub fn sent(alloc: Global) -> Result<&'static str, AllocError> {
-    let later = Some(held(alloc)?);
     match begun(alloc, "GET", 11)? {
-        Next::Enter { context, round, .. } => { send(alloc, context, Round { later, ..round }) }
-        Next::Rest { .. } => Ok("no subroutine"),
+        Some(begun) => send(alloc, begun),
+        None => Ok("no subroutine"),
     }
 }
 
-fn send(alloc: Global, context: Context, round: Round) -> Result<&'static str, AllocError> {
-    let body = Text::of(alloc, b"hi")?;
+fn send(alloc: Global, begun: Beginning) -> Result<&'static str, AllocError> {
+    let Beginning { context, mut round } = begun;
+    let Ok(held) = held(alloc) else {
+        return Err(lost((context, round)));
+    };
+    drop(mem::replace(&mut round.later, Some(held)));
+    let Ok(body) = Text::of(alloc, b"hi") else {
+        return Err(lost((context, round)));
+    };
     let next = take(alloc, Spot::Send { context, body }, Given::Sent, round)?;
-    shown(alloc, &next)
+    shown(alloc, next)
 }

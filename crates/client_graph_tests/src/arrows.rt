@@ -1,9 +1,9 @@
 // Arrows from the end of a subroutine.
-use crate::making::{begun, found, held};
+use crate::making::{Beginning, begun, found, held};
 use crate::names::shown;
-use client_graph::{Next, Round, State, Wish, lead};
+use client_graph::{State, Wish, lead};
 use std::alloc::{AllocError, Global};
-use units::Text;
+use units::{Text, lost};
 use vcl_turns::Return;
 
 /// Where a word of `return` leads from a subroutine, in a round that was restarted so often.
@@ -11,9 +11,13 @@ pub fn led(alloc: Global, words: &str) -> Result<&'static str, AllocError> {
     let (state, rest) = words.split_once(' ').unwrap_or((words, ""));
     let (word, restarts) = rest.split_once(' ').unwrap_or((rest, "0"));
     let restarts = restarts.parse::<u32>().unwrap_or(0);
-    let state = state_of(alloc, state)?;
-    let word = word_of(alloc, word)?;
-    followed(alloc, restarts, state, word)
+    match begun(alloc, "GET", 11)? {
+        Some(mut begun) => {
+            begun.round.restarts = restarts;
+            followed(alloc, state, word, begun)
+        }
+        None => Ok("no subroutine"),
+    }
 }
 
 fn state_of(alloc: Global, name: &str) -> Result<State, AllocError> {
@@ -47,16 +51,16 @@ fn word_of(alloc: Global, name: &str) -> Result<Return, AllocError> {
 
 fn followed(
     alloc: Global,
-    restarts: u32,
-    state: State,
-    word: Return,
+    state: &str,
+    word: &str,
+    begun: Beginning,
 ) -> Result<&'static str, AllocError> {
-    match begun(alloc, "GET", 11)? {
-        Next::Enter { context, round, .. } => {
-            let round = Round { restarts, ..round };
-            let next = lead(alloc, state, word, context, round)?;
-            shown(alloc, &next)
-        }
-        Next::Rest { .. } => Ok("no subroutine"),
-    }
+    let Beginning { context, round } = begun;
+    let Ok(state) = state_of(alloc, state) else {
+        return Err(lost((context, round)));
+    };
+    let Ok(word) = word_of(alloc, word) else {
+        return Err(lost((state, context, round)));
+    };
+    shown(alloc, lead(alloc, state, word, context, round)?)
 }

@@ -1,11 +1,12 @@
 // A request, an object, and a round at its beginning.
 use cache_law::rounds::Request;
 use cache_law::{Content, Object, ObjectView, Options, Query, RequestView, Response, Shared};
-use client_graph::{Held, Next, Shown, open};
+use client_graph::{Held, Next, Round, Shown, open};
 use freshness::Timing;
 use http_heads::{Field, Fields, RequestHead};
 use std::alloc::{AllocError, Global};
-use units::{Sequence, Text};
+use units::{Sequence, Text, lost};
+use vcl_context::Context;
 
 fn host(alloc: Global) -> Result<Field, AllocError> {
     Ok(Field {
@@ -21,32 +22,67 @@ fn fields(alloc: Global) -> Result<Fields, AllocError> {
 }
 
 fn head(alloc: Global, method: &str, version: u8) -> Result<RequestHead, AllocError> {
+    let method = Text::of(alloc, method.as_bytes())?;
+    let Ok(url) = Text::of(alloc, b"/a") else {
+        return Err(lost(method));
+    };
+    let Ok(fields) = fields(alloc) else {
+        return Err(lost((method, url)));
+    };
     Ok(RequestHead {
-        method: Text::of(alloc, method.as_bytes())?,
-        url: Text::of(alloc, b"/a")?,
+        method,
+        url,
         version,
-        fields: fields(alloc)?,
+        fields,
     })
 }
 
-/// A round with number 1 at its beginning, for a request of this method and version.
-pub fn begun(alloc: Global, method: &str, version: u8) -> Result<Next, AllocError> {
-    let request = Request {
-        head: head(alloc, method, version)?,
-        body: Text::of(alloc, b"abc")?,
+/// What `vcl_recv` begins with in a round with number 1.
+pub struct Beginning {
+    pub context: Context,
+    pub round: Round,
+}
+
+fn beginning_of(next: Next) -> Option<Beginning> {
+    match next {
+        Next::Enter {
+            state,
+            context,
+            round,
+        } => {
+            drop(state);
+            Some(Beginning { context, round })
+        }
+        other => {
+            drop(other);
+            None
+        }
+    }
+}
+
+/// The beginning of a round for a request of this method and version.
+pub fn begun(alloc: Global, method: &str, version: u8) -> Result<Option<Beginning>, AllocError> {
+    let body = Text::of(alloc, b"abc")?;
+    let Ok(head) = head(alloc, method, version) else {
+        return Err(lost(body));
     };
-    open(alloc, 1, 9, request, [10, 0, 0, 1])
+    let next = open(alloc, 1, 9, Request { head, body }, [10, 0, 0, 1])?;
+    Ok(beginning_of(next))
 }
 
 fn content(alloc: Global) -> Result<Content, AllocError> {
+    let reason = Text::of(alloc, b"OK")?;
+    let Ok(body) = Text::of(alloc, b"hi") else {
+        return Err(lost(reason));
+    };
     Ok(Content {
         key: Sequence::new(alloc),
         vary: Sequence::new(alloc),
         varies_always: false,
         status: 200,
-        reason: Text::of(alloc, b"OK")?,
+        reason,
         fields: Fields::new(alloc),
-        body: Text::of(alloc, b"hi")?,
+        body,
         xkeys: Sequence::new(alloc),
     })
 }
@@ -99,8 +135,11 @@ pub fn held(alloc: Global) -> Result<Held, AllocError> {
 
 /// The object as it was found at 3000.
 pub fn found(alloc: Global, held: Option<Held>) -> Result<Shown, AllocError> {
+    let Ok(view) = view(alloc) else {
+        return Err(lost(held));
+    };
     Ok(Shown {
-        view: view(alloc)?,
+        view,
         moment: 3000,
         held,
     })

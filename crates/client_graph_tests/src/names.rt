@@ -1,6 +1,6 @@
 // What is shown of where something leads.
 use cache_law::Call;
-use client_graph::{Next, State, Want, Wish, ask};
+use client_graph::{Next, Round, Spot, State, Want, Wish, ask};
 use std::alloc::{AllocError, Global};
 
 fn name_of(state: &State) -> &'static str {
@@ -38,10 +38,23 @@ fn name_of_want(want: &Want) -> &'static str {
     }
 }
 
-/// The subroutine that runs, or what is wanted.
-pub fn shown(alloc: Global, next: &Next) -> Result<&'static str, AllocError> {
+fn wanted(alloc: Global, round: &Round, spot: &Spot) -> Result<&'static str, AllocError> {
+    let want = ask(alloc, None, round, spot)?;
+    let name = name_of_want(&want);
+    drop(want);
+    Ok(name)
+}
+
+fn shown_of(alloc: Global, next: &Next) -> Result<&'static str, AllocError> {
     match next {
         Next::Enter { state, .. } => Ok(name_of(state)),
-        Next::Rest { spot, round } => Ok(name_of_want(&ask(alloc, None, round, spot)?)),
+        Next::Rest { spot, round } => wanted(alloc, round, spot),
     }
+}
+
+/// The subroutine that runs, or what is wanted.
+pub fn shown(alloc: Global, next: Next) -> Result<&'static str, AllocError> {
+    let name = shown_of(alloc, &next);
+    drop(next);
+    name
 }

@@ -1,14 +1,12 @@
 -- Behind a round's end nothing is wanted.
 use Rattle.std.specs.Prelude.{⊤}
-use Rattle.std.proofs.Common.{◌≡◌, ℕ, List, [], ◌∷◌, Option, option_and_then, refl, subst}
+use Rattle.std.proofs.Common.{◌≡◌, List, [], ◌∷◌, Option, option_and_then, refl, subst}
 use Rattle.cache_law.specs.declared.call.Call.{Call}
-use Rattle.cache_law.specs.declared.call.Call.TheVariants as call
 use Rattle.cache_law.specs.declared.rounds.Given.{Given}
 use Rattle.cache_law.specs.declared.rounds.Given.TheVariants as given
 use Rattle.cache_law.specs.declared.target.Target.{Target}
 use Rattle.vcl_turns.specs.declared.turn.Command.{Command}
 use Rattle.vcl_turns.specs.declared.turn.Command.TheVariants as command
-use Rattle.client_graph.specs.declared.round.Errand.TheVariants.{Store, Pass}
 use Rattle.client_graph.specs.declared.round.Round.{Round}
 use Rattle.client_graph.specs.declared.round.Spot.{Spot}
 use Rattle.client_graph.specs.declared.round.Spot.TheVariants as spot

@@ -1,5 +1,5 @@
 -- How what settles a later step settles an earlier one.
-use Rattle.std.proofs.Common.{◌≡◌, ℕ, ◌<◌, Bool, List, Option, Some, None, MatchOption, option_and_then, Result, Ok, Err, IfOk, refl, sym, subst}
+use Rattle.std.proofs.Common.{◌≡◌, ℕ, ◌<◌, Option, Some, None, MatchOption, option_and_then, Result, Ok, Err, IfOk, refl, sym, subst}
 use Rattle.cache_law.specs.declared.call.Call.{Call}
 use Rattle.cache_law.specs.declared.target.Target.{Target}
 use Rattle.vcl_context.specs.declared.context.Context.{Context}

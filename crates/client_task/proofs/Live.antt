@@ -7,19 +7,16 @@ use Rattle.cache_law.specs.declared.call.Call.TheVariants as call
 use Rattle.cache_law.specs.declared.call.Query.{Query}
 use Rattle.cache_law.specs.declared.call.Reply.{Reply}
 use Rattle.cache_law.specs.declared.call.Reply.TheVariants as reply
-use Rattle.cache_law.specs.declared.rounds.FetchOutcome.{FetchOutcome}
 use Rattle.cache_law.specs.declared.rounds.FetchOutcome.TheVariants.{Delivered, Failed, Ended}
 use Rattle.cache_law.specs.declared.rounds.Given.{Given}
 use Rattle.cache_law.specs.declared.rounds.Given.TheVariants as given
 use Rattle.cache_law.specs.declared.target.Target.{Target}
 use Rattle.vcl_context.specs.declared.context.Context.{Context}
-use Rattle.vcl_turns.specs.declared.turn.Answer.{Answer}
 use Rattle.vcl_turns.specs.declared.turn.Command.{Command}
 use Rattle.vcl_turns.specs.declared.turn.Command.TheVariants as command
 use Rattle.vcl_turns.specs.declared.turn.Return.{Return}
 use Rattle.vcl_turns.specs.declared.turn.Return.TheVariants as word
 use Rattle.vcl_runs.specs.Runs.{Ran}
-use Rattle.client_graph.specs.declared.round.Errand.{Errand}
 use Rattle.client_graph.specs.declared.round.Held.{Held}
 use Rattle.client_graph.specs.declared.round.Round.{Round}
 use Rattle.client_graph.specs.declared.round.State.{State}
@@ -32,7 +29,7 @@ use Rattle.client_graph.specs.declared.round.Next.TheVariants.{Enter, Rest}
 use Rattle.client_graph.specs.declared.round.Want.{Want}
 use Rattle.client_graph.specs.declared.round.Want.TheVariants.{Cache, Done}
 use Rattle.client_graph.specs.Graph.{enter, leads, common, giving_up, restarted, restarted_if, late_restart, last_restart, may_restart}
-use Rattle.client_graph.specs.Answers.{takes, looked_up, purged, dropped, drawn, fetched, sent}
+use Rattle.client_graph.specs.Answers.{takes, looked_up, purged, dropped, drawn, sent}
 use Rattle.client_graph.specs.Wants.{hint_at, asks_with}
 use Rattle.client_task.specs.declared.place.Asked.{Asked}
 use Rattle.client_task.specs.declared.place.Asked.TheVariants as asked

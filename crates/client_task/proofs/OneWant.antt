@@ -1,6 +1,6 @@
 -- After the same givens a round stands at one place and wants one thing.
 use Rattle.std.specs.Prelude.{⊤}
-use Rattle.std.proofs.Common.{◌≡◌, ℕ, Bool, List, [], ◌∷◌, refl, sym, ◌∙◌, ap, subst, inl, inr}
+use Rattle.std.proofs.Common.{◌≡◌, ℕ, List, [], ◌∷◌, refl, sym, ◌∙◌, ap, subst, inl, inr}
 use Rattle.cli_words.proofs.Reading.{words_same}
 use Rattle.ban_expr.proofs.Ones.{one_reading, refusal_reads}
 use Rattle.ban_expr.specs.Reading.{Reads, IsRefusal}

@@ -13,7 +13,6 @@ use Rattle.client_graph.specs.declared.round.Round.{Round}
 use Rattle.client_graph.specs.declared.round.State.{State}
 use Rattle.client_graph.specs.declared.round.Spot.{Spot}
 use Rattle.client_graph.specs.declared.round.Next.{Next}
-use Rattle.client_graph.specs.declared.round.Want.{Want}
 use Rattle.client_graph.specs.Answers.{takes, over}
 use Rattle.client_task.specs.declared.settling.Settled.{Settled}
 use Rattle.client_task.specs.declared.place.Asked.{Asked}
@@ -21,7 +20,7 @@ use Rattle.client_task.specs.declared.place.Asked.TheVariants as kinds
 use Rattle.client_task.specs.declared.place.Place.{Place}
 use Rattle.client_task.specs.declared.place.Place.TheVariants as places
 use Rattle.client_task.specs.Commands.{counted, answer_to}
-use Rattle.client_task.specs.Rounds.{Node, Before, Inside, Between, Step, Runs, Moves, Evaluator, goes_on, step_of, Reaches, Wants}
+use Rattle.client_task.specs.Rounds.{Node, Before, Inside, Between, Step, Runs, Moves, Evaluator, goes_on, step_of, Wants}
 use Rattle.client_task.specs.Standing.{IsReady, IsAt, StandsAt, SettlesAt, MayGoOn}
 
 -- what is to be shown of a place at each node that it is
@@ -132,6 +131,10 @@ ready-inside {M} stands fits at asked state run round same may =
 pub may-at : {M : Type 0} (stands : M → Ran → Type 0) (fits : M → Answer → Type 0) (one other : Place M) → one ≡ other → MayGoOn stands fits other → MayGoOn stands fits one
 may-at {M} stands fits one other same h = subst (λ (p : Place M). MayGoOn stands fits p) (sym same) h
 
+pub stands-at : {M : Type 0} (e : Evaluator) (stands : M → Ran → Type 0) (fits : M → Answer → Type 0) (one other : Place M) (opening : Next) (givens : List Given)
+    → one ≡ other → StandsAt e stands fits opening givens other → StandsAt e stands fits opening givens one
+stands-at {M} e stands fits one other opening givens same h = subst (λ (p : Place M). StandsAt e stands fits opening givens p) (sym same) h
+
 pub settles-at : {M : Type 0} (e : Evaluator) (stands : M → Ran → Type 0) (fits : M → Answer → Type 0) (one other : Place M) (g : Given) (settled : Settled M)
     → one ≡ other → SettlesEach e stands fits one g settled → SettlesEach e stands fits other g settled
 settles-at {M} e stands fits one other g settled same h = subst (λ (p : Place M). SettlesEach e stands fits p g settled) same h
@@ -173,3 +176,12 @@ pub answer-fits : (fits : Answer → Type 0) (asked : Asked) (reply : Reply) (an
 answer-fits fits kinds.Ban reply.Banned answer is f = subst fits (some_same is) f
 answer-fits fits kinds.Xkey (reply.Purged count) answer is f = subst fits (some_same is) (number-fits fits count f)
 answer-fits fits asked reply answer is f = absurd (none_same is)
+
+-- a place before the start
+pub stands-first : {M : Type 0} (e : Evaluator) (stands : M → Ran → Type 0) (fits : M → Answer → Type 0) (at : Place M) (next opening : Next)
+    → at ≡ places.Before next → next ≡ opening → StandsAt e stands fits opening [] at
+stands-first e stands fits at next opening same is =
+    stands-at e stands fits at (places.Before next) opening [] same (Before next, ap (λ (n : Next). Before n) is, refl)
+
+pub goes-on-first : {M : Type 0} (stands : M → Ran → Type 0) (fits : M → Answer → Type 0) (at : Place M) (next : Next) → at ≡ places.Before next → MayGoOn stands fits at
+goes-on-first stands fits at next same = may-at stands fits at (places.Before next) same (Before next, refl)

@@ -1,5 +1,5 @@
 -- A client's round over the answers that it was given: what it wants next (Varnish Reference Manual, VCL-Steps).
-use Rattle.std.specs.Prelude.{◌≡◌, ℕ, Bool, List, [], ◌∷◌, Option, Some, None}
+use Rattle.std.specs.Prelude.{◌≡◌, List, [], ◌∷◌, Option, Some, None}
 use Rattle.vcl_values.specs.declared.value.Backend.{Backend}
 use Rattle.vcl_context.specs.declared.context.Context.{Context}
 use Rattle.vcl_turns.specs.declared.turn.Answer.{Answer}
@@ -10,7 +10,6 @@ use Rattle.vcl_turns.specs.declared.turn.Turn.{Turn}
 use Rattle.vcl_turns.specs.declared.turn.Turn.TheVariants as turn
 use Rattle.vcl_runs.specs.Runs.{Ran, begun, answered}
 use Rattle.cache_law.specs.declared.call.Call.{Call}
-use Rattle.cache_law.specs.declared.call.Reply.{Reply}
 use Rattle.cache_law.specs.declared.target.Target.{Target}
 use Rattle.cache_law.specs.declared.rounds.Given.{Given}
 use Rattle.cache_law.specs.declared.rounds.Given.TheVariants as given

@@ -7,17 +7,17 @@ ghost use Rattle.client_task.specs.Rounds.{Wants, evaluator};
 ghost use Rattle.client_task.specs.Standing.{StandsAt, MayGoOn};
 
 use crate::Place;
+use crate::place::Kept;
 use crate::settling::take_up;
 use cache_law::rounds::{Given, Request};
 use client_graph::{Want, open};
 use std::alloc::{AllocError, Global};
-use std::mem;
 use vcl_runs::Runner;
 
 /// A client's round; `M` runs its subroutines.
 #[derive(Drop)]
 pub struct Client<M> {
-    place: Place<M>,
+    place: Kept<M>,
 }
 
 impl<M: Runner> Client<M> {
@@ -34,9 +34,9 @@ impl<M: Runner> Client<M> {
             → StandsAt (evaluator M.turns M.targets program) (λ run ran. M.stands run program ran) M.fits (opening number vcl request peer) [] client.place) }
         ensures goes_on { IfOk result (λ client. (program : M.Program) → MayGoOn (λ run ran. M.stands run program ran) M.fits client.place) }
     {
-        Ok(Client {
-            place: Place::Before(open(alloc, number, vcl, request, peer)?),
-        })
+        let next = open(alloc, number, vcl, request, peer)?;
+        let place = Kept::new(alloc, Place::Before(next))?;
+        Ok(Client { place })
     }
 
     /// The next want. The program is that of the round's VCL, and what is given answers the last want; what is given first
@@ -58,9 +58,9 @@ impl<M: Runner> Client<M> {
         ensures err { OnErr result (self.new.place ≡ Place.Broken) }
         ensures broken { self.old.place ≡ Place.Broken → IsErr result }
     {
-        let place = mem::replace(&mut self.place, Place::Broken);
-        let settled = take_up(alloc, program, place, given)?;
-        self.place = settled.place;
+        let before = self.place.replace(Place::Broken);
+        let settled = take_up(alloc, program, before, given)?;
+        drop(self.place.replace(settled.place));
         Ok(settled.want)
     }
 }

@@ -12,6 +12,7 @@ use cache_law::Target;
 use cache_law::rounds::Given;
 use client_graph::{Next, Round, Spot, State, Want, ask, lead, take};
 use std::alloc::{AllocError, Global};
+use units::lost;
 use vcl_context::Context;
 use vcl_runs::Runner;
 use vcl_turns::{Answer, Turn};
@@ -64,16 +65,21 @@ fn go<M: Runner>(
     ensures lowers { IfOk result (Lowers (weight state round)) }
 {
     'runs: loop {
-        let turn = run.resume(alloc, program, answer)?;
+        let Ok(turn) = run.resume(alloc, program, answer) else {
+            return Err(lost((state, run, round)));
+        };
         match turn {
             Turn::Need(command) => {
-                let found = take_command(alloc, command)?;
+                let Ok(found) = take_command(alloc, command) else {
+                    return Err(lost((state, run, round)));
+                };
                 match found {
                     Some(asking) => return Ok(stop(asking, state, run, round)),
                     None => answer = Answer::Done,
                 }
             }
             Turn::End(word, context) => {
+                drop(run);
                 let next = lead(alloc, state, word, context, round)?;
                 return Ok(Gone::Leads(next));
             }
@@ -92,7 +98,9 @@ fn begin<M: Runner>(
     ensures went { IfOk result (Went (evaluator M.turns M.targets program.now) (λ run ran. M.stands run program.now ran) M.fits (Moves (Next.Enter state context round))) }
     ensures lowers { IfOk result (Lowers (weight state round)) }
 {
-    let run = M::start(alloc, program, state.subroutine(), context)?;
+    let Ok(run) = M::start(alloc, program, state.subroutine(), context) else {
+        return Err(lost((state, round)));
+    };
     go(alloc, program, state, run, round, Answer::Begin)
 }
 
@@ -118,8 +126,12 @@ fn rest<M: Runner>(
 ) -> Result<Settled<M>, AllocError>
     ensures { IfOk result (SettlesAt (evaluator M.turns M.targets program.now) (λ run ran. M.stands run program.now ran) M.fits (Moves (Next.Rest spot round))) }
 {
-    let hint = hint_of::<M>(alloc, program, &spot)?;
-    let want = ask(alloc, hint, &round, &spot)?;
+    let Ok(hint) = hint_of::<M>(alloc, program, &spot) else {
+        return Err(lost((spot, round)));
+    };
+    let Ok(want) = ask(alloc, hint, &round, &spot) else {
+        return Err(lost((spot, round)));
+    };
     Ok(Settled {
         place: Place::Between { spot, round },
         want,
@@ -198,11 +210,21 @@ fn answer_run<M: Runner>(
         → SettlesAt (evaluator M.turns M.targets program.now) (λ run ran. M.stands run program.now ran) M.fits (step_of (Inside asked state ran round) given) settled) }
 {
     match given {
-        Given::Reply(told) => match answer_to(asked, &told.reply) {
-            Some(answer) => go_on(alloc, program, state, run, round, answer),
-            None => end_round(alloc, program, round),
-        },
-        _other => end_round(alloc, program, round),
+        Given::Reply(told) => {
+            let answer = answer_to(asked, &told.reply);
+            drop(told);
+            match answer {
+                Some(answer) => go_on(alloc, program, state, run, round, answer),
+                None => {
+                    drop((state, run));
+                    end_round(alloc, program, round)
+                }
+            }
+        }
+        other => {
+            drop((other, state, run));
+            end_round(alloc, program, round)
+        }
     }
 }
 
@@ -219,7 +241,10 @@ pub(crate) fn take_up<M: Runner>(
         → SettlesAt (evaluator M.turns M.targets program.now) (λ run ran. M.stands run program.now ran) M.fits (step_of node given) settled) }
 {
     match place {
-        Place::Before(next) => settle(alloc, program, next),
+        Place::Before(next) => {
+            drop(given);
+            settle(alloc, program, next)
+        }
         Place::Inside {
             asked,
             state,
@@ -230,6 +255,6 @@ pub(crate) fn take_up<M: Runner>(
             let next = take(alloc, spot, given, round)?;
             settle(alloc, program, next)
         }
-        Place::Broken => Err(AllocError),
+        Place::Broken => Err(lost(given)),
     }
 }

@@ -1,5 +1,5 @@
 -- What a table has no line of its own for.
-use Rattle.std.proofs.Common.{◌≡◌, ℕ, ℤ, List, Option, refl, sym, subst}
+use Rattle.std.proofs.Common.{◌≡◌, ℕ, ℤ, List, Option, refl}
 use Rattle.cache_law.specs.declared.call.Reply.{Reply}
 use Rattle.cache_law.specs.declared.call.Reply.TheVariants as reply
 use Rattle.cache_law.specs.declared.cache.Told.{Told}
@@ -12,7 +12,6 @@ use Rattle.vcl_turns.specs.declared.turn.Return.TheVariants as word
 use Rattle.fetch_graph.specs.declared.fetch.Arrived.{Arrived}
 use Rattle.fetch_graph.specs.declared.fetch.Fetch.{Fetch}
 use Rattle.fetch_graph.specs.declared.fetch.Insertion.{Insertion}
-use Rattle.fetch_graph.specs.declared.fetch.Spot.{Spot}
 use Rattle.fetch_graph.specs.declared.fetch.Spot.TheVariants as spot
 use Rattle.fetch_graph.specs.Graph.{abandoned, behind_request, behind_response, behind_error}
 use Rattle.fetch_graph.specs.Answers.{over, picked, inserted, takes}

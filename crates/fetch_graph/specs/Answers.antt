@@ -1,6 +1,5 @@
 -- Where an answer leads (Varnish Reference Manual, VCL-Steps; RFC 9111, section 4.3.3).
-use Rattle.std.specs.Prelude.{ℕ, Bool, true, false, List, [], Option, Some, None}
-use Rattle.http_heads.specs.declared.message.ResponseHead.{ResponseHead}
+use Rattle.std.specs.Prelude.{ℕ, List, Option, Some, None}
 use Rattle.http_heads.specs.declared.exchange.Exchange.{Exchange}
 use Rattle.http_heads.specs.declared.exchange.Exchange.TheVariants as exchange
 use Rattle.cache_law.specs.declared.call.Reply.{Reply}

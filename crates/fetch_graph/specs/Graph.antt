@@ -1,7 +1,6 @@
 -- Which state follows a subroutine of a fetch by its word (Varnish Reference Manual, VCL-Steps, "Backend side"; Varnish Users
 -- Guide, "Hit-for-miss").
-use Rattle.std.specs.Prelude.{ℕ, ℤ, pos, nat_lt, ◌+◌, Bool, true, false, List, [], Option, Some, None, option_map, codes, if◌then◌else◌}
-use Rattle.http_heads.specs.declared.message.ResponseHead.{ResponseHead}
+use Rattle.std.specs.Prelude.{ℕ, ℤ, pos, nat_lt, ◌+◌, Bool, true, false, List, [], Option, Some, None, option_map, if◌then◌else◌}
 use Rattle.freshness.specs.declared.times.Timing.{Timing}
 use Rattle.cache_law.specs.declared.call.Query.{Query}
 use Rattle.cache_law.specs.declared.object.Object.{Object}
@@ -26,12 +25,11 @@ use Rattle.fetch_graph.specs.declared.fetch.State.{State}
 use Rattle.fetch_graph.specs.declared.fetch.State.TheVariants as state
 use Rattle.fetch_graph.specs.declared.fetch.Kept.{Kept}
 use Rattle.fetch_graph.specs.declared.fetch.Kept.TheVariants as kept
-use Rattle.fetch_graph.specs.declared.fetch.Insertion.{Insertion}
-use Rattle.fetch_graph.specs.declared.fetch.Spot.{Spot}
 use Rattle.fetch_graph.specs.declared.fetch.Spot.TheVariants as spot
 use Rattle.fetch_graph.specs.declared.fetch.Next.{Next}
 use Rattle.fetch_graph.specs.declared.fetch.Next.TheVariants.{Enter, Rest}
-use Rattle.fetch_graph.specs.Contexts.{uncounted, with_response, tried, made_body, error_status, age_at, response_with}
+use Rattle.fetch_graph.specs.Contexts.{with_response, tried, age_at, response_with}
+use Rattle.vcl_context.specs.Unfilled.{uncounted, made_body, given_status}
 use Rattle.fetch_graph.specs.Opening.{purpose_of}
 
 -- the subroutine that runs in a state
@@ -155,13 +153,13 @@ kept_by response = if response.uncacheable then kept.HitForMiss else kept.Whole
 -- Where a subroutine's word leads. What isn't a word there is as `abandon` is.
 abbrev pub behind_request : Return → Context → Fetch → Next
 behind_request word.Fetch context fetch = Rest (spot.Pick context) fetch
-behind_request (word.Error status reason) context fetch = erring (error_status status) reason context fetch
+behind_request (word.Error status reason) context fetch = erring (given_status status) reason context fetch
 behind_request word context fetch = abandoned fetch
 
 abbrev pub behind_response : Arrived → Return → Context → Fetch → Next
 behind_response arrived word.Deliver context fetch = delivered (kept_by context.fetch_response) arrived context fetch
 behind_response arrived (word.PassFor ttl) context fetch = delivered (kept.HitForPass ttl) arrived context fetch
-behind_response arrived (word.Error status reason) context fetch = erring (error_status status) reason context fetch
+behind_response arrived (word.Error status reason) context fetch = erring (given_status status) reason context fetch
 behind_response arrived word.Retry context fetch = retried_if (may_retry fetch) context fetch
 behind_response arrived word context fetch = abandoned fetch
 

@@ -1,5 +1,5 @@
 -- Where a fetch begins (Varnish Reference Manual, VCL-Steps, "vcl_backend_fetch").
-use Rattle.std.specs.Prelude.{ℕ, pos, Bool, List, Option, Some, None, option_map, is_some, not}
+use Rattle.std.specs.Prelude.{pos, List, Option, Some, None, option_map, not}
 use Rattle.http_heads.specs.declared.fields.Field.{Field}
 use Rattle.cache_law.specs.declared.call.Query.{Query}
 use Rattle.cache_law.specs.declared.object.Object.{Object}
@@ -11,7 +11,6 @@ use Rattle.backend_request.specs.declared.purpose.Purpose.{Purpose}
 use Rattle.backend_request.specs.declared.purpose.Purpose.TheVariants.{Store, Pass}
 use Rattle.backend_request.specs.Passed.{is_store}
 use Rattle.backend_request.specs.Asked.{opened_request}
-use Rattle.fetch_graph.specs.declared.fetch.Fetch.{Fetch}
 use Rattle.fetch_graph.specs.declared.fetch.State.TheVariants as state
 use Rattle.fetch_graph.specs.declared.fetch.Next.{Next}
 use Rattle.fetch_graph.specs.declared.fetch.Next.TheVariants.{Enter}

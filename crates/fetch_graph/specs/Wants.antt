@@ -1,5 +1,5 @@
 -- What is wanted where a fetch rests.
-use Rattle.std.specs.Prelude.{ℕ, List, [], Option, Some, None}
+use Rattle.std.specs.Prelude.{ℕ, List, [], Option}
 use Rattle.std.specs.Option.{option_map_or}
 use Rattle.directors.specs.declared.director.DirectorKind.{DirectorKind}
 use Rattle.directors.specs.declared.director.DirectorKind.TheVariants as director
@@ -13,7 +13,7 @@ use Rattle.fetch_graph.specs.declared.fetch.Spot.{Spot}
 use Rattle.fetch_graph.specs.declared.fetch.Spot.TheVariants as spot
 use Rattle.fetch_graph.specs.declared.fetch.Want.{Want}
 use Rattle.fetch_graph.specs.declared.fetch.Want.TheVariants.{Cache, Ask, Done}
-use Rattle.fetch_graph.specs.Contexts.{made_body}
+use Rattle.vcl_context.specs.Unfilled.{made_body}
 use Rattle.fetch_graph.specs.Opening.{purpose_of}
 
 -- the text that a hash director is asked with

@@ -2,9 +2,10 @@
 ghost use Rattle.std.specs.Prelude.{◌≡◌, IfOk};
 ghost use Rattle.backend_request.specs.Asked.{unconditional as without_conditions};
 ghost use Rattle.fetch_graph.specs.Contexts.{with_head as other_head};
+ghost use Rattle.fetch_graph.specs.Graph.{outcome_of as outcome_due};
 ghost use Rattle.fetch_graph.specs.Answers.{over as over_next, chosen, picked as picked_next, responding, arrived as arrived_next, exchanged, inserted, takes};
 
-use crate::contexts::{response_at, with_head, with_response};
+use crate::contexts::{response_at, set_head, set_response};
 use crate::keeping::{nothing, outcome_of};
 use crate::leading::{enter, fail};
 use crate::opening::{content_of, purpose_of};
@@ -14,11 +15,12 @@ use cache_law::Reply;
 use cache_law::rounds::Given;
 use http_heads::{Exchange, ResponseHead};
 use std::alloc::{AllocError, Global};
-use units::{Copied, Text};
+use std::mem;
+use units::{Copied, Text, lost};
 use vcl_context::Context;
 
-// What can't be answered here ends the fetch.
-fn over(fetch: Fetch) -> Next
+// What can't be answered here ends the fetch. What else was held is let go.
+fn over<V: Drop>(_held: V, fetch: Fetch) -> Next
     ensures { result ≡ over_next fetch }
 {
     Next::Rest {
@@ -33,20 +35,20 @@ fn choose(
     name: Option<Text>,
     context: Context,
     moment: u64,
-    fetch: Fetch,
+    mut fetch: Fetch,
 ) -> Result<Next, AllocError>
     ensures { IfOk result (λ next. next ≡ chosen name context moment fetch) }
 {
+    fetch.moment = moment;
     match name {
-        Some(name) => Ok(Next::Rest {
-            spot: Spot::Ask { context },
-            fetch: Fetch {
-                moment,
-                picked: Some(name),
-                ..fetch
-            },
-        }),
-        None => fail(alloc, context, Fetch { moment, ..fetch }),
+        Some(name) => {
+            drop(mem::replace(&mut fetch.picked, Some(name)));
+            Ok(Next::Rest {
+                spot: Spot::Ask { context },
+                fetch,
+            })
+        }
+        None => fail(alloc, context, fetch),
     }
 }
 
@@ -61,13 +63,13 @@ fn picked(
 {
     match reply {
         Reply::Picked(name) => choose(alloc, name, context, moment, fetch),
-        _ => Ok(over(fetch)),
+        other => Ok(over((other, context), fetch)),
     }
 }
 
 // vcl_backend_response begins with what was received.
 #[tactic(auto, unfolding(crate::specs::Answers::responding))]
-fn respond(response: Received, context: Context, fetch: Fetch) -> Result<Next, AllocError>
+fn respond(response: Received, mut context: Context, fetch: Fetch) -> Result<Next, AllocError>
     ensures { IfOk result (λ next. next ≡ responding response context fetch) }
 {
     let Received {
@@ -82,19 +84,22 @@ fn respond(response: Received, context: Context, fetch: Fetch) -> Result<Next, A
         fetch.moment,
     );
     let uncacheable = context.fetch_request.uncacheable;
-    let response = response_at(
+    let Ok(response) = response_at(
         head,
         timing,
         fetch.moment,
         uncacheable,
         was_304,
         &fetch.picked,
-    )?;
+    ) else {
+        return Err(lost((body, context, fetch)));
+    };
+    set_response(response, &mut context);
     let state = State::Response(Arrived {
         body,
         origin: timing.origin,
     });
-    Ok(enter(state, with_response(response, context), fetch))
+    Ok(enter(state, context, fetch))
 }
 
 fn arrived(
@@ -120,14 +125,16 @@ fn replied(
 ) -> Result<Next, AllocError>
     ensures { IfOk result (λ next. next ≡ exchanged context (Exchange.Reply head body) fetch) }
 {
-    let received = receive(
+    let Ok(received) = receive(
         alloc,
         &context.fetch_request.head,
         purpose_of(&fetch.order.looked),
         content_of(&fetch.order.stale),
         head,
         body,
-    )?;
+    ) else {
+        return Err(lost((context, fetch)));
+    };
     arrived(alloc, received, context, fetch)
 }
 
@@ -143,21 +150,40 @@ fn exchange_over(
     match exchange {
         Exchange::Reply(head, body) => replied(alloc, context, head, body, fetch),
         Exchange::Fault(_) => fail(alloc, context, fetch),
-        Exchange::NoMemory => Ok(over(fetch)),
+        Exchange::NoMemory => Ok(over(context, fetch)),
     }
 }
 
 // The backend is asked once more, without a condition.
-fn ask_again(alloc: Global, context: Context, fetch: Fetch) -> Result<Next, AllocError>
+fn ask_again(alloc: Global, mut context: Context, fetch: Fetch) -> Result<Next, AllocError>
     ensures { IfOk result (λ next. next ≡ Next.Rest (Spot.Ask (other_head (without_conditions context.fetch_request.head) context)) fetch) }
 {
-    let head = unconditional(context.fetch_request.head.copied(alloc)?);
+    let Ok(head) = context.fetch_request.head.copied(alloc) else {
+        return Err(lost((context, fetch)));
+    };
+    set_head(unconditional(head), &mut context);
     Ok(Next::Rest {
-        spot: Spot::Ask {
-            context: with_head(head, context),
-        },
+        spot: Spot::Ask { context },
         fetch,
     })
+}
+
+// The response is delivered, whether the cache keeps it or not.
+fn delivered<V: Drop>(_held: V, insertion: Insertion, moment: u64, fetch: Fetch) -> Next
+    ensures { result ≡ Next.Rest (Spot.Over (outcome_due fetch insertion.delivered moment insertion.is_marker)) fetch }
+{
+    let Insertion {
+        object,
+        delivered,
+        is_marker,
+        stale: _,
+    } = insertion;
+    drop(object);
+    let outcome = outcome_of(&fetch, delivered, moment, is_marker);
+    Next::Rest {
+        spot: Spot::Over(outcome),
+        fetch,
+    }
 }
 
 // The insertion was answered.
@@ -173,14 +199,13 @@ fn insertion_over(
 {
     match reply {
         Reply::Stored(_) | Reply::NotInTime | Reply::NoRoom | Reply::Refused => {
-            let outcome = outcome_of(&fetch, insertion.delivered, moment, insertion.is_marker);
-            Ok(Next::Rest {
-                spot: Spot::Over(outcome),
-                fetch,
-            })
+            Ok(delivered(context, insertion, moment, fetch))
         }
-        Reply::StaleGone => ask_again(alloc, context, fetch),
-        _ => Ok(over(fetch)),
+        Reply::StaleGone => {
+            drop(insertion);
+            ask_again(alloc, context, fetch)
+        }
+        other => Ok(over((other, insertion, context), fetch)),
     }
 }
 
@@ -195,7 +220,7 @@ fn take_pick(
 {
     match given {
         Given::Reply(told) => picked(alloc, context, told.moment, told.reply, fetch),
-        _ => Ok(over(fetch)),
+        other => Ok(over((other, context), fetch)),
     }
 }
 
@@ -204,16 +229,16 @@ fn take_exchange(
     alloc: Global,
     context: Context,
     given: Given,
-    fetch: Fetch,
+    mut fetch: Fetch,
 ) -> Result<Next, AllocError>
     ensures { IfOk result (λ next. next ≡ takes (Spot.Ask context) given fetch) }
 {
     match given {
         Given::Exchange(got) => {
-            let moment = got.moment;
-            exchange_over(alloc, context, got.exchange, Fetch { moment, ..fetch })
+            fetch.moment = got.moment;
+            exchange_over(alloc, context, got.exchange, fetch)
         }
-        _ => Ok(over(fetch)),
+        other => Ok(over((other, context), fetch)),
     }
 }
 
@@ -231,7 +256,7 @@ fn take_insertion(
         Given::Reply(told) => {
             insertion_over(alloc, insertion, context, told.moment, told.reply, fetch)
         }
-        _ => Ok(over(fetch)),
+        other => Ok(over((other, insertion, context), fetch)),
     }
 }
 
@@ -245,7 +270,7 @@ pub fn take(alloc: Global, spot: Spot, given: Given, fetch: Fetch) -> Result<Nex
         Spot::Insert { insertion, context } => {
             take_insertion(alloc, insertion, context, given, fetch)
         }
-        Spot::Drop => Ok(over(fetch)),
-        Spot::Over(_) => Ok(over(fetch)),
+        Spot::Drop => Ok(over(given, fetch)),
+        Spot::Over(outcome) => Ok(over((outcome, given), fetch)),
     }
 }

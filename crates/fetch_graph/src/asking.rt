@@ -1,11 +1,10 @@
 // What is wanted where a fetch rests.
 ghost use Rattle.std.specs.Prelude.{◌≡◌, IfOk};
 ghost use Rattle.backend_request.specs.Asked.{finished_request};
-ghost use Rattle.fetch_graph.specs.Contexts.{made_body as body_made};
+ghost use Rattle.vcl_context.specs.Unfilled.{made_body as body_made};
 ghost use Rattle.fetch_graph.specs.Opening.{purpose_of as purpose_in};
 ghost use Rattle.fetch_graph.specs.Wants.{key_text as text_of_key, word_for as word_of, asks};
 
-use crate::contexts::made_body;
 use crate::opening::purpose_of;
 use crate::{Fetch, Spot, Want};
 use backend_request::finish_request;
@@ -14,7 +13,7 @@ use cache_law::{Call, Shared, Target};
 use directors::{DirectorKind, key_word};
 use std::alloc::{AllocError, Global};
 use units::{Copied, Text};
-use vcl_context::Context;
+use vcl_context::{Context, made_body};
 use vcl_values::Backend;
 
 fn key_text(alloc: Global, backend: &Option<Backend>) -> Result<Text, AllocError>

@@ -1,7 +1,8 @@
 // A response that is delivered, and what the cache gets of it.
-ghost use Rattle.std.specs.Prelude.{◌≡◌, Option, None, Some, option_map, if◌then◌else◌, IfOk};
+ghost use Rattle.std.specs.Prelude.{◌≡◌, Option, true, Some, IfOk};
 ghost use Rattle.backend_request.specs.Stored.{response_of};
-ghost use Rattle.fetch_graph.specs.Graph.{timing_left as times_left, marked_response as marked, object_for as object_to_keep, shown_for as shown_with, is_marked as marks, confirmed_number as confirmed, view_of as viewed, outcome_of as outcome_with, handed, delivered, kept_by as kept_of, nothing as none_came};
+ghost use Rattle.cache_law.specs.declared.call.Query.{Query as Looked};
+ghost use Rattle.fetch_graph.specs.Graph.{timing_left as times_left, marked_response as marked, object_for as object_to_keep, shown_for as shown_with, is_marked as marks, confirmed_number as confirmed, outcome_of as outcome_with, handed, delivered, kept_by as kept_of, nothing as none_came};
 
 use crate::{Arrived, Fetch, Insertion, Kept, Next, Spot};
 use backend_request::{make_marker, make_response};
@@ -9,7 +10,7 @@ use cache_law::rounds::FetchOutcome;
 use cache_law::{Object, ObjectView, Query, Response, Shared};
 use freshness::Timing;
 use std::alloc::{AllocError, Global};
-use units::Copied;
+use units::{Copied, lost};
 use vcl_context::{Context, FetchResponse};
 
 // The times that VCL left.
@@ -123,6 +124,12 @@ pub(crate) fn outcome_of(
     }
 }
 
+fn shared_for(alloc: Global, kept: Kept, response: &Response) -> Result<Shared<Object>, AllocError>
+    ensures { IfOk result (λ object. object ≡ object_to_keep kept response.now) }
+{
+    Shared::new(alloc, object_for(alloc, kept, response)?)
+}
+
 // What the cache gets, and what is delivered.
 fn insertion_of(
     alloc: Global,
@@ -132,16 +139,61 @@ fn insertion_of(
 ) -> Result<Insertion, AllocError>
     ensures { IfOk result (λ insertion. insertion ≡ record { object = object_to_keep kept response; delivered = Object.Ordinary (shown_with kept response); is_marker = marks kept; stale = stale }) }
 {
-    let object = object_for(alloc, kept, &response)?;
+    let Ok(object) = shared_for(alloc, kept, &response) else {
+        return Err(lost(response));
+    };
+    let Ok(delivered) = Shared::new(alloc, Object::Ordinary(shown_for(kept, response))) else {
+        return Err(lost(object));
+    };
     Ok(Insertion {
-        object: Shared::new(alloc, object)?,
-        delivered: Shared::new(alloc, Object::Ordinary(shown_for(kept, response)))?,
+        object,
+        delivered,
         is_marker: is_marked(kept),
         stale,
     })
 }
 
+// A response that isn't stored is delivered as it is.
+fn deliver_passed(
+    alloc: Global,
+    response: Response,
+    context: Context,
+    fetch: Fetch,
+) -> Result<Next, AllocError>
+    ensures { IfOk result (λ next. next ≡ Next.Rest (Spot.Over (outcome_with fetch (Object.Ordinary response) fetch.moment true)) fetch) }
+{
+    drop(context);
+    let Ok(object) = Shared::new(alloc, Object::Ordinary(response)) else {
+        return Err(lost(fetch));
+    };
+    let outcome = outcome_of(&fetch, object, fetch.moment, true);
+    Ok(Next::Rest {
+        spot: Spot::Over(outcome),
+        fetch,
+    })
+}
+
+// One that may be stored is handed to the cache first.
 #[tactic(auto, unfolding(crate::specs::Graph::handed))]
+fn insert(
+    alloc: Global,
+    kept: Kept,
+    response: Response,
+    context: Context,
+    fetch: Fetch,
+) -> Result<Next, AllocError>
+    ensures { (query : Looked) → IfOk result (λ next. next ≡ handed (Some query) kept response context fetch) }
+{
+    let stale = confirmed_number(context.fetch_response.was_304, &fetch.order.stale);
+    let Ok(insertion) = insertion_of(alloc, kept, response, stale) else {
+        return Err(lost((context, fetch)));
+    };
+    Ok(Next::Rest {
+        spot: Spot::Insert { insertion, context },
+        fetch,
+    })
+}
+
 fn hand_over(
     alloc: Global,
     kept: Kept,
@@ -151,23 +203,9 @@ fn hand_over(
 ) -> Result<Next, AllocError>
     ensures { IfOk result (λ next. next ≡ handed fetch.order.looked kept response context fetch) }
 {
-    let stale = confirmed_number(context.fetch_response.was_304, &fetch.order.stale);
     match &fetch.order.looked {
-        None => {
-            let object = Shared::new(alloc, Object::Ordinary(response))?;
-            let outcome = outcome_of(&fetch, object, fetch.moment, true);
-            Ok(Next::Rest {
-                spot: Spot::Over(outcome),
-                fetch,
-            })
-        }
-        Some(_) => {
-            let insertion = insertion_of(alloc, kept, response, stale)?;
-            Ok(Next::Rest {
-                spot: Spot::Insert { insertion, context },
-                fetch,
-            })
-        }
+        None => deliver_passed(alloc, response, context, fetch),
+        Some(_) => insert(alloc, kept, response, context, fetch),
     }
 }
 
@@ -179,7 +217,9 @@ fn response_left(
 ) -> Result<Response, AllocError>
     ensures { IfOk result (λ made. made ≡ response_of looked.now response.now.head arrived.body (times_left arrived.origin response.now)) }
 {
-    let head = response.head.copied(alloc)?;
+    let Ok(head) = response.head.copied(alloc) else {
+        return Err(lost(arrived));
+    };
     let timing = timing_left(arrived.origin, response);
     match looked {
         Some(query) => make_response(alloc, Some(&**query), head, arrived.body, timing),
@@ -197,7 +237,10 @@ pub(crate) fn deliver(
 ) -> Result<Next, AllocError>
     ensures { IfOk result (λ next. next ≡ delivered kept arrived context fetch) }
 {
-    let response = response_left(alloc, &fetch.order.looked, arrived, &context.fetch_response)?;
+    let Ok(response) = response_left(alloc, &fetch.order.looked, arrived, &context.fetch_response)
+    else {
+        return Err(lost((context, fetch)));
+    };
     hand_over(alloc, kept, response, context, fetch)
 }
 

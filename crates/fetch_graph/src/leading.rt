@@ -1,17 +1,17 @@
 // Where a subroutine's word leads.
 ghost use Rattle.std.specs.Prelude.{◌≡◌, ◌<◌, IfOk};
-ghost use Rattle.fetch_graph.specs.Graph.{subroutine_of, enter as entered, erring, failing, given_up, abandoned, may_retry as may, retried, retried_if as retries_if, last_retry as last_next, kept_by as kept_of, delivered, made_at as made_with, behind_request, behind_response, behind_error, leads};
-ghost use Rattle.fetch_graph.specs.Contexts.{error_status as status_of_error};
+ghost use Rattle.fetch_graph.specs.Graph.{subroutine_of, enter as entered, erring, failing, abandoned, may_retry as may, retried, retried_if as retries_if, last_retry as last_next, kept_by as kept_of, delivered, made_at as made_with, behind_request, behind_response, behind_error, leads};
+ghost use Rattle.vcl_context.specs.Unfilled.{given_status as status_given};
 
-use crate::contexts::{error_status, made_body, response_at, tried, uncounted, with_response};
+use crate::contexts::{response_at, set_response, set_tries};
 use crate::keeping::{deliver, kept_by, nothing};
 use crate::opening::purpose_of;
 use crate::{Arrived, Fetch, Kept, Next, Spot, State};
 use backend_request::{error_head, timed};
 use delivery::Failure;
 use std::alloc::{AllocError, Global};
-use units::Text;
-use vcl_context::Context;
+use units::{Text, lost};
+use vcl_context::{Context, given_status, made_body, uncount};
 use vcl_language::Subroutine;
 use vcl_turns::Return;
 
@@ -32,12 +32,13 @@ impl State {
 }
 
 /// The subroutine of a state runs, with no statement counted.
-pub(crate) fn enter(state: State, context: Context, fetch: Fetch) -> Next
+pub(crate) fn enter(state: State, mut context: Context, fetch: Fetch) -> Next
     ensures { result ≡ entered state context fetch }
 {
+    uncount(&mut context);
     Next::Enter {
         state,
-        context: uncounted(context),
+        context,
         fetch,
     }
 }
@@ -48,7 +49,7 @@ fn err(
     alloc: Global,
     status: u16,
     reason: Text,
-    context: Context,
+    mut context: Context,
     fetch: Fetch,
 ) -> Result<Next, AllocError>
     ensures { IfOk result (λ next. next ≡ erring status reason context fetch) }
@@ -61,18 +62,21 @@ fn err(
         fetch.moment,
     );
     let uncacheable = context.fetch_request.uncacheable;
-    let response = response_at(
+    let Ok(response) = response_at(
         head,
         timing,
         fetch.moment,
         uncacheable,
         false,
         &fetch.picked,
-    )?;
+    ) else {
+        return Err(lost((context, fetch)));
+    };
+    set_response(response, &mut context);
     let state = State::Error {
         origin: timing.origin,
     };
-    Ok(enter(state, with_response(response, context), fetch))
+    Ok(enter(state, context, fetch))
 }
 
 // vcl_backend_error makes the response of a status that VCL gave.
@@ -83,9 +87,9 @@ fn err_with(
     context: Context,
     fetch: Fetch,
 ) -> Result<Next, AllocError>
-    ensures { IfOk result (λ next. next ≡ erring (status_of_error status) reason context fetch) }
+    ensures { IfOk result (λ next. next ≡ erring (status_given status) reason context fetch) }
 {
-    let status = error_status(status);
+    let status = given_status(status);
     err(alloc, status, reason, context, fetch)
 }
 
@@ -93,7 +97,9 @@ fn err_with(
 pub(crate) fn fail(alloc: Global, context: Context, fetch: Fetch) -> Result<Next, AllocError>
     ensures { IfOk result (λ next. next ≡ failing context fetch) }
 {
-    let reason = Text::of(alloc, Failure::FetchFailed.reason())?;
+    let Ok(reason) = Text::of(alloc, Failure::FetchFailed.reason()) else {
+        return Err(lost((context, fetch)));
+    };
     err(alloc, 503, reason, context, fetch)
 }
 
@@ -108,22 +114,26 @@ pub fn abandon(fetch: Fetch) -> Next
     Next::Rest { spot, fetch }
 }
 
+// The same, where more was held, which is let go.
+fn give_up<V: Drop>(_held: V, fetch: Fetch) -> Next
+    ensures { result ≡ abandoned fetch }
+{
+    abandon(fetch)
+}
+
 fn may_retry(fetch: &Fetch) -> bool
     ensures { result ≡ may fetch.now }
 {
     fetch.retries < MOST_RETRIES
 }
 
-fn retry(context: Context, fetch: Fetch) -> Next
+fn retry(mut context: Context, mut fetch: Fetch) -> Next
     requires { fetch.retries < 4 }
     ensures { result ≡ retried context fetch }
 {
-    let retries = fetch.retries + 1;
-    enter(
-        State::Request,
-        tried(retries, context),
-        Fetch { retries, ..fetch },
-    )
+    fetch.retries += 1;
+    set_tries(fetch.retries, &mut context);
+    enter(State::Request, context, fetch)
 }
 
 // `retry` in vcl_backend_response.
@@ -144,7 +154,7 @@ fn last_retry(context: Context, fetch: Fetch) -> Result<Next, AllocError>
     if may_retry(&fetch) {
         Ok(retry(context, fetch))
     } else {
-        Ok(abandon(fetch))
+        Ok(give_up(context, fetch))
     }
 }
 
@@ -180,7 +190,9 @@ fn deliver_error(
 ) -> Result<Next, AllocError>
     ensures { IfOk result (λ next. next ≡ delivered (kept_of context.fetch_response) (made_with origin context) context fetch) }
 {
-    let arrived = made_at(alloc, origin, &context)?;
+    let Ok(arrived) = made_at(alloc, origin, &context) else {
+        return Err(lost((context, fetch)));
+    };
     deliver_whole(alloc, arrived, context, fetch)
 }
 
@@ -198,7 +210,7 @@ fn lead_request(
             fetch,
         }),
         Return::Error(status, reason) => err_with(alloc, status, reason, context, fetch),
-        _ => Ok(abandon(fetch)),
+        other => Ok(give_up((other, context), fetch)),
     }
 }
 
@@ -214,25 +226,31 @@ fn lead_response(
     match word {
         Return::Deliver => deliver_whole(alloc, arrived, context, fetch),
         Return::PassFor(ttl) => deliver(alloc, Kept::HitForPass(ttl), arrived, context, fetch),
-        Return::Error(status, reason) => err_with(alloc, status, reason, context, fetch),
-        Return::Retry => retry_if_allowed(alloc, context, fetch),
-        _ => Ok(abandon(fetch)),
+        Return::Error(status, reason) => {
+            drop(arrived);
+            err_with(alloc, status, reason, context, fetch)
+        }
+        Return::Retry => {
+            drop(arrived);
+            retry_if_allowed(alloc, context, fetch)
+        }
+        other => Ok(give_up((other, arrived, context), fetch)),
     }
 }
 
 fn lead_error(
     alloc: Global,
     origin: i64,
-    word: &Return,
+    word: Return,
     context: Context,
     fetch: Fetch,
 ) -> Result<Next, AllocError>
-    ensures { IfOk result (λ next. next ≡ behind_error origin word.now context fetch) }
+    ensures { IfOk result (λ next. next ≡ behind_error origin word context fetch) }
 {
     match word {
         Return::Deliver => deliver_error(alloc, origin, context, fetch),
         Return::Retry => last_retry(context, fetch),
-        _ => Ok(abandon(fetch)),
+        other => Ok(give_up((other, context), fetch)),
     }
 }
 
@@ -250,6 +268,6 @@ pub fn lead(
     match state {
         State::Request => lead_request(alloc, word, context, fetch),
         State::Response(arrived) => lead_response(alloc, arrived, word, context, fetch),
-        State::Error { origin } => lead_error(alloc, origin, &word, context, fetch),
+        State::Error { origin } => lead_error(alloc, origin, word, context, fetch),
     }
 }

@@ -12,6 +12,7 @@ use cache_law::rounds::Order;
 use cache_law::{Content, Object, ObjectView, Query, Shared};
 use http_heads::RequestHead;
 use std::alloc::{AllocError, Global};
+use units::lost;
 use vcl_context::FetchRequest;
 
 /// Whether the response may be stored.
@@ -64,17 +65,26 @@ fn is_pass(purpose: Purpose) -> bool
 pub fn open(alloc: Global, order: Order) -> Result<Next, AllocError>
     ensures { IfOk result (λ next. next ≡ opening order) }
 {
+    let Ok(head) = open_head(alloc, &order) else {
+        return Err(lost(order));
+    };
+    let Ok(backend) = hinted(&order.hint_text, &order.hint) else {
+        return Err(lost((head, order)));
+    };
     let request = FetchRequest {
-        head: open_head(alloc, &order)?,
-        backend: hinted(&order.hint_text, &order.hint)?,
+        head,
+        backend,
         retries: 0,
         uncacheable: is_pass(purpose_of(&order.looked)),
         is_bgfetch: order.background,
     };
+    let Ok(context) = first_context(alloc, order.peer, request) else {
+        return Err(lost(order));
+    };
     let moment = order.moment;
     Ok(Next::Enter {
         state: State::Request,
-        context: first_context(alloc, order.peer, request)?,
+        context,
         fetch: Fetch {
             order,
             moment,

@@ -5,10 +5,16 @@ use directors::DirectorKind;
 use fetch_graph::{Arrived, Fetch, Next, Spot, State, Want, ask, lead, open, take};
 use http_heads::{Fields, RequestHead, print_request, read_request};
 use std::alloc::{AllocError, Global};
+use std::mem;
 use std::test::Fail;
-use units::{Sequence, Text};
+use units::{Sequence, Text, lost};
 use vcl_context::Context;
 use vcl_turns::Return;
+
+// Not what was expected. What was held is let go here, once.
+fn unlike<T, V: Drop>(_held: V, why: &'static str) -> Result<T, Fail> {
+    Err(why)?
+}
 
 fn request_head(alloc: Global) -> Result<RequestHead, Fail> {
     match read_request(alloc, b"GET /a HTTP/1.1\r\nHost: h\r\n\r\n") {
@@ -41,8 +47,8 @@ fn query(alloc: Global) -> Result<Shared<Query>, AllocError> {
 
 // The fetch numbered 2 of a request that is passed.
 fn passed(alloc: Global, background: bool) -> Result<Order, Fail> {
-    let request = request(alloc)?;
     let hint_text = Text::of(alloc, b"")?;
+    let request = request(alloc)?;
     Ok(Order {
         number: 2,
         vcl: 1,
@@ -60,10 +66,9 @@ fn passed(alloc: Global, background: bool) -> Result<Order, Fail> {
 // Of what may be stored.
 fn stored(alloc: Global, background: bool) -> Result<Order, Fail> {
     let query = query(alloc)?;
-    Ok(Order {
-        looked: Some(query),
-        ..passed(alloc, background)?
-    })
+    let mut order = passed(alloc, background)?;
+    drop(mem::replace(&mut order.looked, Some(query)));
+    Ok(order)
 }
 
 // How a fetch stands, and what its response is left as.
@@ -151,6 +156,12 @@ fn name_of(next: &Next) -> &'static str {
     }
 }
 
+fn named(next: Next) -> &'static str {
+    let name = name_of(&next);
+    drop(next);
+    name
+}
+
 // The word of a subroutine.
 #[derive(Clone, Copy)]
 enum Word {
@@ -224,7 +235,9 @@ fn led(
     match place {
         Place::Request => behind_request(alloc, word, context, fetch),
         Place::Response => {
-            let body = Text::of(alloc, b"hi")?;
+            let Ok(body) = Text::of(alloc, b"hi") else {
+                return Err(lost((context, fetch)));
+            };
             behind_response(alloc, word, body, context, fetch)
         }
         Place::Error => behind_error(alloc, word, context, fetch),
@@ -240,16 +253,16 @@ fn followed(
 ) -> Result<&'static str, Fail> {
     match next {
         Next::Enter {
-            state: _,
+            state,
             mut context,
             mut fetch,
         } => {
+            drop(state);
             context.fetch_response.uncacheable = standing.uncacheable;
             fetch.retries = standing.retries;
-            let next = led(alloc, place, word, context, fetch)?;
-            Ok(name_of(&next))
+            Ok(named(led(alloc, place, word, context, fetch)?))
         }
-        Next::Rest { .. } => Err("no subroutine")?,
+        rest => unlike(rest, "no subroutine"),
     }
 }
 
@@ -333,21 +346,23 @@ fn pick_told(
     context: Context,
     fetch: Fetch,
 ) -> Result<Next, AllocError> {
-    let given = reply(alloc, is_healthy)?;
+    let Ok(given) = reply(alloc, is_healthy) else {
+        return Err(lost((context, fetch)));
+    };
     take(alloc, Spot::Pick { context }, given, fetch)
 }
 
 fn picked(alloc: Global, is_healthy: bool, next: Next) -> Result<&'static str, Fail> {
     match next {
         Next::Enter {
-            state: _,
+            state,
             context,
             fetch,
         } => {
-            let next = pick_told(alloc, is_healthy, context, fetch)?;
-            Ok(name_of(&next))
+            drop(state);
+            Ok(named(pick_told(alloc, is_healthy, context, fetch)?))
         }
-        Next::Rest { .. } => Err("no subroutine")?,
+        rest => unlike(rest, "no subroutine"),
     }
 }
 
@@ -364,10 +379,17 @@ fn answers_to_a_pick(rt: HostRuntime) -> Result<(), Fail> {
 // Where its request is sent.
 fn asking(next: Next) -> Next {
     match next {
-        Next::Enter { context, fetch, .. } => Next::Rest {
-            spot: Spot::Ask { context },
+        Next::Enter {
+            state,
+            context,
             fetch,
-        },
+        } => {
+            drop(state);
+            Next::Rest {
+                spot: Spot::Ask { context },
+                fetch,
+            }
+        }
         rest => rest,
     }
 }
@@ -375,13 +397,15 @@ fn asking(next: Next) -> Next {
 // Where what was made is handed over.
 fn inserting(alloc: Global, next: Next) -> Result<Next, Fail> {
     match next {
-        Next::Enter { context, fetch, .. } => Ok(lead(
-            alloc,
-            State::Error { origin: 0 },
-            Return::Deliver,
+        Next::Enter {
+            state,
             context,
             fetch,
-        )?),
+        } => {
+            drop(state);
+            let state = State::Error { origin: 0 };
+            Ok(lead(alloc, state, Return::Deliver, context, fetch)?)
+        }
         rest => Ok(rest),
     }
 }
@@ -412,6 +436,12 @@ fn wanted_at(alloc: Global, next: &Next) -> Result<Want, Fail> {
     }
 }
 
+fn wanted_of(alloc: Global, next: Next) -> Result<Want, Fail> {
+    let want = wanted_at(alloc, &next);
+    drop(next);
+    want
+}
+
 // The request that is wanted.
 fn sent(alloc: Global, want: &Want) -> Result<Text, Fail> {
     match want {
@@ -420,32 +450,41 @@ fn sent(alloc: Global, want: &Want) -> Result<Text, Fail> {
     }
 }
 
+fn sent_of(alloc: Global, want: Want) -> Result<Text, Fail> {
+    let text = sent(alloc, &want);
+    drop(want);
+    text
+}
+
 #[test]
 fn backends_are_asked(rt: HostRuntime) -> Result<(), Fail> {
     let alloc = rt.alloc();
-    let next = asking(opened(alloc, STORED)?);
-    let want = wanted_at(alloc, &next)?;
+    let want = wanted_of(alloc, asking(opened(alloc, STORED)?))?;
+    let text = sent_of(alloc, want)?;
     assert_eq!(rt;
-        sent(alloc, &want)?.bytes(),
+        text.bytes(),
         b"GET /a HTTP/1.1\r\nHost: h\r\nX-Varnish: 2\r\n\r\n".as_slice()
     );
     Ok(())
 }
 
+fn hands_over(want: Want) -> bool {
+    let is_insertion = matches!(
+        &want,
+        Want::Cache(Call::Insert {
+            token: 2,
+            stale: None,
+            ..
+        })
+    );
+    drop(want);
+    is_insertion
+}
+
 #[test]
 fn what_is_made_is_handed_over(rt: HostRuntime) -> Result<(), Fail> {
     let alloc = rt.alloc();
-    let next = inserting(alloc, opened(alloc, STORED)?)?;
-    let want = wanted_at(alloc, &next)?;
-    assert!(rt;
-        matches!(
-            want,
-            Want::Cache(Call::Insert {
-                token: 2,
-                stale: None,
-                ..
-            })
-        )
-    );
+    let want = wanted_of(alloc, inserting(alloc, opened(alloc, STORED)?)?)?;
+    assert!(rt; hands_over(want));
     Ok(())
 }

@@ -17,7 +17,7 @@ use Rattle.fetch_graph.specs.declared.fetch.Next.{Next}
 use Rattle.fetch_graph.specs.declared.fetch.State.{State}
 use Rattle.fetch_graph.specs.declared.fetch.State.TheVariants as state
 use Rattle.fetch_graph.specs.Graph.{erring, failing, given_up, abandoned, may_retry, retried_if, last_retry, handed, delivered, timing_left, kept_by, made_at, leads}
-use Rattle.fetch_graph.specs.Contexts.{error_status}
+use Rattle.vcl_context.specs.Unfilled.{given_status}
 use Rattle.fetch_task.specs.Standing.{weight, weight_of}
 
 erring-weight : (status : ℕ) (reason : List ℕ) (c : Context) (f : Fetch) → weight_of (erring status reason c f) ≡ 4 * (4 - f.retries) + 1
@@ -59,14 +59,14 @@ last-lower false c f e = none-lower (weight_of (abandoned f)) (4 * (4 - f.retrie
 leads-lower : (s : State) (w : Return) (c : Context) (f : Fetch) → weight_of (leads s w c f) < weight s f
 leads-lower state.Request word.Fetch c f = omega arith
 leads-lower state.Request (word.Error status reason) c f =
-    error-lower (weight_of (erring (error_status status) reason c f)) f 2 (erring-weight (error_status status) reason c f) (omega arith)
+    error-lower (weight_of (erring (given_status status) reason c f)) f 2 (erring-weight (given_status status) reason c f) (omega arith)
 leads-lower state.Request w c f = none-lower (weight_of (abandoned f)) (weight state.Request f) (abandoned-weight f) (omega arith)
 leads-lower (state.Response a) word.Deliver c f =
     none-lower (weight_of (delivered (kept_by c.fetch_response) a c f)) (weight (state.Response a) f) (delivered-weight (kept_by c.fetch_response) a c f) (omega arith)
 leads-lower (state.Response a) (word.PassFor ttl) c f =
     none-lower (weight_of (delivered (kept.HitForPass ttl) a c f)) (weight (state.Response a) f) (delivered-weight (kept.HitForPass ttl) a c f) (omega arith)
 leads-lower (state.Response a) (word.Error status reason) c f =
-    error-lower (weight_of (erring (error_status status) reason c f)) f 3 (erring-weight (error_status status) reason c f) (omega arith)
+    error-lower (weight_of (erring (given_status status) reason c f)) f 3 (erring-weight (given_status status) reason c f) (omega arith)
 leads-lower (state.Response a) word.Retry c f = retry-lower (may_retry f) c f refl
 leads-lower (state.Response a) w c f = none-lower (weight_of (abandoned f)) (weight (state.Response a) f) (abandoned-weight f) (omega arith)
 leads-lower (state.Error origin) word.Deliver c f =

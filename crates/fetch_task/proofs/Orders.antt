@@ -36,7 +36,7 @@ use Rattle.fetch_graph.specs.declared.fetch.Spot.TheVariants as spot
 use Rattle.fetch_graph.specs.declared.fetch.Next.{Next}
 use Rattle.fetch_graph.specs.declared.fetch.Next.TheVariants.{Enter, Rest}
 use Rattle.fetch_graph.specs.declared.fetch.Want.{Want}
-use Rattle.fetch_graph.specs.Contexts.{error_status}
+use Rattle.vcl_context.specs.Unfilled.{given_status}
 use Rattle.fetch_graph.specs.Opening.{opening, purpose_of, content_of}
 use Rattle.fetch_graph.specs.Graph.{erring, failing, view_of, outcome_of, given_up, abandoned, may_retry, retried_if, last_retry, handed, delivered, timing_left, kept_by, made_at, confirmed_number, leads}
 use Rattle.fetch_graph.specs.Answers.{over, chosen, picked, responding, arrived, exchanged, inserted, takes}
@@ -115,11 +115,11 @@ last-keeps false c f e = abandoned-keeps f
 
 pub leads-keeps : (s : State) (w : Return) (c : Context) (f : Fetch) → Keeps f (leads s w c f)
 leads-keeps state.Request word.Fetch c f = record { order = refl; retries = λ h. h; tidy = tt }
-leads-keeps state.Request (word.Error status reason) c f = erring-keeps (error_status status) reason c f
+leads-keeps state.Request (word.Error status reason) c f = erring-keeps (given_status status) reason c f
 leads-keeps state.Request w c f = abandoned-keeps f
 leads-keeps (state.Response a) word.Deliver c f = delivered-keeps (kept_by c.fetch_response) a c f
 leads-keeps (state.Response a) (word.PassFor ttl) c f = delivered-keeps (kept.HitForPass ttl) a c f
-leads-keeps (state.Response a) (word.Error status reason) c f = erring-keeps (error_status status) reason c f
+leads-keeps (state.Response a) (word.Error status reason) c f = erring-keeps (given_status status) reason c f
 leads-keeps (state.Response a) word.Retry c f = retried-keeps (may_retry f) c f refl
 leads-keeps (state.Response a) w c f = abandoned-keeps f
 leads-keeps (state.Error origin) word.Deliver c f = delivered-keeps (kept_by c.fetch_response) (made_at origin c) c f

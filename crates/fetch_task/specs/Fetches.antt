@@ -1,5 +1,5 @@
 -- A fetch over the answers that it was given: what it wants next (Varnish Reference Manual, VCL-Steps, "Backend side").
-use Rattle.std.specs.Prelude.{◌≡◌, ℕ, List, [], ◌∷◌, Option, Some, None}
+use Rattle.std.specs.Prelude.{◌≡◌, ℕ, List, [], ◌∷◌, Option}
 use Rattle.std.specs.Option.{option_and_then, unwrap_or}
 use Rattle.vcl_values.specs.declared.value.Backend.{Backend}
 use Rattle.vcl_context.specs.declared.context.Context.{Context}

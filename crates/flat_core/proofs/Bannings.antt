@@ -1,17 +1,15 @@
 -- What a ban does to the objects in memory is what it does by the law.
-use Rattle.std.proofs.Common.{◌≡◌, ◌⊎◌, ℕ, Bool, true, false, not, cond, List, [], ◌∷◌, ◌++◌, ◌+◌, ◌-◌, ◌≤◌, ◌&&◌, length, take, filter, map, None, suc, zero, inl, inr, refl, arith, sym, ap, ◌∙◌, subst, add-one}
-use Rattle.std.proofs.lemmas.Bool.{cond-true, cond-false}
+use Rattle.std.proofs.Common.{◌≡◌, ℕ, Bool, true, false, not, cond, List, [], ◌∷◌, ◌++◌, ◌-◌, ◌≤◌, ◌&&◌, length, take, filter, map, None, suc, zero, inl, inr, refl, arith, sym, ap, ◌∙◌}
 use Rattle.cache_law.specs.declared.ban.Ban.{Ban}
 use Rattle.cache_law.specs.declared.ban.Issued.{Issued}
 use Rattle.cache_law.specs.Object.{in_time}
 use Rattle.cache_law.specs.Bans.{ban_matches, matches, object_only}
 use Rattle.cache_law.specs.ShownBans.{IsPartOf, ShowsBans}
-use Rattle.cache_law.specs.BansAtOnce.{AwaitIssued, awaiting, ban_over, issued_behind, open_lines}
+use Rattle.cache_law.specs.BansAtOnce.{AwaitIssued, awaiting, ban_over, open_lines}
 use Rattle.cache_law.specs.State.{Held, those_in_time}
 use Rattle.cache_law.proofs.WaitingBans.{all_bans_shown}
 use Rattle.flat_core.specs.declared.kept.Kept.{Kept}
-use Rattle.flat_core.specs.declared.kept.Fate.{Fate}
-use Rattle.flat_core.specs.declared.kept.Fate.TheVariants.{Stays, Tested, Goes}
+use Rattle.flat_core.specs.declared.kept.Fate.TheVariants.{Stays, Goes}
 use Rattle.flat_core.specs.Kept.{is_waiting, waiting, held_of, held_all, AreTested, left_of, settled}
 use Rattle.flat_core.specs.Banning.{banned_fate, ban_fates}
 

@@ -1,5 +1,5 @@
 -- What a target chooses is the place of a member.
-use Rattle.std.proofs.Common.{◌≡◌, ◌<◌, ℕ, List, [], ◌∷◌, Option, Some, None, zero, suc, length, map, arith, refl, ap, sym}
+use Rattle.std.proofs.Common.{◌≡◌, ◌<◌, ℕ, List, [], ◌∷◌, Option, Some, None, zero, suc, length, map, arith, ap}
 use Rattle.std.specs.Prelude.{IfSome, slice_index}
 use Rattle.std.proofs.lemmas.List.{length-map}
 use Rattle.directors.specs.declared.director.DirectorKind.{DirectorKind}

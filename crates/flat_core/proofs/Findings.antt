@@ -1,23 +1,21 @@
 -- What is found among the objects in memory is what the law's lookup gives.
-use Rattle.std.proofs.Common.{◌≡◌, ℕ, Bool, true, false, cond, List, [], ◌∷◌, Option, Some, None, refl, sym, ap, ◌∙◌}
+use Rattle.std.proofs.Common.{◌≡◌, ℕ, Bool, true, false, cond, List, [], Option, Some, None, refl, ap, ◌∙◌}
 use Rattle.std.proofs.lemmas.Bool.{cond-true, cond-false}
 use Rattle.cache_law.specs.declared.object.Object.{Object}
 use Rattle.cache_law.specs.declared.object.Object.TheVariants.{Ordinary, HitForMiss, HitForPass}
 use Rattle.cache_law.specs.declared.object.ObjectView.{ObjectView}
 use Rattle.cache_law.specs.declared.ban.Issued.{Issued}
 use Rattle.cache_law.specs.declared.call.Query.{Query}
-use Rattle.cache_law.specs.declared.call.Reply.TheVariants.{NoRound}
 use Rattle.cache_law.specs.State.{State, Held, at_moment, those_in_time, has_round, least_token}
 use Rattle.cache_law.specs.Lookup.{Scan, scanned}
-use Rattle.cache_law.specs.Law.{Step, leaving, missed, found_fresh, found_grace, waited_or_missed, busy, found_other, found, found_by, sought, remembered, looked_up}
+use Rattle.cache_law.specs.Law.{missed, found_fresh, found_grace, waited_or_missed, busy, found_other, found, found_by, remembered, looked_up}
 use Rattle.flat_core.specs.declared.kept.Kept.{Kept}
 use Rattle.flat_core.specs.declared.scan.Seen.{Seen}
 use Rattle.flat_core.specs.declared.finding.Finding.TheVariants.{Miss}
-use Rattle.flat_core.specs.declared.finding.Found.{Found}
 use Rattle.flat_core.specs.Kept.{held_all, settled_held}
 use Rattle.flat_core.specs.Scans.{seen_all}
 use Rattle.flat_core.specs.Found.{given_by, graced_by, fetch_finding, other_finding, finding_by, found_by_scan, found_in, found_so, told_so}
-use Rattle.flat_core.proofs.Scans.{as_scan, scans}
+use Rattle.flat_core.proofs.Scans.{scans}
 
 given_so : (state : State) (caller : ℕ) (key : List (List ℕ)) (view : ObjectView) (object : Object) → remembered caller (found_fresh state caller key view object) ≡ found_so state caller key (given_by view object)
 given_so state caller key view (Ordinary response) = refl

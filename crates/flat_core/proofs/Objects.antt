@@ -1,7 +1,6 @@
 -- What is done with the objects in memory is done with those of the law.
-use Rattle.std.proofs.Common.{◌≡◌, ℕ, Bool, true, false, not, cond, List, [], ◌∷◌, ◌++◌, ◌+◌, ◌-◌, ◌<◌, ◌≤◌, zero, suc, ◌&&◌, ◌||◌, ◌==◌, length, take, drop, get_or, add-one, append_assoc, find, filter, map, Option, Some, None, refl, arith, sym, ap, ◌∙◌, subst}
-use Rattle.std.specs.List.{list_all, list_any, AllByRecursion}
-use Rattle.std.specs.Prelude.{sum_by}
+use Rattle.std.proofs.Common.{◌≡◌, ℕ, Bool, true, false, not, cond, List, [], ◌∷◌, ◌++◌, ◌+◌, ◌-◌, ◌<◌, zero, suc, ◌&&◌, ◌||◌, ◌==◌, length, take, drop, get_or, add-one, append_assoc, find, filter, map, Option, Some, None, refl, arith, sym, ap, ◌∙◌}
+use Rattle.std.specs.List.{list_all, list_any}
 use Rattle.std.proofs.lemmas.Bool.{and_parts}
 use Rattle.std.proofs.lemmas.List.Sums.{sum_by-cons}
 use Rattle.std.specs.Option.{option_map_or, option_or}
@@ -9,12 +8,12 @@ use Rattle.std.proofs.lemmas.List.Folds.{find-append}
 use Rattle.cache_law.specs.declared.ban.Issued.{Issued}
 use Rattle.cache_law.specs.Object.{in_time, size_of}
 use Rattle.cache_law.specs.BansAtOnce.{cleared}
-use Rattle.cache_law.specs.State.{Held, those_in_time, is_gone, without_stale, inherited, sizes_of}
+use Rattle.cache_law.specs.State.{Held, those_in_time, without_stale, inherited, sizes_of}
 use Rattle.cache_law.specs.Lookup.{raised, counting, counted}
 use Rattle.flat_core.specs.declared.kept.Kept.{Kept}
 use Rattle.flat_core.specs.declared.kept.Fate.{Fate}
 use Rattle.flat_core.specs.declared.kept.Fate.TheVariants.{Stays, Tested, Goes}
-use Rattle.flat_core.specs.Kept.{is_waiting, waiting, held_of, held_all, AreTested, left_of, settled, held_left, settled_held, is_change, moved_on, counted_in, counting_in, stays, size_staying, sizes_staying, tested_for}
+use Rattle.flat_core.specs.Kept.{waiting, held_of, held_all, left_of, settled, held_left, settled_held, is_change, moved_on, counted_in, stays, size_staying, sizes_staying, tested_for}
 use Rattle.flat_core.proofs.Passes.{at_next, drop_all, take_all}
 
 -- nothing waits for an object that was tested on all bans

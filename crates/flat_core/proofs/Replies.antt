@@ -1,5 +1,5 @@
 -- What each answer of the plain cache leaves is what the law leaves.
-use Rattle.std.proofs.Common.{◌≡◌, ◌≢◌, ℕ, Bool, true, false, not, cond, List, [], ◌∷◌, ◌+◌, ◌<◌, ◌≤◌, ◌++◌, ◌^◌, length, map, filter, find, Option, Some, None, nat_lt, inl, inr, refl, arith, sym, ap, ◌∙◌, subst}
+use Rattle.std.proofs.Common.{◌≡◌, ◌≢◌, ℕ, Bool, true, false, cond, List, [], ◌∷◌, ◌+◌, ◌<◌, ◌≤◌, ◌++◌, ◌^◌, length, map, filter, Option, Some, None, nat_lt, inr, refl, arith, sym, ap, ◌∙◌, subst}
 use Rattle.std.proofs.lemmas.Bool.{cond-true, cond-false, lt-ltb, le-ltb, ltb-true, eq-eqb, ne_eqb}
 use Rattle.std.specs.List.{list_any}
 use Rattle.std.specs.Str.{bytes_eq}
@@ -31,7 +31,7 @@ use Rattle.cache_law.specs.ShownBans.{ShowsBans}
 use Rattle.cache_law.specs.BansAtOnce.{issued_behind, ban_over, open_lines}
 use Rattle.cache_law.specs.State.{State, Held, those_in_time, at_moment, has_round, has_fetch, with_wait, without_fetch, without_fetches_of, without_round_of, is_gone, without_stale, stored_over, sizes_of}
 use Rattle.cache_law.specs.Lookup.{counted}
-use Rattle.cache_law.specs.Law.{Step, behind, refused, leaving, begun, drawn, closing, stored, placed, inserted, banned, banned_by, purged_by, picked_at, health_set, loaded, loaded_as, switched, switched_to, discarded, discarded_of, vcls_listed, dropped, ended, wait_in, IsBanList}
+use Rattle.cache_law.specs.Law.{Step, behind, refused, leaving, begun, drawn, closing, placed, inserted, banned, purged_by, picked_at, health_set, loaded, loaded_as, switched, switched_to, discarded, discarded_of, vcls_listed, dropped, ended, wait_in, IsBanList}
 use Rattle.cache_law.proofs.Moments.{those_in_time-later}
 use Rattle.cache_law.proofs.Lawful.{asks_bans, is_refusal, behind_lawful, MayAnswer-lawful}
 use Rattle.cache_law.proofs.Leaves.{either}

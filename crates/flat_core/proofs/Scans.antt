@@ -1,5 +1,5 @@
 -- What a lookup's scan sees in memory is what it finds by the law, and what it leaves.
-use Rattle.std.proofs.Common.{◌≡◌, ℕ, Bool, true, false, not, cond, List, [], ◌∷◌, ◌++◌, ◌+◌, ◌-◌, ◌<◌, ◌&&◌, ◌||◌, ◌==◌, length, take, drop, get_or, filter, Option, Some, None, refl, arith, sym, ap, ◌∙◌, append_assoc}
+use Rattle.std.proofs.Common.{◌≡◌, ℕ, Bool, true, false, cond, List, [], ◌∷◌, ◌++◌, ◌+◌, ◌-◌, ◌<◌, ◌&&◌, ◌||◌, ◌==◌, length, take, drop, get_or, filter, Option, Some, None, refl, sym, ap, ◌∙◌, append_assoc}
 use Rattle.std.proofs.lemmas.Bool.{eqb-true}
 use Rattle.std.specs.List.{list_any}
 use Rattle.std.specs.Option.{option_or}
@@ -15,12 +15,12 @@ use Rattle.cache_law.specs.State.{Held, those_in_time}
 use Rattle.cache_law.specs.Lookup.{Scan, scanned, is_chosen_by, is_fresh, is_in_grace, ending, passing, seeing as going_on}
 use Rattle.flat_core.specs.declared.kept.Kept.{Kept}
 use Rattle.flat_core.specs.declared.kept.Fate.{Fate}
-use Rattle.flat_core.specs.declared.kept.Fate.TheVariants.{Stays, Tested, Goes}
+use Rattle.flat_core.specs.declared.kept.Fate.TheVariants.{Stays, Tested}
 use Rattle.flat_core.specs.declared.sight.Sight.{Sight}
 use Rattle.flat_core.specs.declared.sight.Sight.TheVariants.{Other, Banned, Unfit, Aged, Fresh}
 use Rattle.flat_core.specs.declared.scan.Seen.{Seen}
-use Rattle.flat_core.specs.Kept.{is_waiting, waiting, held_of, held_all, held_left, settled_held}
-use Rattle.flat_core.specs.Scans.{is_struck, is_end, tested_fate, fate_of, nothing_seen, seeing, seen_all, sight_of, joined}
+use Rattle.flat_core.specs.Kept.{is_waiting, held_of, held_all, held_left, settled_held}
+use Rattle.flat_core.specs.Scans.{is_struck, is_end, nothing_seen, seeing, seen_all, sight_of, joined}
 use Rattle.flat_core.proofs.Objects.{none_waits}
 use Rattle.flat_core.proofs.Passes.{drop_one, drop_all}
 

@@ -1,5 +1,5 @@
 -- One more entry keeps what the plain cache promises.
-use Rattle.std.proofs.Common.{true, false, cond, ◌≡◌, ℕ, List, [], ◌∷◌, ◌++◌, ◌+◌, ◌*◌, ◌≤◌, max, length, refl, arith, sym, ap, ◌∙◌, subst, length-append, nat_lt}
+use Rattle.std.proofs.Common.{true, false, ◌≡◌, ℕ, List, [], ◌∷◌, ◌++◌, ◌+◌, ◌*◌, ◌≤◌, max, length, refl, arith, sym, ap, ◌∙◌, subst, length-append}
 use Rattle.std.specs.Prelude.{Result, Ok, Err, IfOk, OnOk}
 use Rattle.std.proofs.lemmas.Bool.{false≢true, true≢false}
 use Rattle.cache_law.specs.declared.call.Call.{Call}

@@ -1,5 +1,5 @@
 -- No object was tested on more bans than there are, whatever a call does.
-use Rattle.std.proofs.Common.{◌≡◌, ℕ, Bool, true, false, cond, List, [], ◌∷◌, ◌++◌, ◌≤◌, ◌==◌, length, filter, map, find, Option, Some, None, refl, arith, subst, sym}
+use Rattle.std.proofs.Common.{ℕ, Bool, true, false, cond, List, [], ◌∷◌, ◌++◌, ◌≤◌, ◌==◌, length, filter, map, Option, Some, None, arith}
 use Rattle.std.specs.Option.{option_map_or}
 use Rattle.cache_law.specs.declared.object.Object.{Object}
 use Rattle.cache_law.specs.declared.ban.Issued.{Issued}

@@ -1,5 +1,5 @@
 -- What becomes of the objects in memory when a ban is issued.
-use Rattle.std.specs.Prelude.{ℕ, Bool, List, [], ◌&&◌, None, map, if◌then◌else◌}
+use Rattle.std.specs.Prelude.{ℕ, List, [], ◌&&◌, None, map, if◌then◌else◌}
 use Rattle.cache_law.specs.declared.ban.Ban.{Ban}
 use Rattle.cache_law.specs.Object.{in_time}
 use Rattle.cache_law.specs.Bans.{ban_matches, object_only}

@@ -1,5 +1,5 @@
 -- What a lookup's scan sees in the objects in memory, and what becomes of them.
-use Rattle.std.specs.Prelude.{ℕ, Bool, true, false, List, [], ◌∷◌, ◌++◌, ◌-◌, ◌&&◌, ◌==◌, Option, Some, None, length, take, if◌then◌else◌}
+use Rattle.std.specs.Prelude.{ℕ, Bool, true, false, List, [], ◌∷◌, ◌++◌, ◌-◌, ◌&&◌, ◌==◌, Some, None, length, take, if◌then◌else◌}
 use Rattle.std.specs.List.{list_any}
 use Rattle.std.specs.Option.{option_or}
 use Rattle.cache_law.specs.declared.object.Object.{Object}

@@ -3,7 +3,7 @@ ghost use Rattle.std.specs.Prelude.{◌≡◌, IfOk};
 
 use cache_law::Reply;
 use std::alloc::{AllocError, Global};
-use units::Copied;
+use units::{Copied, lost};
 
 #[derive(Drop)]
 pub(crate) struct Answer {
@@ -17,7 +17,9 @@ impl Answer {
         ensures told { IfOk result (λ answer. answer.told ≡ told) }
         ensures kept { IfOk result (λ answer. answer.kept ≡ told) }
     {
-        let kept = told.copied(alloc)?;
-        Ok(Answer { told, kept })
+        match told.copied(alloc) {
+            Ok(kept) => Ok(Answer { told, kept }),
+            Err(_) => Err(lost(told)),
+        }
     }
 }

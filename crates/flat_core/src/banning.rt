@@ -1,11 +1,11 @@
 // What becomes of the objects when a ban is issued.
-ghost use Rattle.std.specs.Prelude.{◌≡◌, map, IfOk};
-ghost use Rattle.cache_law.specs.BansAtOnce.{open_line, open_lines};
+ghost use Rattle.std.specs.Prelude.{◌≡◌, ◌∷◌, map, IfOk, OnOk, OnErr};
+ghost use Rattle.cache_law.specs.BansAtOnce.{issued_behind, open_line, open_lines};
 ghost use Rattle.flat_core.specs.Banning.{ban_fates, banned_fate};
 
 use crate::kept::{Fate, Kept};
 use ban_expr::{object_only, test};
-use cache_law::{Ban, BanLine, Issued, is_in_time};
+use cache_law::{Ban, BanLine, Issued, Shared, is_in_time};
 use std::alloc::{AllocError, Global};
 use std::collections::VecDeque;
 use units::Sequence;
@@ -51,6 +51,24 @@ pub(crate) fn ban_fates(
     } else {
         Ok(Sequence::new(alloc))
     }
+}
+
+/// Puts the ban before the others, under the next number.
+pub(crate) fn issue(
+    bans: &mut VecDeque<Issued>,
+    moment: u64,
+    ban: &Shared<Ban>,
+) -> Result<(), AllocError>
+    ensures ok { OnOk result (bans.new.items ≡ issued_behind bans.old.items moment ban.now ∷ bans.old.items) }
+    ensures err { OnErr result (bans.new.items ≡ bans.old.items) }
+{
+    let issued = Issued {
+        number: bans.len() as u64 + 1,
+        moment,
+        ban: ban.copy()?,
+    };
+    bans.push_front(issued)?;
+    Ok(())
 }
 
 fn ban_line(issued: &Issued) -> Result<BanLine, AllocError>

@@ -14,7 +14,7 @@ use crate::store::Store;
 use cache_law::{Boot, CacheCore, Call, Entry, Params, StepError, Told, entry_bytes};
 use std::alloc::{AllocError, Global};
 use std::marker::Model;
-use units::Sequence;
+use units::{Sequence, lost};
 
 /// The plain cache. It implements `CacheCore`, and is made by its `make`.
 #[derive(Drop)]
@@ -45,7 +45,10 @@ impl CacheCore for FlatCore {
     ghost history = { λ c. c.entries };
 
     fn make(alloc: Global, params: &Params, boot: Boot) -> Result<FlatCore, AllocError> {
-        let store = Store::new(alloc, &boot)?;
+        let store = match Store::new(alloc, &boot) {
+            Ok(store) => store,
+            Err(_) => return Err(lost(boot)),
+        };
         Ok(FlatCore {
             params: *params,
             boot,
@@ -65,14 +68,14 @@ impl CacheCore for FlatCore {
         let moment = self.store.moment().max(reading);
         let found = match self.store.find(alloc, caller, moment, &call) {
             Ok(found) => found,
-            Err(_) => return Err(StepError::NoMemory),
+            Err(_) => return Err(given_up(call, StepError::NoMemory)),
         };
         let open = self.store.open_after(caller, moment, &call, &found);
         if !self.store.is_numbered(&call) {
-            return Err(StepError::HistoryFull);
+            return Err(given_up((call, found), StepError::HistoryFull));
         }
         if !fits(self.params.history, self.used, &call, open) {
-            return Err(StepError::HistoryFull);
+            return Err(given_up((call, found), StepError::HistoryFull));
         }
         let open = open as usize;
         let answered = answer_within(
@@ -88,7 +91,7 @@ impl CacheCore for FlatCore {
         );
         let answer = match answered {
             Ok(answer) => answer,
-            Err(_) => return Err(StepError::NoMemory),
+            Err(_) => return Err(given_up(call, StepError::NoMemory)),
         };
         let place = self.entries.len() as u64;
         self.used += entry_bytes(&call) as u64;
@@ -123,6 +126,13 @@ impl CacheCore for FlatCore {
     }
 }
 
+/// Lets go of what belongs to a call that isn't answered.
+fn given_up<T: Drop>(_asked: T, error: StepError) -> StepError
+    ensures { result ≡ error }
+{
+    error
+}
+
 /// Answers the call, which finds so, where there is room for its entry and for those that will close what is open behind
 /// it, so many in number. Without that room an insertion of an open fetch is refused, in the room that was kept for it.
 fn answer_within(
@@ -149,13 +159,17 @@ fn answer_within(
     ensures err { OnErr result (store.new ≡ store.old) }
     ensures kept { is_kept store.old caller call.now ≡ true → IsOk result }
 {
+    let mut found = found;
     if entries.try_reserve(closings + 1).is_err() {
-        match store.refuse(caller, moment, call) {
-            Some(answer) => return Ok(answer),
-            None => return Err(AllocError),
-        }
+        drop(found);
+        return match store.refuse(caller, moment, call) {
+            Some(answer) => Ok(answer),
+            None => Err(AllocError),
+        };
     }
-    store.answer(alloc, room, caller, moment, call, found)
+    let answered = store.answer(alloc, room, caller, moment, call, &mut found);
+    drop(found);
+    answered
 }
 
 /// Whether the limit isn't passed by a history of this many bytes, with the call's entry and what is reserved for so

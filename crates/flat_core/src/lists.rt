@@ -381,6 +381,7 @@ pub(crate) fn put_first(
     ensures ok { OnOk result (objects.new.items ≡ first_of token object.now stale count objects.old.items ∷ filter (stays stale) objects.old.items) }
     ensures err { OnErr result (objects.new.items ≡ objects.old.items) }
 {
+    objects.try_reserve(1)?;
     let kept = Kept {
         view: ObjectView {
             number: token,
@@ -389,7 +390,6 @@ pub(crate) fn put_first(
         },
         tested: tested_for(count, stale, objects),
     };
-    objects.try_reserve(1)?;
     drop_stale(objects, stale);
     objects.push_front_reserved(kept);
     Ok(())

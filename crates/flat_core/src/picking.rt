@@ -134,12 +134,12 @@ fn set_counter(
     ensures ok { OnOk result (counters.new.items ≡ with_counter vcl director.now next counters.old.items) }
     ensures err { OnErr result (counters.new.items ≡ counters.old.items) }
 {
+    counters.try_reserve(1)?;
     let counter = Counter {
         vcl,
         director: director.copy()?,
         next,
     };
-    counters.try_reserve(1)?;
     drop_counter(counters, vcl, director);
     put_counter(counters, counter);
     Ok(())
@@ -201,12 +201,12 @@ fn force_health(
     ensures ok { OnOk result (health.new.items ≡ record { vcl = vcl; backend = backend.now; is_healthy = is_healthy } ∷ without_health vcl backend.now health.old.items) }
     ensures err { OnErr result (health.new.items ≡ health.old.items) }
 {
+    health.try_reserve(1)?;
     let forced = ForcedHealth {
         vcl,
         backend: backend.copy()?,
         is_healthy,
     };
-    health.try_reserve(1)?;
     drop_health(health, vcl, backend);
     put_health(health, forced);
     Ok(())

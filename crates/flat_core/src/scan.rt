@@ -1,16 +1,16 @@
 // A lookup's scan of the objects in memory.
-ghost use Rattle.std.specs.Prelude.{◌≡◌, ◌∷◌, ◌++◌, [], None, Some, IfOk};
+ghost use Rattle.std.specs.Prelude.{◌≡◌, None, Some, length, IfOk, OnOk};
 ghost use Rattle.std.specs.Option.{option_or};
 ghost use Rattle.cache_law.specs.Lookup.{first_of as first_passing, is_in_grace};
 ghost use Rattle.cache_law.specs.Object.{can_confirm};
-ghost use Rattle.flat_core.specs.Scans.{fate_of, joined, nothing_seen, seeing, seen_all};
+ghost use Rattle.flat_core.specs.Scans.{joined, nothing_seen, seeing, seen_all, sight_of};
 
 use crate::kept::{Fate, Kept};
 use crate::sight::{Sight, fate_of, is_end, sight_of};
 use cache_law::{Issued, ObjectView, Query, can_confirm, is_in_grace_for};
 use std::alloc::{AllocError, Global};
 use std::collections::VecDeque;
-use units::Sequence;
+use units::{Sequence, lost};
 
 /// What a scan saw: a fresh object, which ended it, the first object in grace and the first that the backend may confirm, and
 /// what becomes of the objects that it came to.
@@ -22,28 +22,18 @@ pub(crate) struct Seen {
     pub fates: Sequence<Fate>,
 }
 
-/// What was found before, or else the object where it passes.
-fn first_of(
-    found: Option<ObjectView>,
+/// Keeps what was found before, or else the object where it passes.
+fn find_first(
+    found: &mut Option<ObjectView>,
     passes: bool,
     view: &ObjectView,
-) -> Result<Option<ObjectView>, AllocError>
-    ensures { IfOk result (λ first. first ≡ option_or found (first_passing passes view.now None)) }
+) -> Result<(), AllocError>
+    ensures { OnOk result (found.new ≡ option_or found.old (first_passing passes view.now None)) }
 {
-    match found {
-        Some(found) => Ok(Some(found)),
-        None => copied_if(passes, view),
+    if passes && found.is_none() {
+        drop(found.replace(view.copy()?));
     }
-}
-
-fn copied_if(passes: bool, view: &ObjectView) -> Result<Option<ObjectView>, AllocError>
-    ensures { IfOk result (λ copy. copy ≡ first_passing passes view.now None) }
-{
-    if passes {
-        Ok(Some(view.copy()?))
-    } else {
-        Ok(None)
-    }
+    Ok(())
 }
 
 impl Seen {
@@ -58,66 +48,61 @@ impl Seen {
         }
     }
 
-    fn with_fate(self, fate: Fate) -> Result<Seen, AllocError>
-        ensures { IfOk result (λ seen. seen ≡ record self { fates = self.fates ++ fate ∷ [] }) }
-    {
-        let mut fates = self.fates;
-        fates.push(fate)?;
-        Ok(Seen {
-            fresh: self.fresh,
-            grace: self.grace,
-            stale: self.stale,
-            fates,
-        })
-    }
-
-    /// With an object that isn't fresh.
-    fn with_aged(self, moment: u64, query: &Query, view: &ObjectView) -> Result<Seen, AllocError>
-        ensures { IfOk result (λ seen. seen ≡ record self {
-          grace = option_or self.grace (first_passing (is_in_grace moment query.now.options view.now.object) view.now None);
-          stale = option_or self.stale (first_passing (can_confirm view.now.object) view.now None);
+    /// An object that isn't fresh.
+    fn add_aged(&mut self, moment: u64, query: &Query, view: &ObjectView) -> Result<(), AllocError>
+        ensures { OnOk result (self.new ≡ record self.old {
+          grace = option_or self.old.grace (first_passing (is_in_grace moment query.now.options view.now.object) view.now None);
+          stale = option_or self.old.stale (first_passing (can_confirm view.now.object) view.now None);
         }) }
     {
         let graced = is_in_grace_for(moment, &query.options, &view.object);
-        let grace = first_of(self.grace, graced, view)?;
-        let stale = first_of(self.stale, can_confirm(&view.object), view)?;
-        Ok(Seen {
-            fresh: self.fresh,
-            grace,
-            stale,
-            fates: self.fates,
-        })
+        find_first(&mut self.grace, graced, view)?;
+        find_first(&mut self.stale, can_confirm(&view.object), view)
     }
 
-    fn with_fresh(self, view: &ObjectView) -> Result<Seen, AllocError>
-        ensures { IfOk result (λ seen. seen ≡ record self { fresh = Some view.now }) }
+    fn add_fresh(&mut self, view: &ObjectView) -> Result<(), AllocError>
+        ensures { OnOk result (self.new ≡ record self.old { fresh = Some view.now }) }
     {
-        Ok(Seen {
-            fresh: Some(view.copy()?),
-            grace: self.grace,
-            stale: self.stale,
-            fates: self.fates,
-        })
+        drop(self.fresh.replace(view.copy()?));
+        Ok(())
     }
 
-    /// With one object more, in which the lookup sees this.
-    fn with_object(
-        self,
+    /// One object more, in which the lookup sees this.
+    fn add(
+        &mut self,
         moment: u64,
         query: &Query,
         count: usize,
         sight: Sight,
         kept: &Kept,
-    ) -> Result<Seen, AllocError>
-        requires { self.fresh ≡ None }
-        ensures { IfOk result (λ seen. seen ≡ joined self (seeing moment query.now count sight kept.now nothing_seen)) }
+    ) -> Result<(), AllocError>
+        requires { self.old.fresh ≡ None }
+        ensures { OnOk result (self.new ≡ joined self.old (seeing moment query.now count sight kept.now nothing_seen)) }
     {
-        let seen = self.with_fate(fate_of(count, sight, kept))?;
+        self.fates.push(fate_of(count, sight, kept))?;
         match sight {
-            Sight::Other | Sight::Banned | Sight::Unfit => Ok(seen),
-            Sight::Aged => seen.with_aged(moment, query, &kept.view),
-            Sight::Fresh => seen.with_fresh(&kept.view),
+            Sight::Other | Sight::Banned | Sight::Unfit => Ok(()),
+            Sight::Aged => self.add_aged(moment, query, &kept.view),
+            Sight::Fresh => self.add_fresh(&kept.view),
         }
+    }
+
+    /// Looks at one object more, and answers what the lookup sees in it.
+    fn look_at(
+        &mut self,
+        alloc: Global,
+        moment: u64,
+        query: &Query,
+        bans: &VecDeque<Issued>,
+        kept: &Kept,
+    ) -> Result<Sight, AllocError>
+        requires { self.old.fresh ≡ None }
+        ensures sight { IfOk result (λ sight. sight ≡ sight_of moment query.now bans.now.items kept.now) }
+        ensures seen { IfOk result (λ sight. self.new ≡ joined self.old (seeing moment query.now (length bans.now.items) sight kept.now nothing_seen)) }
+    {
+        let sight = sight_of(alloc, moment, query, bans, kept)?;
+        self.add(moment, query, bans.len(), sight, kept)?;
+        Ok(sight)
     }
 }
 
@@ -133,9 +118,10 @@ pub(crate) fn scan(
 {
     let mut seen = Seen::nothing(alloc);
     for place in 0..objects.len() {
-        let kept = &objects[place];
-        let sight = sight_of(alloc, moment, query, bans, kept)?;
-        seen = seen.with_object(moment, query, bans.len(), sight, kept)?;
+        let sight = match seen.look_at(alloc, moment, query, bans, &objects[place]) {
+            Ok(sight) => sight,
+            Err(_) => return Err(lost(seen)),
+        };
         if is_end(sight) {
             return Ok(seen);
         }

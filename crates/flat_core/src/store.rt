@@ -1,11 +1,11 @@
 // What the plain cache holds, and how each call changes it.
-ghost use Rattle.std.specs.Prelude.{◌≡◌, ℕ, ◌+◌, ◌*◌, ◌<◌, ◌^◌, true, false, Option, length, if◌then◌else◌, Some, None, IfOk, IfSome, OnErr, OnSome, IfNone, IsOk, ◌≤◌};
+ghost use Rattle.std.specs.Prelude.{◌≡◌, ℕ, ◌+◌, ◌*◌, ◌<◌, ◌^◌, true, false, Option, length, ◌∷◌, [], if◌then◌else◌, Some, None, IfOk, IfSome, OnErr, OnSome, IfNone, IsOk, ◌≤◌};
 ghost use Rattle.cache_law.specs.declared.object.Object.{Object as Made};
 ghost use Rattle.cache_law.specs.declared.target.Target.{Target as Aim};
 ghost use Rattle.cache_law.specs.declared.call.Call.TheVariants.{Begin as BeginCall, Draw as DrawCall, Lookup as LookupCall, Pick as PickCall, Insert as InsertCall, Ban as BanCall, BanList as BanListCall, Purge as PurgeCall, Xkey as XkeyCall, SetHealth as SetHealthCall, Load as LoadCall, Switch as SwitchCall, Discard as DiscardCall, VclList as VclListCall, Drop as DropCall, End as EndCall};
 ghost use Rattle.cache_law.specs.declared.call.Reply.TheVariants.{Began, Bans};
 ghost use Rattle.cache_law.specs.State.{at_moment, awaits, reserve, has_round, has_fetch, is_closed, is_gone, those_in_time, without_fetch, without_fetches_of, without_round_of};
-ghost use Rattle.cache_law.specs.Beginning.{base_of};
+ghost use Rattle.cache_law.specs.Beginning.{base_of, boot_vcl};
 ghost use Rattle.cache_law.specs.BansAtOnce.{open_lines};
 ghost use Rattle.cache_law.specs.Law.{answered, begun, drawn, dropped, leaving, inserted, banned, purged, purged_by, picked, picked_at, health_set, loaded, switched, discarded, vcls_listed, ended};
 ghost use Rattle.cache_law.specs.History.{is_numbered};
@@ -14,9 +14,9 @@ ghost use Rattle.flat_core.specs.Found.{is_insertion, opens_more, told_so, Finds
 ghost use Rattle.flat_core.specs.Step.{Answers};
 
 use crate::answer::Answer;
-use crate::banning::{ban_fates, ban_lines};
-use crate::finding::{Found, hit_in, opens_fetch, reply_of, seek, wait_in};
-use crate::kept::Kept;
+use crate::banning::{ban_fates, ban_lines, issue};
+use crate::finding::{Finding, Found, hit_in, opens_fetch, reply_of, seek, wait_in};
+use crate::kept::{Fate, Kept};
 use crate::lists::{
     awaits, close_fetch, close_fetches_of, close_round_of, count_fetches_without, count_hit_of,
     count_rounds_without, count_without, has_fetch, has_round, is_closed, is_gone, keep_in_time,
@@ -32,7 +32,8 @@ use cache_law::{
 use std::alloc::{AllocError, Global};
 use std::collections::VecDeque;
 use std::marker::Model;
-use units::{Copied, Sequence, Text};
+use std::mem;
+use units::{Copied, Sequence, Text, lost};
 
 /// The number of the opening VCL.
 const BOOT_VCL: u32 = 1;
@@ -84,18 +85,11 @@ impl Store {
     pub fn new(alloc: Global, boot: &Boot) -> Result<Store, AllocError>
         ensures { IfOk result (λ store. store ≡ base_of boot.now) }
     {
-        let vcl = Vcl {
-            number: BOOT_VCL,
-            name: Text::of(alloc, b"boot")?,
-            text: boot.text.copy()?,
-            backends: boot.backends.copied(alloc)?,
+        let active = Shared::new(alloc, opening_vcl(alloc, boot)?)?;
+        let vcls = match only_vcl(alloc, &active) {
+            Ok(vcls) => vcls,
+            Err(_) => return Err(lost(active)),
         };
-        let active = Shared::new(alloc, vcl)?;
-        let mut vcls = Vec::new(alloc);
-        vcls.push(LoadedVcl {
-            vcl: active.copy()?,
-            is_discarded: false,
-        })?;
         Ok(Store {
             moment: 0,
             next: 1,
@@ -292,7 +286,8 @@ impl Store {
         rounds as u128 + fetches as u128
     }
 
-    /// Answers the call, which finds so, and leaves what is kept behind it. Where memory is wanting, all is as before.
+    /// Answers the call, which finds so, and leaves what is kept behind it. Where memory is wanting, all is as before. A
+    /// lookup takes what was found.
     pub fn answer(
         &mut self,
         alloc: Global,
@@ -300,9 +295,9 @@ impl Store {
         caller: u32,
         moment: u64,
         call: &Call,
-        found: Option<Found>,
+        found: &mut Option<Found>,
     ) -> Result<Answer, AllocError>
-        requires found { FindsFor self.old moment caller call.now found }
+        requires found { FindsFor self.old moment caller call.now found.old }
         requires numbers { self.old.next + 1 < 2 ^ 64 }
         requires vcls { is_numbered (answered room (at_moment moment self.old) caller call.now).reply ≡ true }
         ensures ok { IfOk result (Answers self.old self.new moment call.now (answered room (at_moment moment self.old) caller call.now)) }
@@ -386,7 +381,9 @@ impl Store {
             vcl: self.active.number,
             waits: None,
         };
-        self.rounds.push_front(round)?;
+        if self.rounds.push_front(round).is_err() {
+            return Err(lost(answer));
+        }
         self.next += 1;
         self.moment = moment;
         Ok(answer)
@@ -417,15 +414,19 @@ impl Store {
         caller: u32,
         moment: u64,
         query: &Query,
-        found: Option<Found>,
+        found: &mut Option<Found>,
     ) -> Result<Answer, AllocError>
-        requires found { FindsFor self.old moment caller (LookupCall query.now) found }
+        requires found { FindsFor self.old moment caller (LookupCall query.now) found.old }
         requires numbers { self.old.next + 1 < 2 ^ 64 }
-        ensures ok { IfOk result (Answers self.old self.new moment (LookupCall query.now) (told_so self.old moment caller query.now.key found)) }
+        ensures ok { IfOk result (Answers self.old self.new moment (LookupCall query.now) (told_so self.old moment caller query.now.key found.old)) }
         ensures err { OnErr result (self.new ≡ self.old) }
     {
-        match found {
-            Some(found) => self.look(alloc, caller, moment, query, found),
+        match found.take() {
+            Some(Found { finding, fates }) => {
+                let looked = self.look(alloc, caller, moment, query, finding, fates.as_slice());
+                drop(fates);
+                looked
+            }
             None => Ok(self.look_not(moment, query)),
         }
     }
@@ -441,26 +442,29 @@ impl Store {
         }
     }
 
-    /// In an open round.
+    /// In an open round, with these fates of the objects.
     fn look(
         &mut self,
         alloc: Global,
         caller: u32,
         moment: u64,
         query: &Query,
-        found: Found,
+        finding: Finding,
+        fates: &[Fate],
     ) -> Result<Answer, AllocError>
         requires { self.old.next + 1 < 2 ^ 64 }
-        ensures ok { IfOk result (Answers self.old self.new moment (LookupCall query.now) (told_so self.old moment caller query.now.key (Some found))) }
+        ensures ok { IfOk result (Answers self.old self.new moment (LookupCall query.now) (told_so self.old moment caller query.now.key (Some (record { finding = finding; fates = fates.now })))) }
         ensures err { OnErr result (self.new ≡ self.old) }
     {
-        let opens = opens_fetch(&found.finding);
-        let hit = hit_in(&found.finding);
+        let opens = opens_fetch(&finding);
+        let hit = hit_in(&finding);
         let token = self.next;
-        let answer = Answer::twice(alloc, reply_of(token, found.finding))?;
-        open_fetch_if(alloc, &mut self.fetches, opens, token, caller, &query.key)?;
+        let answer = Answer::twice(alloc, reply_of(token, finding))?;
+        if open_fetch_if(alloc, &mut self.fetches, opens, token, caller, &query.key).is_err() {
+            return Err(lost(answer));
+        }
         self.next = next_after(opens, token);
-        settle(&mut self.objects, found.fates.as_slice(), self.bans.len());
+        settle(&mut self.objects, fates, self.bans.len());
         count_hit_of(&mut self.objects, hit);
         remember(&mut self.rounds, caller, wait_in(&answer.told));
         self.moment = moment;
@@ -473,12 +477,9 @@ impl Store {
         ensures err { OnErr result (self.new ≡ self.old) }
     {
         let fates = ban_fates(alloc, moment, ban, &self.objects)?;
-        let issued = Issued {
-            number: self.bans.len() as u64 + 1,
-            moment,
-            ban: ban.copy()?,
-        };
-        self.bans.push_front(issued)?;
+        if issue(&mut self.bans, moment, ban).is_err() {
+            return Err(lost(fates));
+        }
         settle(&mut self.objects, fates.as_slice(), self.bans.len());
         self.moment = moment;
         Ok(Answer {
@@ -538,7 +539,9 @@ impl Store {
     {
         let name = name_at(target.members.as_slice(), place)?;
         let answer = Answer::twice(alloc, Reply::Picked(name))?;
-        count_on(&mut self.counters, vcl, target, place)?;
+        if count_on(&mut self.counters, vcl, target, place).is_err() {
+            return Err(lost(answer));
+        }
         self.moment = moment;
         Ok(answer)
     }
@@ -592,7 +595,7 @@ impl Store {
     {
         let count = count_of_xkeys(&self.objects, moment, keys.as_slice()) as u64;
         let left = softened_all(alloc, moment, keys.as_slice(), &self.objects)?;
-        self.objects = left;
+        drop(mem::replace(&mut self.objects, left));
         self.moment = moment;
         Ok(Answer {
             told: Reply::Purged(count),
@@ -667,7 +670,7 @@ impl Store {
                 });
             }
         };
-        self.active = vcl;
+        drop(mem::replace(&mut self.active, vcl));
         self.moment = moment;
         Ok(Answer {
             told: Reply::Switched,
@@ -806,6 +809,30 @@ impl Store {
             kept: Reply::Ended,
         }
     }
+}
+
+fn opening_vcl(alloc: Global, boot: &Boot) -> Result<Vcl, AllocError>
+    ensures { IfOk result (λ vcl. vcl ≡ boot_vcl boot.now) }
+{
+    Ok(Vcl {
+        number: BOOT_VCL,
+        name: Text::of(alloc, b"boot")?,
+        text: boot.text.copy()?,
+        backends: boot.backends.copied(alloc)?,
+    })
+}
+
+/// The VCL as the only one.
+fn only_vcl(alloc: Global, active: &Shared<Vcl>) -> Result<Vec<LoadedVcl>, AllocError>
+    ensures { IfOk result (λ vcls. vcls.items ≡ record { vcl = active.now; is_discarded = false } ∷ []) }
+{
+    let vcl = active.copy()?;
+    let mut vcls = Vec::new(alloc);
+    vcls.push(LoadedVcl {
+        vcl,
+        is_discarded: false,
+    })?;
+    Ok(vcls)
 }
 
 fn began(number: u64, vcl: &Vcl) -> Result<Reply, AllocError>

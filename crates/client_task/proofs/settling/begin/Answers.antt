@@ -7,10 +7,10 @@ use Rattle.client_task.proofs.Going.{entering, if_ok, went-from}
 use Rattle.client_task.proofs.settling.begin.Goals as goal
 
 pub go-requires-clause-stands : goal.go-requires-clause-stands
-go-requires-clause-stands g c = (begun c.subroutine.result c.args.context, c.in_ok-run.ensures.stands)
+go-requires-clause-stands g c = (begun c.subroutine.result c.args.context, c.in-Ok.ensures.stands)
 
 pub go-requires-clause-fits : goal.go-requires-clause-fits
-go-requires-clause-fits g c = c.in_ok-run.ensures.fits
+go-requires-clause-fits g c = c.in-Ok.ensures.fits
 
 pub returns : goal.returns
 returns g c =
@@ -18,6 +18,6 @@ returns g c =
     let e = evaluator runner.turns runner.targets c.args.program.now in
     record {
       went = if_ok _ _ c.go.result (λ gone h. went-from e _ runner.fits _ _ gone (entering e c.args.state c.args.context c.args.round)
-          (h (begun (subroutine_of c.args.state) c.args.context) (subst (λ (s : Subroutine). runner.stands c.in_ok-run.run' c.args.program.now (begun s c.args.context)) c.subroutine.ensures c.in_ok-run.ensures.stands))) c.go.ensures.went;
+          (h (begun (subroutine_of c.args.state) c.args.context) (subst (λ (s : Subroutine). runner.stands c.in-Ok.run' c.args.program.now (begun s c.args.context)) c.subroutine.ensures c.in-Ok.ensures.stands))) c.go.ensures.went;
       lowers = c.go.ensures.lowers;
     }

@@ -7,4 +7,4 @@ use Rattle.fetch_graph.proofs.answering.replied.Goals as goal
 pub returns : goal.returns
 returns c =
     subst (λ (r : Option Received). IfOk c.arrived.result (λ next. next ≡ arrived r c.args.context c.args.fetch))
-    (rw (← c.purpose_of.ensures, ← c.content_of.ensures) c.in_ok-received.ensures) c.arrived.ensures
+    (rw (← c.purpose_of.ensures, ← c.content_of.ensures) c.in-Ok.ensures) c.arrived.ensures

@@ -8,4 +8,4 @@ pub returns : goal.returns
 unfolding delivered
 returns c =
     subst (λ (r : Response). IfOk c.hand_over.result (λ next. next ≡ handed c.args.fetch.order.looked c.args.kept r c.args.context c.args.fetch))
-    c.in_ok-response.ensures c.hand_over.ensures
+    c.in-Ok.ensures c.hand_over.ensures

@@ -8,4 +8,4 @@ use Rattle.fetch_graph.proofs.leading.deliver_error.Goals as goal
 pub returns : goal.returns
 returns c =
     subst (λ (a : Arrived). IfOk c.deliver_whole.result (λ next. next ≡ delivered (kept_by c.args.context.fetch_response) a c.args.context c.args.fetch))
-    (c.in_ok-arrived.ensures ∙ ap (λ (o : ℤ). made_at o c.args.context) (to_z-of_z w64 c.args.origin c.ranges.origin)) c.deliver_whole.ensures
+    (c.in-Ok.ensures ∙ ap (λ (o : ℤ). made_at o c.args.context) (to_z-of_z w64 c.args.origin c.ranges.origin)) c.deliver_whole.ensures

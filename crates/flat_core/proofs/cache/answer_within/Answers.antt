@@ -13,4 +13,4 @@ returns-in-None-clause-kept c = λ kept.
 
 pub returns-clause-left : goal.returns-clause-left
 returns-clause-left c =
-    room_left c.args.room c.args.store.now c.answer.new.self c.args.caller c.args.moment c.args.call.now c.answer.result _ _ c.args.closings c.answer.ensures.ok c.requires.reserves (search rules)
+    room_left c.args.room c.args.store.now c.answer-answered.new.self c.args.caller c.args.moment c.args.call.now c.answer-answered.result _ _ c.args.closings c.answer-answered.ensures.ok c.requires.reserves (search rules)

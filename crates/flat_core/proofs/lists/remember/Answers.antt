@@ -1,4 +1,4 @@
-use Rattle.std.proofs.Common.{◌≡◌, ◌<◌, ◌∙◌, length, arith, ap}
+use Rattle.std.proofs.Common.{◌<◌, ◌∙◌, length, arith, ap}
 use Rattle.cache_law.specs.State.{remembering}
 use Rattle.flat_core.proofs.Passes.{length-passed, one_passed, passed_whole}
 use Rattle.flat_core.proofs.lists.remember.Goals as goal

@@ -1,4 +1,4 @@
-use Rattle.std.proofs.Common.{rules, refl, arith, ◌≡◌, ◌<◌, ◌++◌, length, take, drop, get_or}
+use Rattle.std.proofs.Common.{rules, arith, ◌≡◌, ◌<◌, length, get_or}
 use Rattle.flat_core.specs.declared.kept.Fate.TheVariants.{Stays}
 use Rattle.flat_core.specs.Kept.{moved_on}
 use Rattle.flat_core.proofs.Objects.{settle_start, all_stay, settle_more, settle_whole}

@@ -1,6 +1,3 @@
-use Rattle.std.proofs.Common.{rules, ap, ◌≡◌, ◌∙◌, ◌++◌, ◌==◌, find}
-use Rattle.std.specs.Option.{option_copied, option_map_or}
-use Rattle.flat_core.specs.declared.kept.Kept.{Kept}
 use Rattle.flat_core.proofs.lists.tested_for.Goals as goal
 
 pub returns : goal.returns

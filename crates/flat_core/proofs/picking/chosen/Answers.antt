@@ -1,4 +1,4 @@
-use Rattle.std.proofs.Common.{rules, ◌≡◌}
+use Rattle.std.proofs.Common.{rules}
 use Rattle.flat_core.proofs.Choosing.{member_chosen}
 use Rattle.flat_core.proofs.picking.chosen.Goals as goal
 

@@ -1,4 +1,4 @@
-use Rattle.std.proofs.Common.{rules, refl}
+use Rattle.std.proofs.Common.{rules}
 use Rattle.flat_core.specs.contracts.store.Store.{the_view}
 use Rattle.flat_core.proofs.Findings.{finds, finds_not}
 use Rattle.flat_core.proofs.store.Store.find_for.Goals as goal

@@ -1,4 +1,4 @@
-use Rattle.std.proofs.Common.{rules, refl}
+use Rattle.std.proofs.Common.{rules}
 use Rattle.flat_core.specs.contracts.store.Store.{the_view}
 use Rattle.flat_core.proofs.Replies.{lists_vcls}
 use Rattle.flat_core.proofs.store.Store.list_vcls.Goals as goal

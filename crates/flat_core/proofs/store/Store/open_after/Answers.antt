@@ -1,5 +1,5 @@
 use Rattle.std.proofs.Common.{ap, sym, ◌∙◌}
-use Rattle.cache_law.specs.State.{State, at_moment, reserve}
+use Rattle.cache_law.specs.State.{at_moment, reserve}
 use Rattle.cache_law.specs.Law.{Step}
 use Rattle.flat_core.proofs.Reserves.{begin_reserve, draw_reserve, lookup_reserve, insert_reserve, drop_reserve}
 use Rattle.flat_core.proofs.store.Store.open_after.Goals as goal

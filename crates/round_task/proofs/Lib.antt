@@ -1,0 +1,7 @@
+pub mod OneWant
+pub mod Alike
+pub mod Settling
+pub mod Clients
+pub mod Wholes
+pub mod Vcls
+pub mod Fronts

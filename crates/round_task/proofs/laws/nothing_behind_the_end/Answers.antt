@@ -1,0 +1,8 @@
+use Rattle.fetch_task.specs.Fetches.{evaluator}
+use Rattle.round_task.proofs.Wholes.{nothing-behind-round}
+use Rattle.round_task.proofs.laws.nothing_behind_the_end.Goals as goal
+
+pub returns : goal.returns
+returns g c = λ drawn redrawn request peer givens given want later l p q.
+    let runner = g.M.Runner in
+    nothing-behind-round (evaluator runner.turns runner.targets runner.default_of c.args.program.now) (λ ran a b x y. g.met.M.Runner.one_turn c.args.program.now ran a b x y) request peer givens given drawn redrawn want later l p q

@@ -1,0 +1,73 @@
+// What a round wants, and what the wants of its client and of its fetch are to it.
+ghost use Rattle.std.specs.Prelude.{◌≡◌};
+ghost use Rattle.round_task.specs.Rounds.{passed, made_of};
+
+use cache_law::Call;
+use cache_law::rounds::{FetchOutcome, Order};
+use delivery::Delivery;
+use http_heads::BackendRequest;
+use units::Text;
+
+/// What a round wants.
+#[derive(Drop)]
+pub enum Want {
+    /// A call of the cache.
+    Cache(Call),
+    /// An exchange with the backend of this name, for the fetch of this number.
+    Exchange {
+        number: u64,
+        backend: Text,
+        request: BackendRequest,
+    },
+    /// That its response is sent.
+    Send(Delivery),
+    /// Nothing more.
+    Done,
+}
+
+/// What a client's want is to its round.
+#[derive(Drop)]
+pub(crate) enum Passed {
+    /// The round wants it.
+    Wanted(Want),
+    /// A fetch is to be made.
+    Ordered(Order),
+}
+
+/// What a fetch's want is to its round.
+#[derive(Drop)]
+pub(crate) enum Made {
+    /// The round wants it.
+    Wanted(Want),
+    /// The fetch is over, with this outcome.
+    Over(FetchOutcome),
+}
+
+/// What a client's want is to its round.
+pub(crate) fn pass(want: client_graph::Want) -> Passed
+    ensures { result ≡ passed want }
+{
+    match want {
+        client_graph::Want::Cache(call) => Passed::Wanted(Want::Cache(call)),
+        client_graph::Want::Send(delivery) => Passed::Wanted(Want::Send(delivery)),
+        client_graph::Want::Done => Passed::Wanted(Want::Done),
+        client_graph::Want::Fetch(order) | client_graph::Want::Background(order) => {
+            Passed::Ordered(order)
+        }
+    }
+}
+
+/// What the want of the fetch of this number is to its round.
+pub(crate) fn make(number: u64, want: fetch_graph::Want) -> Made
+    ensures { result ≡ made_of number want }
+{
+    match want {
+        fetch_graph::Want::Cache(call) => Made::Wanted(Want::Cache(call)),
+        fetch_graph::Want::Ask { backend, request } => Made::Wanted(Want::Exchange {
+            number,
+            backend,
+            request,
+        }),
+        fetch_graph::Want::Done(outcome) => Made::Over(outcome),
+    }
+}
