@@ -5,7 +5,7 @@ set -eu
 prepare() {
   cd "$(dirname "${BASH_SOURCE[0]}")/.."
   program=crates/$1/out/$1
-  [ -x "$program" ] || (cd "crates/$1" && mapfile -t words < args && rt run -- "${words[@]}" < stdin > /dev/null)
+  [ -x "$program" ] || (cd "crates/$1" && words=() && if [ -e args ]; then mapfile -t words < args; fi && rt run -- "${words[@]}" < stdin > /dev/null)
   work=$(mktemp -d)
   trap 'rm -rf "$work"' EXIT
 }

@@ -1,8 +1,9 @@
 #!/usr/bin/env bash
 # How the time and the memory of `varn replay` grow with the length of a session: sessions of 1,000 to 300,000 lines over 64
 # pages, and sessions in which each request is for a page of its own and moments go on, so that objects expire. The best of
-# three runs each, the ratio of each step, and the peak memory a line beyond that of an empty session. Run it at the top of
-# the repository. The program is built and proved first where it isn't there yet.
+# three runs each, the ratio of each step, and the peak memory a line beyond that of an empty session; and the memory that a
+# hit takes, by sessions of hits alone, beside what the history counts for its entries. Run it at the top of the repository.
+# The program is built and proved first where it isn't there yet.
 . "$(dirname "$0")/prepare.sh"
 prepare varn
 python3 - "$work" "$program" <<'PY'
@@ -42,6 +43,11 @@ def many(count):
         number += 2
     return lines + ['end']
 
+def hits(count):
+    """Lines of a session: a page comes, and is asked for again and again."""
+    first = ['at 1000', request('/page10'), 'reply 2 "%s"' % REPLY]
+    return first + [request('/page10')] * count + ['end']
+
 def run(path):
     """The time of a run in seconds, its peak memory in bytes, and the lines that it wrote."""
     out = '%s/out' % work
@@ -75,4 +81,9 @@ for name, session, counts in (('64 pages', few, (1000, 10000, 100000, 300000)),
         print('%s: %7d lines   %8.4f s   %7d lines written   %5.0f bytes a line%s'
               % (name, count, best, lines, (peak - least) / count, step), flush=True)
         before = (best, count)
+fewer, more = (run(written('h%d' % count, hits(count)))[1] for count in (20000, 100000))
+# three entries, the texts of the key, the URL and the two fields
+counted = 3 * 64 + len('/page10' 'h' '/page10' 'Host' 'h' 'X-Forwarded-For' '10.0.0.1')
+print('a hit: %.0f bytes, %.2f times the %d that the history counts for its entries'
+      % ((more - fewer) / 80000, (more - fewer) / 80000 / counted, counted))
 PY

@@ -1,5 +1,5 @@
 -- What an exchange comes to that is heard so is one thing, and not want of memory.
-use Rattle.std.proofs.Common.{◌≡◌, inl, inr, Bool, true, List, ℕ, refl, sym, ◌∙◌, ap}
+use Rattle.std.proofs.Common.{◌≡◌, Bool, true, refl, sym, ◌∙◌, ap}
 use Rattle.http_heads.specs.declared.exchange.Exchange.{Exchange as What}
 use Rattle.replies.proofs.Once.{exchange_once, exchange_is_over}
 use Rattle.replay.specs.Policy.{is_over}

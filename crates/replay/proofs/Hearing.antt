@@ -10,7 +10,7 @@ use Rattle.cache_law.specs.History.{reached}
 use Rattle.cache_law.specs.State.{State, is_closed}
 use Rattle.replay.specs.declared.policy.Request.{Request}
 use Rattle.replay.specs.declared.policy.Given.{Given}
-use Rattle.replay.specs.declared.policy.Given.TheVariants.{Came, Closed}
+use Rattle.replay.specs.declared.policy.Given.TheVariants.{Start, Came, Closed}
 use Rattle.replay.specs.declared.policy.Want.{Want}
 use Rattle.replay.specs.declared.event.Event.{Event}
 use Rattle.replay.specs.declared.event.Event.TheVariants as events
@@ -25,7 +25,7 @@ use Rattle.replay.proofs.Alike.{alike-any, Found, found, not_found}
 use Rattle.replay.proofs.Asking.{leads_on}
 use Rattle.replay.proofs.Runs.{went-then, went-one, went-map}
 use Rattle.replay.proofs.Taking.{Takes-then}
-use Rattle.replay.proofs.Turns.{Breaks-behind, at_like}
+use Rattle.replay.proofs.Turns.{Breaks-behind, SoFar, at_like}
 
 module _ {P : Type 0} (wants : Request → List Given → Want → Type 0) (stands : P → Request → List Given → Type 0) where
   pending_client : (client : ℕ) (kept : Pending P) (one : Waiting) → IsPending wants stands kept one → (kept.client == client) ≡ (one.round.request.client == client)
@@ -76,11 +76,11 @@ woken scene one = record scene { running = Some (gave one.round Closed); parked 
 
 module _ (wants : Request → List Given → Want → Type 0) (beginning : Beginning) where
   -- a request that begins a round
-  pub request_heard : (scene : Scene) (request : Request) (h0 h1 : List Entry) (H : Scene → List ℕ → Type 0) → AtRest scene → is_under_way request.client scene ≡ false → Went wants beginning (with_running scene (begun request)) [] h0 h1 H → Went wants beginning scene (events.Request request ∷ []) h0 h1 H
+  pub request_heard : (scene : Scene) (request : Request) (h0 h1 : List Entry) (H : Scene → List ℕ → Type 0) → AtRest scene → is_under_way request.client scene ≡ false → Went wants beginning (with_running scene (begun scene.moment request)) [] h0 h1 H → Went wants beginning scene (events.Request request ∷ []) h0 h1 H
   request_heard scene request h0 h1 H rests free went =
-      went-then wants beginning scene (events.Request request ∷ []) [] h0 h0 h1 (λ next text. (next ≡ with_running scene (begun request)) × (text ≡ [])) H
-      (went-one wants beginning scene (with_running scene (begun request)) (hears (events.Request request)) h0 h0 _ (rests, free, refl) (sym (append-nil h0)) (refl, refl))
-      (λ next text at. subst (λ (s : Scene). Went wants beginning s [] h0 h1 (λ t more. H t (text ++ more))) (sym at.0) (subst (λ (x : List ℕ). Went wants beginning (with_running scene (begun request)) [] h0 h1 (λ t more. H t (x ++ more))) (sym at.1) went))
+      went-then wants beginning scene (events.Request request ∷ []) [] h0 h0 h1 (λ next text. (next ≡ with_running scene (begun scene.moment request)) × (text ≡ [])) H
+      (went-one wants beginning scene (with_running scene (begun scene.moment request)) (hears (events.Request request)) h0 h0 _ (rests, free, refl) (sym (append-nil h0)) (refl, refl))
+      (λ next text at. subst (λ (s : Scene). Went wants beginning s [] h0 h1 (λ t more. H t (text ++ more))) (sym at.0) (subst (λ (x : List ℕ). Went wants beginning (with_running scene (begun scene.moment request)) [] h0 h1 (λ t more. H t (x ++ more))) (sym at.1) went))
 
   -- a reply that a round waits for
   pub reply_heard : (scene : Scene) (number : ℕ) (heard : Heard) (exchange : What) (one : Waiting) (h0 h1 : List Entry) (H : Scene → List ℕ → Type 0) → AtRest scene → find (waits_for number) scene.waiting ≡ Some one → IsHeardAs one.to_head heard exchange → Went wants beginning (replied scene number exchange one) [] h0 h1 H → Went wants beginning scene (events.Reply number heard ∷ []) h0 h1 H
@@ -134,6 +134,15 @@ module _ (wants : Request → List Given → Want → Type 0) (beginning : Begin
       went-then wants beginning scene [] [] h0 h1 h2 (ComesTo wants stands beginning NobodyRuns (record { before = before; after = middle; old = one; new = two }) (Ok tt)) _ first
       (λ s text f. went-map wants beginning s [] h1 h2 _ _ (λ next more c. comes_behind stands Still before middle after one two three result next text more f.2 c) (then_ s f.1 f.0))
 
+  -- a round that has come so far, and rests from there
+  pub rests_then : {P : Type 0} (stands : P → Request → List Given → Type 0) (scene : Scene) (h0 h1 h2 : List Entry) (policy : P) (client : ℕ) (want : Want) (before middle after : Stage P) (one two three : Pieces) (result : Result (Unit {0}) Break)
+      → Went wants beginning scene [] h0 h1 (SoFar wants stands beginning client middle policy want one two)
+      → ((s : Scene) → IsStage wants stands beginning middle s → HasTurn wants stands policy client want s → Went wants beginning s [] h1 h2 (ComesTo wants stands beginning NobodyRuns (record { before = middle; after = after; old = two; new = three }) result))
+      → Went wants beginning scene [] h0 h2 (ComesTo wants stands beginning NobodyRuns (record { before = before; after = after; old = one; new = three }) result)
+  rests_then stands scene h0 h1 h2 policy client want before middle after one two three result so rest =
+      went-then wants beginning scene [] [] h0 h1 h2 (SoFar wants stands beginning client middle policy want one two) _ so
+      (λ s text f. went-map wants beginning s [] h1 h2 _ _ (λ next more c. comes_behind stands NobodyRuns before middle after one two three result next text more f.takes c) (rest s f.is_stage f.has_turn))
+
 module _ {P : Type 0} (wants : Request → List Given → Want → Type 0) (stands : P → Request → List Given → Type 0) where
   -- what a part comes to, from the beginning that the cache has
   pub comes_at : (Still : Scene → Type 0) (one two : Beginning) (stage : Stage P) (change : Change P) (h0 h1 : List Entry) (result : Result (Unit {0}) Break) → two ≡ one
@@ -167,6 +176,19 @@ module _ {P : Type 0} (wants : Request → List Given → Want → Type 0) (stan
   pub found_by_history : (beginning : Beginning) (stage : Stage P) (scene : Scene) (place : ℕ) (one : Kept P) → IsStage wants stands beginning stage scene → position (λ (k : Kept P). is_closed (reached beginning stage.history).fetches k.token) stage.parked ≡ Some place → one ≡ get_or stage.parked place one → FoundFree wants stands scene.state stage.parked scene.parked place one
   found_by_history beginning stage scene place one is at one_is =
       found_free wants stands scene.state stage.parked scene.parked place one is.parked_are (subst (λ (s : State). position (λ (k : Kept P). is_closed s.fetches k.token) stage.parked ≡ Some place) (sym is.at.state_is) at) one_is
+
+  -- the round that begins
+  pub begins_at : (policy : P) (want : Want) (scene : Scene) (request : Request) (moment : ℕ) → moment ≡ scene.moment → stands policy request (Start moment ∷ []) → wants request (Start moment ∷ []) want → HasTurn wants stands policy request.client want (with_running scene (begun scene.moment request))
+  begins_at policy want scene request moment same at wanted =
+      record {
+        round = begun scene.moment request;
+        turn = refl;
+        leads = record {
+          client_is = refl;
+          stands_at = subst (λ (m : ℕ). stands policy request (Start m ∷ [])) same at;
+          wanted = subst (λ (m : ℕ). wants request (Start m ∷ []) want) same wanted;
+        };
+      }
 
   -- the stage behind a reply that was heard
   pub reply_stage : (beginning : Beginning) (stage : Stage P) (scene : Scene) (number : ℕ) (exchange : What) (place : ℕ) (kept : Pending P) (it : FoundWaiting wants stands stage.waiting scene.waiting number place kept) (others : List (Pending P)) → others ≡ remove stage.waiting place → IsStage wants stands beginning stage scene → IsStage wants stands beginning (record stage { waiting = others }) (replied scene number exchange it.one)

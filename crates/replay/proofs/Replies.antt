@@ -5,7 +5,7 @@ use Rattle.cache_law.specs.declared.call.Call.TheVariants.{Begin, Draw, Lookup, 
 use Rattle.cache_law.specs.declared.call.Reply.{Reply}
 use Rattle.cache_law.specs.declared.call.Reply.TheVariants.{Bans}
 use Rattle.cache_law.specs.declared.call.Entry.{Entry}
-use Rattle.cache_law.specs.State.{State, at_moment, has_round, has_fetch}
+use Rattle.cache_law.specs.State.{State, has_round, has_fetch}
 use Rattle.cache_law.specs.Law.{Step, answered, MayAnswer, IsBanList}
 use Rattle.cache_law.specs.Beginning.{Beginning}
 use Rattle.cache_law.specs.History.{next_state}

@@ -1,58 +1,83 @@
 -- Which events the lines of a session stand for, as far as that is built.
-use Rattle.std.specs.Prelude.{◌≡◌, ℕ, List, [], ◌∷◌, ◌++◌, false}
-use Rattle.http_heads.specs.declared.exchange.Exchange.TheVariants as exchanges
+use Rattle.std.specs.Prelude.{◌≡◌, ◌≤◌, ◌<◌, ℕ, List, [], ◌∷◌, ◌++◌, codes}
 use Rattle.http_heads.specs.declared.message.RequestHead.{RequestHead}
-use Rattle.http_heads.specs.declared.message.ResponseHead.{ResponseHead}
-use Rattle.replies.specs.Replies.{IsReplyTo}
+use Rattle.http_heads.specs.Fields.{count_of}
 use Rattle.session_text.specs.declared.session.Line.{Line}
 use Rattle.session_text.specs.declared.session.Line.TheVariants as lines
 use Rattle.session_text.specs.declared.session.NumberedLine.{NumberedLine}
 use Rattle.session_text.specs.declared.session.Session.{Session}
+use Rattle.vmod_host.specs.declared.signature.Stored.{Stored}
 use Rattle.replay.specs.declared.policy.Message.{Message}
-use Rattle.replay.specs.declared.policy.Message.TheVariants.{Whole, Unreadable}
+use Rattle.replay.specs.declared.policy.Message.TheVariants.{Whole, Unreadable, Line as ConsoleLine}
 use Rattle.replay.specs.declared.event.Event.{Event}
 use Rattle.replay.specs.declared.event.Event.TheVariants as events
-use Rattle.replay.specs.declared.event.Heard.TheVariants.{Bytes}
+use Rattle.replay.specs.declared.event.Heard.TheVariants.{Bytes, Fault}
 use Rattle.replay.specs.declared.event.NumberedEvent.{NumberedEvent}
 use Rattle.replay.specs.declared.event.Script.{Script}
 use Rattle.replay.specs.declared.script.BuildError.{BuildError}
 use Rattle.replay.specs.declared.script.BuildError.TheVariants.{NotBuilt, NoMemory}
 use Rattle.replay.specs.Whole.{HasWholeRequest}
-use Rattle.replay.specs.Forms.{IsPageRequest, IsPageReply}
+use Rattle.replay.specs.Console.{LeadsTo}
 
--- the text's first message is a request for a page with this head and body; or no whole request stands at its front
+abbrev pub host_name : List ℕ
+host_name = codes "host"
+
+-- the text's first message is a request with this head and body, which has one Host field at most (RFC 9112, section 3.2)
+abbrev pub HasMessage : List ℕ → RequestHead → List ℕ → Type 0
+HasMessage text head body = HasWholeRequest text head body × (count_of host_name head.fields ≤ 1)
+
+-- it is this; or no such request stands at the text's front
 abbrev pub IsMessage : List ℕ → Message → Type 0
-IsMessage text (Whole head body) = HasWholeRequest text head body × IsPageRequest head
-IsMessage text Unreadable = (head : RequestHead) (body : List ℕ) → HasWholeRequest text head body → ⊥
+IsMessage text (Whole head body) = HasMessage text head body
+IsMessage text Unreadable = (head : RequestHead) (body : List ℕ) → HasMessage text head body → ⊥
+IsMessage text (ConsoleLine instruction) = ⊥
 
--- the bytes are a whole reply with a page, for a request that wasn't HEAD
-abbrev pub HasPage : List ℕ → Type 0
-HasPage bytes = (head : ResponseHead) × (body : List ℕ) × IsReplyTo false bytes (exchanges.Reply head body) × IsPageReply head
+-- the console, which is client 0, gets a line that leads to this
+abbrev pub IsLine : List Stored → List ℕ → Message → Type 0
+IsLine stored text (ConsoleLine instruction) = LeadsTo stored text instruction
+IsLine stored text (Whole head body) = ⊥
+IsLine stored text Unreadable = ⊥
 
--- the line stands for the event: a moment; a request of client 1; or the bytes of a whole reply with a page
-abbrev pub StandsFor : Line → Event → Type 0
-StandsFor (lines.At moment) (events.Moment same) = moment ≡ same
-StandsFor (lines.Req client text) (events.Request request) = (client ≡ 1) × (request.client ≡ 1) × IsMessage text request.message
-StandsFor (lines.Reply fetch text) (events.Reply number heard) = (number ≡ fetch) × (heard ≡ Bytes text) × HasPage text
-StandsFor line event = ⊥
+-- the line stands for the event: a moment; a request of a client; the bytes of a reply; a backend that can't be reached; or a line of
+-- the console
+abbrev pub StandsFor : List Stored → Line → Event → Type 0
+StandsFor stored (lines.At moment) (events.Moment same) = moment ≡ same
+StandsFor stored (lines.Req client text) (events.Request request) =
+    (0 < client) × (client ≤ 250) × (request.client ≡ client) × IsMessage text request.message
+StandsFor stored (lines.Reply fetch text) (events.Reply number heard) = (number ≡ fetch) × (heard ≡ Bytes text)
+StandsFor stored (lines.Fail fetch) (events.Reply number heard) = (number ≡ fetch) × (heard ≡ Fault)
+StandsFor stored (lines.Cli text) (events.Request request) = (request.client ≡ 0) × IsLine stored text request.message
+StandsFor stored line event = ⊥
 
 -- line by line, with the same numbers
-abbrev pub IsBuiltAs : List NumberedLine → List NumberedEvent → Type 0
-IsBuiltAs [] [] = Unit {0}
-IsBuiltAs (line ∷ more) (event ∷ events) = (event.number ≡ line.number) × StandsFor line.line event.event × IsBuiltAs more events
-IsBuiltAs [] (event ∷ events) = ⊥
-IsBuiltAs (line ∷ more) [] = ⊥
+abbrev pub IsBuiltAs : List Stored → List NumberedLine → List NumberedEvent → Type 0
+IsBuiltAs stored [] [] = Unit {0}
+IsBuiltAs stored (line ∷ more) (event ∷ events) = (event.number ≡ line.number) × StandsFor stored line.line event.event × IsBuiltAs stored more events
+IsBuiltAs stored [] (event ∷ events) = ⊥
+IsBuiltAs stored (line ∷ more) [] = ⊥
 
-pub record IsBuilt (session : Session) (script : Script) : Type 0 where
-  pub lines_are : IsBuiltAs session.lines script.events
+-- the event of one line more stands behind those before it
+pub record IsOneMore (stored : List Stored) (line : NumberedLine) (before now : List NumberedEvent) : Type 0 where
+  pub event : NumberedEvent
+  pub number_is : event.number ≡ line.number
+  pub stands : StandsFor stored line.line event.event
+  pub pushed : now ≡ before ++ event ∷ []
+
+-- why there is none: the line stands for no event, or memory is wanting
+abbrev pub IsLineError : List Stored → NumberedLine → BuildError → Type 0
+IsLineError stored line (NotBuilt number) = (number ≡ line.number) × ((event : Event) → StandsFor stored line.line event → ⊥)
+IsLineError stored line NoMemory = Unit {0}
+
+pub record IsBuilt (stored : List Stored) (session : Session) (script : Script) : Type 0 where
+  pub lines_are : IsBuiltAs stored session.lines script.events
   pub end_is : script.end ≡ session.end
 
 -- the first line that stands for no event has this number; those before it stand for some
-abbrev pub IsNotBuilt : Session → ℕ → Type 0
-IsNotBuilt session number =
+abbrev pub IsNotBuilt : List Stored → Session → ℕ → Type 0
+IsNotBuilt stored session number =
     (front : List NumberedLine) × (first : NumberedLine) × (back : List NumberedLine) × (events : List NumberedEvent)
-    × (session.lines ≡ front ++ first ∷ back) × IsBuiltAs front events × (first.number ≡ number) × ((event : Event) → StandsFor first.line event → ⊥)
+    × (session.lines ≡ front ++ first ∷ back) × IsBuiltAs stored front events × (first.number ≡ number) × ((event : Event) → StandsFor stored first.line event → ⊥)
 
-abbrev pub IsBuildError : Session → BuildError → Type 0
-IsBuildError session (NotBuilt number) = IsNotBuilt session number
-IsBuildError session NoMemory = Unit {0}
+abbrev pub IsBuildError : List Stored → Session → BuildError → Type 0
+IsBuildError stored session (NotBuilt number) = IsNotBuilt stored session number
+IsBuildError stored session NoMemory = Unit {0}

@@ -1,6 +1,6 @@
 -- What is one of a session: its text and its scene over given entries, its history where no insertion was refused,
 -- and its ending.
-use Rattle.std.specs.Prelude.{◌≡◌, ◌≢◌, ◌⊎◌, ℕ, Bool, true, false, Option, Some, None, List}
+use Rattle.std.specs.Prelude.{◌≡◌, ◌≢◌, ◌⊎◌, ◌++◌, ◌∷◌, ℕ, Bool, true, false, Option, Some, None, List}
 use Rattle.std.specs.List.{AllByRecursion}
 use Rattle.std.specs.Io.KnownBytes.{Appends}
 use Rattle.cache_law.specs.Beginning.{Beginning}
@@ -18,7 +18,15 @@ use Rattle.replay.specs.declared.session.ReplayError.{ReplayError}
 use Rattle.replay.specs.declared.session.ReplayError.TheVariants.{NotBuilt, Idle, Unanswered, WriteFault, HistoryFull, NoMemory}
 use Rattle.replay.specs.Scene.{Scene, AtRest, Run, opening_scene}
 use Rattle.session_text.specs.declared.session.Session.{Session}
-use Rattle.replay.specs.Replayed.{EndsSo, PlayedTo}
+use Rattle.vmod_host.specs.declared.signature.Stored.{Stored}
+use Rattle.session_text.specs.declared.session.Line.TheVariants as lines
+use Rattle.session_text.specs.declared.session.NumberedLine.{NumberedLine}
+use Rattle.vcl_refusals.specs.Outcomes.{IsPlainText}
+use Rattle.cli_console.specs.Orders.{IsOrderOf}
+use Rattle.cli_console.specs.declared.orders.Order.TheVariants as order
+use Rattle.replay.specs.declared.console.Instruction.{Instruction}
+use Rattle.replay.specs.Console.{LeadsTo}
+use Rattle.replay.specs.Replayed.{EndsSo, PlayedTo, SessionEnds}
 
 -- the call asks for the list of bans, of which the law allows several
 abbrev pub asks_bans : Call → Bool
@@ -71,6 +79,37 @@ OneEnding wants =
 
 -- Over this history nothing stops the session before its end: no line is idle, `end` isn't unanswered, and no call that is
 -- wanted lacks room.
-abbrev pub NothingStops : (Request → List Given → Want → Type 0) → Session → Beginning → List Entry → Type 0
-NothingStops wants session beginning history =
-    (before now : Option (List ℕ)) (ending : ReplayError) → IsOwnEnding (Some ending) → PlayedTo wants session beginning history before now (Some ending) → ⊥
+abbrev pub NothingStops : List Stored → (Request → List Given → Want → Type 0) → Session → Beginning → List Entry → Type 0
+NothingStops stored wants session beginning history =
+    (before now : Option (List ℕ)) (ending : ReplayError) → IsOwnEnding (Some ending) → PlayedTo stored wants session beginning history before now (Some ending) → ⊥
+
+-- a line of the console leads to one thing
+abbrev pub LeadsToOne : List Stored → List ℕ → Type 0
+LeadsToOne stored line = (one other : Instruction) → LeadsTo stored line one → LeadsTo stored line other → other ≡ one
+
+-- The text of a VCL that the line brings, if it brings one, is plain: none of its patterns nests too deep.
+abbrev pub BringsPlainText : List ℕ → Type 0
+BringsPlainText line = (name text : List ℕ) → IsOrderOf line (order.Inline name text) → IsPlainText text
+
+-- the line of a session brings no other text than such a one
+abbrev pub IsPlain : NumberedLine → Type 0
+IsPlain line = (text : List ℕ) → line.line ≡ lines.Cli text → BringsPlainText text
+
+-- A session whose texts of VCLs are plain has one ending over a history, and over all histories in which the law leaves each
+-- entry one answer; and history and text are one with it.
+abbrev pub OneSession : (Request → List Given → Want → Type 0) → Type 0
+OneSession wants =
+    (stored : List Stored) (session : Session) (beginning : Beginning) (history other : List Entry) (before now before2 now2 : Option (List ℕ)) (ending ending2 : Option ReplayError)
+    → AllByRecursion IsPlain session.lines
+    → SessionEnds stored wants session beginning history before now ending → SessionEnds stored wants session beginning other before2 now2 ending2
+    → IsOwnEnding ending → IsOwnEnding ending2
+    → (other ≡ history) ⊎ (AllBound history × AllBound other)
+    → (ending2 ≡ ending) × (other ≡ history) × (text : List ℕ) × Appends before now text × Appends before2 now2 text
+
+-- Where a session is idle at a line, that is the number of one of its lines that is none of the console's.
+abbrev pub ConsoleIsHeard : (Request → List Given → Want → Type 0) → Type 0
+ConsoleIsHeard wants =
+    (stored : List Stored) (session : Session) (beginning : Beginning) (history : List Entry) (before now : Option (List ℕ)) (line : ℕ)
+    → SessionEnds stored wants session beginning history before now (Some (Idle line))
+    → (front : List NumberedLine) × (one : NumberedLine) × (back : List NumberedLine)
+    × (session.lines ≡ front ++ one ∷ back) × (one.number ≡ line) × ((text : List ℕ) → one.line ≡ lines.Cli text → ⊥)

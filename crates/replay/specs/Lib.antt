@@ -1,11 +1,11 @@
 pub mod Policy
-pub mod Messages
-pub mod FixedPolicy
-pub mod Visit
+pub mod Console
+pub mod Rounds
+pub mod Turns
+pub mod OneWant
 pub mod Scene
 pub mod Endings
 pub mod Whole
-pub mod Forms
 pub mod Build
 pub mod Laws
 pub mod Pieces

@@ -1,5 +1,5 @@
 -- Words on what a round wants and is given.
-use Rattle.std.specs.Prelude.{◌≡◌, ◌⊎◌, Bool, true, false, List, []}
+use Rattle.std.specs.Prelude.{◌≡◌, ◌⊎◌, ℕ, Bool, true, false, List, []}
 use Rattle.http_heads.specs.declared.exchange.Exchange.{Exchange as What}
 use Rattle.http_heads.specs.declared.exchange.Exchange.TheVariants as exchanges
 use Rattle.cache_law.specs.declared.call.Call.{Call}
@@ -15,6 +15,12 @@ use Rattle.replay.specs.declared.policy.Want.TheVariants.{Ask, Exchange, Respond
 abbrev pub is_response : Want → Bool
 is_response (Respond text) = true
 is_response want = false
+
+-- a round that wants this waits, or is over
+abbrev pub rests : Want → Bool
+rests (Ask call) = false
+rests (Respond text) = false
+rests want = true
 
 -- a call behind which a client isn't told to wait any more, unless it is told so anew
 abbrev pub ends_wait : Call → Bool
@@ -84,9 +90,9 @@ answers (Respond text) Sent = true
 answers (Await token) Closed = true
 answers want given = false
 
--- A round that stands here may be given this: Start at first, and then what answers what it wants.
+-- A round that stands here may be given this: its start at first, and then what answers what it wants.
 pub record IsDue {P : Type 0} (wants : Request → List Given → Want → Type 0) (stands : P → Request → List Given → Type 0) (policy : P) (given : Given) : Type 0 where
   pub request : Request
   pub givens : List Given
   pub stands_at : stands policy request givens
-  pub due : ((givens ≡ []) × (given ≡ Start)) ⊎ ((want : Want) × wants request givens want × (answers want given ≡ true))
+  pub due : ((givens ≡ []) × (moment : ℕ) × (given ≡ Start moment)) ⊎ ((want : Want) × wants request givens want × (answers want given ≡ true))

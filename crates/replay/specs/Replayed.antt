@@ -2,6 +2,7 @@
 use Rattle.std.specs.Prelude.{◌≡◌, ◌⊎◌, ℕ, Bool, true, false, Option, Some, None, Result, Ok, Err, List, [], ◌∷◌, ◌++◌, if◌then◌else◌}
 use Rattle.std.specs.Io.KnownBytes.{Appends}
 use Rattle.session_text.specs.declared.session.Session.{Session}
+use Rattle.vmod_host.specs.declared.signature.Stored.{Stored}
 use Rattle.cache_law.specs.Beginning.{Beginning}
 use Rattle.cache_law.specs.declared.call.Entry.{Entry}
 use Rattle.cache_law.specs.History.{Legal}
@@ -93,17 +94,17 @@ pub record NothingPlayed (history : List Entry) (before now : Option (List ℕ))
   pub held_is : now ≡ before
 
 -- the session's events were played, and this ended it
-abbrev pub PlayedTo : (Request → List Given → Want → Type 0) → Session → Beginning → List Entry → Option (List ℕ) → Option (List ℕ) → Option ReplayError → Type 0
-PlayedTo wants session beginning history before now refusal =
-    (script : Script) × IsBuilt session script × EndsSo wants beginning script history before now refusal
+abbrev pub PlayedTo : List Stored → (Request → List Given → Want → Type 0) → Session → Beginning → List Entry → Option (List ℕ) → Option (List ℕ) → Option ReplayError → Type 0
+PlayedTo stored wants session beginning history before now refusal =
+    (script : Script) × IsBuilt stored session script × EndsSo wants beginning script history before now refusal
 
 -- what the history and the sink hold after each ending of a session
-abbrev pub SessionEnds : (Request → List Given → Want → Type 0) → Session → Beginning → List Entry → Option (List ℕ) → Option (List ℕ) → Option ReplayError → Type 0
-SessionEnds wants session beginning history before now (Some (NotBuilt line)) = NothingPlayed history before now × IsNotBuilt session line
-SessionEnds wants session beginning history before now (Some NoMemory) =
-    NothingPlayed history before now ⊎ PlayedTo wants session beginning history before now (Some NoMemory)
-SessionEnds wants session beginning history before now None = PlayedTo wants session beginning history before now None
-SessionEnds wants session beginning history before now (Some (Idle line)) = PlayedTo wants session beginning history before now (Some (Idle line))
-SessionEnds wants session beginning history before now (Some (Unanswered line)) = PlayedTo wants session beginning history before now (Some (Unanswered line))
-SessionEnds wants session beginning history before now (Some WriteFault) = PlayedTo wants session beginning history before now (Some WriteFault)
-SessionEnds wants session beginning history before now (Some HistoryFull) = PlayedTo wants session beginning history before now (Some HistoryFull)
+abbrev pub SessionEnds : List Stored → (Request → List Given → Want → Type 0) → Session → Beginning → List Entry → Option (List ℕ) → Option (List ℕ) → Option ReplayError → Type 0
+SessionEnds stored wants session beginning history before now (Some (NotBuilt line)) = NothingPlayed history before now × IsNotBuilt stored session line
+SessionEnds stored wants session beginning history before now (Some NoMemory) =
+    NothingPlayed history before now ⊎ PlayedTo stored wants session beginning history before now (Some NoMemory)
+SessionEnds stored wants session beginning history before now None = PlayedTo stored wants session beginning history before now None
+SessionEnds stored wants session beginning history before now (Some (Idle line)) = PlayedTo stored wants session beginning history before now (Some (Idle line))
+SessionEnds stored wants session beginning history before now (Some (Unanswered line)) = PlayedTo stored wants session beginning history before now (Some (Unanswered line))
+SessionEnds stored wants session beginning history before now (Some WriteFault) = PlayedTo stored wants session beginning history before now (Some WriteFault)
+SessionEnds stored wants session beginning history before now (Some HistoryFull) = PlayedTo stored wants session beginning history before now (Some HistoryFull)

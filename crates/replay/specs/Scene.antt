@@ -1,5 +1,5 @@
 -- Where a session stands, and the moves that lead on from there.
-use Rattle.std.specs.Prelude.{◌≡◌, ℕ, Bool, false, Option, Some, None, List, [], ◌∷◌, ◌++◌, ◌==◌, ◌||◌, max, find, codes, remove}
+use Rattle.std.specs.Prelude.{◌≡◌, ℕ, Bool, false, Option, Some, None, List, [], ◌∷◌, ◌++◌, ◌==◌, ◌||◌, max, find, codes, remove, if◌then◌else◌}
 use Rattle.std.specs.List.{list_any, position_or_len, flat_map}
 use Rattle.std.specs.Fmt.{decimal}
 use Rattle.units.specs.Quoted.{quote_of}
@@ -53,8 +53,8 @@ pub record Scene : Type 0 where
 abbrev pub opening_scene : Beginning → Scene
 opening_scene beginning = record { moment = 0; state = beginning.base; running = None; waiting = []; parked = [] }
 
-abbrev pub begun : Request → Round
-begun request = record { request = request; givens = Start ∷ [] }
+abbrev pub begun : ℕ → Request → Round
+begun moment request = record { request = request; givens = Start moment ∷ [] }
 
 -- the round with one given more
 abbrev pub gave : Round → Given → Round
@@ -120,9 +120,13 @@ entries_of ends = []
 unfoldable pub fetch_line : ℕ → List ℕ → List ℕ → List ℕ
 fetch_line number backend request = codes "fetch " ++ decimal number ++ codes " " ++ backend ++ codes " " ++ quote_of request ++ 10 ∷ []
 
--- `resp`, the client and the response quoted
+-- what stands before a response: `resp` and the client, or `cli` for the console, which is client 0
+abbrev pub sent_to : ℕ → List ℕ
+sent_to client = if client == 0 then codes "cli" else codes "resp " ++ decimal client
+
+-- and the response quoted
 unfoldable pub response_line : ℕ → List ℕ → List ℕ
-response_line client response = codes "resp " ++ decimal client ++ codes " " ++ quote_of response ++ 10 ∷ []
+response_line client response = sent_to client ++ codes " " ++ quote_of response ++ 10 ∷ []
 
 abbrev pub text_of : Move → List ℕ
 text_of (hears event) = []
@@ -143,10 +147,10 @@ abbrev pub with_running : Scene → Round → Scene
 with_running scene round = record scene { running = Some round }
 
 -- What an exchange comes to that is heard so: its bytes and their end are read by whether the request was HEAD; a fault is
--- as a read that fails.
+-- that the backend can't be reached.
 abbrev pub IsHeardAs : Bool → Heard → What → Type 0
 IsHeardAs to_head (Bytes bytes) exchange = IsReplyTo to_head bytes exchange
-IsHeardAs to_head Fault exchange = exchange ≡ exchanges.Fault 3
+IsHeardAs to_head Fault exchange = exchange ≡ exchanges.Fault 1
 
 -- A line is heard when the schedule is at rest. A moment never goes back. A request begins a round of a client that has
 -- none under way; a reply is read as it is heard, and goes to the first round that waits
@@ -155,7 +159,7 @@ abbrev pub Hears : Scene → Event → Scene → Type 0
 Hears old (events.Moment moment) new =
     AtRest old × (new ≡ record old { moment = max old.moment moment })
 Hears old (events.Request request) new =
-    AtRest old × (is_under_way request.client old ≡ false) × (new ≡ with_running old (begun request))
+    AtRest old × (is_under_way request.client old ≡ false) × (new ≡ with_running old (begun old.moment request))
 Hears old (events.Reply number heard) new =
     (one : Waiting) × AtRest old × (find (waits_for number) old.waiting ≡ Some one)
     × (exchange : What) × IsHeardAs one.to_head heard exchange

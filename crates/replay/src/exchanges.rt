@@ -13,6 +13,6 @@ pub(crate) fn hear(alloc: Global, to_head: bool, heard: Heard) -> Result<Exchang
 {
     match heard {
         Heard::Bytes(bytes) => read_reply(alloc, bytes.bytes(), to_head),
-        Heard::Fault => Ok(Exchange::Fault(3)),
+        Heard::Fault => Ok(Exchange::Fault(1)),
     }
 }

@@ -1,7 +1,12 @@
 // Laws of sessions, as contracts of functions that do nothing.
-ghost use Rattle.replay.specs.Laws.{OneEnding, OneHistory, OneText};
+ghost use Rattle.std.specs.Prelude.{List, ℕ};
+ghost use Rattle.vmod_host.specs.declared.signature.Stored.{Stored as StoredFunction};
+ghost use Rattle.replay.specs.Rounds.{language_of};
+ghost use Rattle.replay.specs.Turns.{Wants};
+ghost use Rattle.replay.specs.Laws.{BringsPlainText, ConsoleIsHeard, LeadsToOne, OneEnding, OneHistory, OneSession, OneText};
 
-use crate::Policy;
+use crate::{Policy, Programs};
+use vcl_runs::Runner;
 
 /// Over given entries a session that is led by this policy has one scene and one text.
 pub fn one_text<P: Policy>()
@@ -18,4 +23,20 @@ pub fn one_history<P: Policy>()
 /// leaves each entry one answer.
 pub fn one_ending<P: Policy>()
     ensures { OneEnding P.wants }
+{}
+
+/// A session ends in one way, when it is led by this policy and the texts of VCLs that its lines of the console bring are plain:
+/// over a history, and over all in which the law leaves each entry one answer. Its history and its text are one with its ending.
+pub fn one_session<P: Policy>()
+    ensures { OneSession P.wants }
+{}
+
+/// A line of the console leads to one thing, where the text of a VCL that it brings is plain.
+pub fn one_instruction()
+    ensures { (stored : List StoredFunction) (line : List ℕ) → BringsPlainText line → LeadsToOne stored line }
+{}
+
+/// No line of the console is idle: where a session is idle at a line, one of its other lines has that number.
+pub fn console_is_heard<M: Runner, L: Programs<M>>()
+    ensures { ConsoleIsHeard (Wants (language_of L.of M.turns M.targets M.default_of)) }
 {}

@@ -5,26 +5,30 @@
 //! refusal means, are relations in `specs/` between the session's events, a history and a text.
 #![tactic(auto)]
 
+mod apart;
+mod console;
 mod event;
 mod exchanges;
-mod fixed;
-mod forms;
 mod laws;
+mod led;
 mod lines;
-mod messages;
 mod pieces;
 mod policy;
+mod programs;
 mod rounds;
 mod schedule;
 mod script;
 mod session;
-mod visit;
+mod turn;
 mod waking;
 mod whole;
 
+pub use apart::Apart;
+pub use console::Instruction;
 pub use event::{Event, Heard, NumberedEvent, Script};
-pub use fixed::Turn;
-pub use laws::{one_ending, one_history, one_text};
+pub use laws::{console_is_heard, one_ending, one_history, one_instruction, one_session, one_text};
+pub use led::Led;
 pub use policy::{Given, Message, Policy, Request, Want};
+pub use programs::Programs;
 pub use session::{ReplayError, Replayed, play_session, run_session};
-pub use visit::Visit;
+pub use turn::Turn;

@@ -42,7 +42,7 @@ pub(crate) fn write_fetch_line(
     Ok(line)
 }
 
-/// The line of a response.
+/// The line of a response, or of an answer of the console, which is client 0.
 #[tactic(auto, unfolding(crate::specs::Scene::response_line))]
 pub(crate) fn write_response_line(
     alloc: Global,
@@ -53,8 +53,12 @@ pub(crate) fn write_response_line(
 {
     let quoted = quote(alloc, response)?;
     let mut line = Vec::new(alloc);
-    line.extend_from_slice(b"resp ")?;
-    push_number(&mut line, alloc, u64::from(client))?;
+    if client == 0 {
+        line.extend_from_slice(b"cli")?;
+    } else {
+        line.extend_from_slice(b"resp ")?;
+        push_number(&mut line, alloc, u64::from(client))?;
+    }
     line.extend_from_slice(b" ")?;
     line.extend_from_slice(quoted.bytes())?;
     line.extend_from_slice(b"\n")?;

@@ -6,10 +6,11 @@ ghost use Rattle.replay.specs.declared.policy.Given.{Given as Gift};
 ghost use Rattle.replay.specs.declared.policy.Want.{Want as Wish};
 ghost use Rattle.replay.specs.Policy.{HasOneWant, IsDue, goes_on, is_response};
 
+use crate::Instruction;
 use cache_law::{Call, Reply};
 use http_heads::{BackendRequest, Got, RequestHead};
 use std::alloc::{AllocError, Global};
-use units::{Copied, Text};
+use units::Text;
 
 /// What a client sent.
 #[derive(Drop)]
@@ -18,6 +19,8 @@ pub enum Message {
     Whole { head: RequestHead, body: Text },
     /// Bytes that begin with no whole request.
     Unreadable,
+    /// A line of the console, which is client 0.
+    Line(Instruction),
 }
 
 /// What a client sent, and the client's number.
@@ -27,32 +30,11 @@ pub struct Request {
     pub message: Message,
 }
 
-impl Copied for Message {
-    fn copied(&self, alloc: Global) -> Result<Self, AllocError> {
-        match self {
-            Message::Whole { head, body } => Ok(Message::Whole {
-                head: head.copied(alloc)?,
-                body: body.copy()?,
-            }),
-            Message::Unreadable => Ok(Message::Unreadable),
-        }
-    }
-}
-
-impl Copied for Request {
-    fn copied(&self, alloc: Global) -> Result<Self, AllocError> {
-        Ok(Request {
-            client: self.client,
-            message: self.message.copied(alloc)?,
-        })
-    }
-}
-
 /// What a round is given.
 #[derive(Drop)]
 pub enum Given {
-    /// It begins.
-    Start,
+    /// It begins at this moment.
+    Start { moment: u64 },
     /// Its call was entered at this moment, with this reply.
     Told { moment: u64, reply: Reply },
     /// Its exchange is over.
@@ -74,7 +56,7 @@ pub enum Want {
         backend: Text,
         request: BackendRequest,
     },
-    /// That the client gets these bytes.
+    /// That the client gets these bytes; for the console, this answer.
     Respond(Text),
     /// That the fetch of this number is closed.
     Await(u64),

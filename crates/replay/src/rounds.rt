@@ -4,7 +4,7 @@ ghost use Rattle.backend_link.specs.Exchanges.{asks_head, sent_text};
 ghost use Rattle.cache_law.specs.Beginning.{Beginning};
 ghost use Rattle.cache_law.specs.declared.call.Entry.{Entry as HistoryEntry};
 ghost use Rattle.cache_law.specs.History.{HasWaited, reached};
-ghost use Rattle.replay.specs.Policy.{ends_wait, is_response};
+ghost use Rattle.replay.specs.Policy.{ends_wait, is_response, rests};
 ghost use Rattle.replay.specs.declared.policy.Want.TheVariants as wants;
 ghost use Rattle.replay.specs.Scene.{Scene, fetch_line};
 ghost use Rattle.replay.specs.Pieces.{Pieces, Tells, UsesSink, pieces};
@@ -176,6 +176,60 @@ fn park<P: Policy>(parked: &mut Vec<Kept<P>>, kept: Kept<P>) -> Result<(), Break
     }
 }
 
+/// Keeps the client's round where it waits: for a reply, once its exchange is begun, or for a token. A round that wants
+/// nothing more is over.
+fn rest<C: CacheCore, P: Policy, K: Sink>(
+    alloc: Global,
+    play: &mut Play<C, P>,
+    sink: &mut K,
+    client: u32,
+    policy: P,
+    want: Want,
+) -> Result<(), Break>
+    requires in_step { IsInStep (C.beginning play.old.core) (C.history play.old.core) play.old.moment }
+    requires alone { RunsAlone (C.beginning play.old.core) (stage_of C.history play.old) client want }
+    requires rests { rests want ≡ true }
+    ensures settled { OnOk result (IsSettled (C.beginning play.new.core) (stage_of C.history play.new)) }
+    ensures went { (scene : Scene) → IsStage P.wants P.stands (C.beginning play.old.core) (stage_of C.history play.old) scene → HasTurn P.wants P.stands policy client want scene →
+        Went P.wants (C.beginning play.old.core) scene [] (C.history play.old.core) (C.history play.new.core) (ComesTo P.wants P.stands (C.beginning play.old.core) NobodyRuns (change_of C.history K.held play.old play.new sink.old sink.new) result) }
+    ensures keeps { Keeps C.beginning C.history K.faults play.old play.new sink.old sink.new (IsErrOf result Break.WriteFault) }
+{
+    match want {
+        Want::Exchange {
+            number,
+            backend,
+            request,
+        } => {
+            let to_head = asks_for_head(&request);
+            let pending = Pending {
+                number,
+                client,
+                to_head,
+                policy,
+            };
+            begin_exchange(
+                alloc,
+                &mut play.unwritten,
+                sink,
+                &mut play.waiting,
+                pending,
+                &backend,
+                &request,
+            )
+        }
+        Want::Await(token) => {
+            let kept = Kept {
+                token,
+                client,
+                policy,
+            };
+            park(&mut play.parked, kept)
+        }
+        Want::Done => Ok(()),
+        Want::Ask(_) | Want::Respond(_) => unreachable!(),
+    }
+}
+
 /// Leads the client's round on, from what it wants, until it waits or is over.
 pub(crate) fn run_round<C: CacheCore, P: Policy, K: Sink>(
     alloc: Global,
@@ -198,71 +252,37 @@ pub(crate) fn run_round<C: CacheCore, P: Policy, K: Sink>(
     let mut want = want;
     'wants: loop {
         match want {
-            Want::Ask(call) => {
-                match ask(
-                    alloc,
-                    &mut play.core,
-                    play.moment,
-                    client,
-                    &mut policy,
-                    context,
-                    call,
-                ) {
-                    Ok(next) => {
-                        want = next;
-                        continue 'wants;
-                    }
-                    Err(broken) => return Err(broken),
+            Want::Ask(call) => match ask(
+                alloc,
+                &mut play.core,
+                play.moment,
+                client,
+                &mut policy,
+                context,
+                call,
+            ) {
+                Ok(next) => {
+                    want = next;
+                    continue 'wants;
                 }
-            }
-            Want::Respond(response) => {
-                match respond(
-                    alloc,
-                    &mut play.unwritten,
-                    sink,
-                    client,
-                    &mut policy,
-                    context,
-                    &response,
-                ) {
-                    Ok(next) => {
-                        want = next;
-                        continue 'wants;
-                    }
-                    Err(broken) => return Err(broken),
+                Err(broken) => return Err(broken),
+            },
+            Want::Respond(response) => match respond(
+                alloc,
+                &mut play.unwritten,
+                sink,
+                client,
+                &mut policy,
+                context,
+                &response,
+            ) {
+                Ok(next) => {
+                    want = next;
+                    continue 'wants;
                 }
-            }
-            Want::Exchange {
-                number,
-                backend,
-                request,
-            } => {
-                let to_head = asks_for_head(&request);
-                let pending = Pending {
-                    number,
-                    client,
-                    to_head,
-                    policy,
-                };
-                return begin_exchange(
-                    alloc,
-                    &mut play.unwritten,
-                    sink,
-                    &mut play.waiting,
-                    pending,
-                    &backend,
-                    &request,
-                );
-            }
-            Want::Await(token) => {
-                let kept = Kept {
-                    token,
-                    client,
-                    policy,
-                };
-                return park(&mut play.parked, kept);
-            }
-            Want::Done => return Ok(()),
+                Err(broken) => return Err(broken),
+            },
+            last => return rest(alloc, play, sink, client, policy, last),
         }
     }
 }

@@ -12,7 +12,7 @@ use crate::{Event, Given, Heard, NumberedEvent, Policy, Request, Want};
 use cache_law::CacheCore;
 use http_heads::Got;
 use std::alloc::{AllocError, Global};
-use units::Copied;
+use units::Sequence;
 use wire::Sink;
 
 /// Why an event isn't played to its end.
@@ -51,16 +51,17 @@ fn place_of<P>(waiting: &[Pending<P>], number: u64) -> Option<usize>
     waiting.iter().position(|kept| kept.number == number)
 }
 
-/// Begins a round: its policy, and what it wants first.
+/// Begins a round at the moment: its policy, and what it wants first.
 fn begin_round<P: Policy>(
     alloc: Global,
     context: &mut P::Context,
+    moment: u64,
     request: Request,
 ) -> Result<(P, Want), AllocError>
-    ensures { IfOk result (λ begun. P.stands begun.0 request (Given.Start ∷ []) × P.wants request (Given.Start ∷ []) begun.1) }
+    ensures { IfOk result (λ begun. P.stands begun.0 request (Given.Start moment ∷ []) × P.wants request (Given.Start moment ∷ []) begun.1) }
 {
     let mut policy = P::start(alloc, request)?;
-    let want = policy.resume(alloc, context, Given::Start)?;
+    let want = policy.resume(alloc, context, Given::Start { moment })?;
     Ok((policy, want))
 }
 
@@ -82,9 +83,10 @@ fn hear_request<C: CacheCore, P: Policy, K: Sink>(
 {
     let client = request.client;
     if is_busy(play, client) {
+        drop(request);
         return Err(Stop::Idle);
     }
-    let (policy, want) = match begin_round::<P>(alloc, context, request) {
+    let (policy, want) = match begin_round::<P>(alloc, context, play.moment, request) {
         Ok(begun) => begun,
         Err(_) => return Err(Stop::Broken(Break::NoMemory)),
     };
@@ -161,7 +163,9 @@ fn play_event<C: CacheCore, P: Policy, K: Sink>(
             play.moment = play.moment.max(moment);
             Ok(())
         }
-        Event::Request(request) => hear_request(alloc, play, context, sink, request),
+        Event::Request(request) => {
+            hear_request(alloc, play, context, sink, request.into_inner())
+        }
         Event::Reply { fetch, heard } => hear_reply(alloc, play, context, sink, fetch, heard),
     }
 }
@@ -173,31 +177,28 @@ pub(crate) enum Halt {
     Broken(Break),
 }
 
-/// Plays the events in order.
+/// Plays the events in order. Each is gone once it is played.
 pub(crate) fn play_events<C: CacheCore, P: Policy, K: Sink>(
     alloc: Global,
     play: &mut Play<C, P>,
     context: &mut P::Context,
     sink: &mut K,
-    events: &[NumberedEvent],
+    events: Sequence<NumberedEvent>,
 ) -> Result<(), Halt>
     requires in_step { IsInStep (C.beginning play.old.core) (C.history play.old.core) play.old.moment }
     requires opens { IsStage P.wants P.stands (C.beginning play.old.core) (stage_of C.history play.old) (opening_scene (C.beginning play.old.core)) }
     requires settled { IsSettled (C.beginning play.old.core) (stage_of C.history play.old) }
-    ensures plays { PlaysAll P.wants P.stands (C.beginning play.old.core) (change_of C.history K.held play.old play.new sink.old sink.new) events.now result }
+    ensures plays { PlaysAll P.wants P.stands (C.beginning play.old.core) (change_of C.history K.held play.old play.new sink.old sink.new) events result }
     ensures keeps { Keeps C.beginning C.history K.faults play.old play.new sink.old sink.new (result ≡ Err (Halt.Broken Break.WriteFault)) }
 {
-    for numbered in events {
-        let event = match numbered.event.copied(alloc) {
-            Ok(event) => event,
-            Err(_) => return Err(Halt::Broken(Break::NoMemory)),
-        };
+    for numbered in events.into_vec() {
+        let NumberedEvent { number, event } = numbered;
         let stop = match play_event(alloc, play, context, sink, event) {
             Ok(()) => continue,
             Err(stop) => stop,
         };
         match stop {
-            Stop::Idle => return Err(Halt::Idle(numbered.number)),
+            Stop::Idle => return Err(Halt::Idle(number)),
             Stop::Broken(broken) => return Err(Halt::Broken(broken)),
         }
     }

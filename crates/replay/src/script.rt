@@ -1,17 +1,20 @@
 // A session as it is read, made ready to be played.
 ghost use Rattle.std.specs.Prelude.{◌≡◌, ◌≤◌, ◌↔◌, ℕ, List, Some, IsTrue, MatchOption, MatchResult, IfOk};
-ghost use Rattle.replay.specs.Build.{HasPage, IsBuilt, IsBuiltAs, IsBuildError, IsMessage, StandsFor};
+ghost use Rattle.replay.specs.Build.{IsBuilt, IsBuildError, IsLineError, IsMessage, IsOneMore, StandsFor};
 ghost use Rattle.replay.specs.declared.event.Event.{Event as Happens};
 ghost use Rattle.replay.specs.declared.policy.Message.{Message as Sent};
+ghost use Rattle.vmod_host.specs.declared.signature.Stored.{Stored as StoredFunction};
 
-use crate::forms::{is_page_reply, is_page_request};
+use crate::console::instruction_of;
 use crate::whole::read_whole_request;
-use crate::{Event, Heard, Message, NumberedEvent, Request, Script};
-use http_heads::Exchange;
-use replies::read_reply;
+use crate::{Apart, Event, Heard, Message, NumberedEvent, Request, Script};
 use session_text::{Line, NumberedLine, Session};
 use std::alloc::{AllocError, Global};
 use units::{Sequence, Text};
+use vmod_host::VmodTable;
+
+/// The greatest number of a client.
+const MOST_CLIENTS: u32 = 250;
 
 /// Why a session isn't made ready.
 #[derive(Clone, Copy, Debug)]
@@ -21,91 +24,109 @@ pub(crate) enum BuildError {
     NoMemory,
 }
 
-/// What a client sent, if that is built.
-fn build_message(alloc: Global, text: &[u8]) -> Result<Option<Message>, AllocError>
-    ensures { IfOk result (λ built. MatchOption built ((message : Sent) → IsMessage text.now message → ⊥) (λ message. IsMessage text.now message)) }
+/// What a client sent. A request with two Host fields isn't read (RFC 9112, section 3.2).
+fn build_message(alloc: Global, text: &[u8]) -> Result<Message, AllocError>
+    ensures { IfOk result (IsMessage text.now) }
 {
     match read_whole_request(alloc, text)? {
         Some((head, body)) => {
-            if is_page_request(&head) {
-                Ok(Some(Message::Whole { head, body }))
+            if head.fields.count(b"host") > 1 {
+                drop((head, body));
+                Ok(Message::Unreadable)
             } else {
-                Ok(None)
+                Ok(Message::Whole { head, body })
             }
         }
-        None => Ok(Some(Message::Unreadable)),
+        None => Ok(Message::Unreadable),
     }
 }
 
 fn build_request(alloc: Global, client: u32, text: &[u8]) -> Result<Option<Event>, AllocError>
-    ensures { IfOk result (λ built. MatchOption built ((event : Happens) → StandsFor (Line.Req client text.now) event → ⊥) (λ event. StandsFor (Line.Req client text.now) event)) }
+    ensures { (stored : List StoredFunction) → IfOk result (λ built. MatchOption built ((event : Happens) → StandsFor stored (Line.Req client text.now) event → ⊥) (λ event. StandsFor stored (Line.Req client text.now) event)) }
 {
-    if client != 1 {
+    if client == 0 || client > MOST_CLIENTS {
         return Ok(None);
     }
-    match build_message(alloc, text)? {
-        Some(message) => Ok(Some(Event::Request(Request { client, message }))),
-        None => Ok(None),
-    }
+    let message = build_message(alloc, text)?;
+    let request = Apart::new(alloc, Request { client, message })?;
+    Ok(Some(Event::Request(request)))
 }
 
-// Whether the bytes are a whole reply with a page, for a request that wasn't HEAD.
-fn has_page(alloc: Global, bytes: &[u8]) -> Result<bool, AllocError>
-    ensures { IfOk result (λ found. IsTrue found ↔ HasPage bytes.now) }
+fn build_cli(alloc: Global, text: &Text, vmods: &VmodTable) -> Result<Event, AllocError>
+    ensures { IfOk result (StandsFor vmods.now.stored (Line.Cli text.now)) }
 {
-    match read_reply(alloc, bytes, false)? {
-        Exchange::Reply(head, _) => Ok(is_page_reply(&head)),
-        Exchange::Fault(_) => Ok(false),
-        Exchange::NoMemory => Ok(false),
-    }
-}
-
-fn build_reply(alloc: Global, fetch: u64, text: &Text) -> Result<Option<Event>, AllocError>
-    ensures { IfOk result (λ built. MatchOption built ((event : Happens) → StandsFor (Line.Reply fetch text.now) event → ⊥) (λ event. StandsFor (Line.Reply fetch text.now) event)) }
-{
-    if !has_page(alloc, text.bytes())? {
-        return Ok(None);
-    }
-    let heard = Heard::Bytes(text.copy()?);
-    Ok(Some(Event::Reply { fetch, heard }))
+    let instruction = instruction_of(alloc, text, vmods)?;
+    let request = Request {
+        client: 0,
+        message: Message::Line(instruction),
+    };
+    Ok(Event::Request(Apart::new(alloc, request)?))
 }
 
 /// The event that a line stands for, if it is built.
-fn build_line(alloc: Global, line: &Line) -> Result<Option<Event>, AllocError>
-    ensures { IfOk result (λ built. MatchOption built ((event : Happens) → StandsFor line.now event → ⊥) (λ event. StandsFor line.now event)) }
+fn build_line(alloc: Global, line: Line, vmods: &VmodTable) -> Result<Option<Event>, AllocError>
+    ensures { IfOk result (λ built. MatchOption built ((event : Happens) → StandsFor vmods.now.stored line event → ⊥) (λ event. StandsFor vmods.now.stored line event)) }
 {
     match line {
-        Line::At(moment) => Ok(Some(Event::Moment(*moment))),
-        Line::Req { client, text } => build_request(alloc, *client, text.bytes()),
-        Line::Reply { fetch, text } => build_reply(alloc, *fetch, text),
-        Line::Fail(_) => Ok(None),
-        Line::Cli(_) => Ok(None),
+        Line::At(moment) => Ok(Some(Event::Moment(moment))),
+        Line::Req { client, text } => build_request(alloc, client, text.bytes()),
+        Line::Reply { fetch, text } => Ok(Some(Event::Reply {
+            fetch,
+            heard: Heard::Bytes(text),
+        })),
+        Line::Fail(fetch) => Ok(Some(Event::Reply {
+            fetch,
+            heard: Heard::Fault,
+        })),
+        Line::Cli(text) => Ok(Some(build_cli(alloc, &text, vmods)?)),
         Line::Lurk(_) => Ok(None),
     }
 }
 
-/// The session as events; or the first line that isn't built yet.
-pub(crate) fn build(alloc: Global, session: &Session) -> Result<Script, BuildError>
-    ensures built { MatchResult result (λ script. IsBuilt session.now script) (λ error. IsBuildError session.now error) }
+// Puts the event of one line more behind those of the lines before it.
+fn build_more(
+    alloc: Global,
+    events: &mut Vec<NumberedEvent>,
+    numbered: NumberedLine,
+    vmods: &VmodTable,
+) -> Result<(), BuildError>
+    ensures { MatchResult result (λ u. IsOneMore vmods.now.stored numbered events.old.items events.new.items) (λ error. IsLineError vmods.now.stored numbered error) }
 {
+    let NumberedLine { number, line } = numbered;
+    let Ok(built) = build_line(alloc, line, vmods) else {
+        return Err(BuildError::NoMemory);
+    };
+    let Some(event) = built else {
+        return Err(BuildError::NotBuilt(number));
+    };
+    match events.push(NumberedEvent { number, event }) {
+        Ok(()) => Ok(()),
+        Err(failed) => {
+            drop(failed);
+            Err(BuildError::NoMemory)
+        }
+    }
+}
+
+/// The session as events, its lines of the console read with the stored functions of the table; or the first line that
+/// isn't built yet. Each line is gone once its event is there.
+pub(crate) fn build(
+    alloc: Global,
+    session: Session,
+    vmods: &VmodTable,
+) -> Result<Script, BuildError>
+    ensures built { MatchResult result (λ script. IsBuilt vmods.now.stored session script) (λ error. IsBuildError vmods.now.stored session error) }
+{
+    let Session { lines, end } = session;
     let mut events = Vec::new(alloc);
-    for numbered in session.lines.as_slice() {
-        let event = match build_line(alloc, &numbered.line) {
-            Ok(Some(event)) => event,
-            Ok(None) => return Err(BuildError::NotBuilt(numbered.number)),
-            Err(_) => return Err(BuildError::NoMemory),
-        };
-        let event = NumberedEvent {
-            number: numbered.number,
-            event,
-        };
-        match events.push(event) {
+    for numbered in lines.into_vec() {
+        match build_more(alloc, &mut events, numbered, vmods) {
             Ok(()) => {}
-            Err(_) => return Err(BuildError::NoMemory),
+            Err(error) => return Err(error),
         }
     }
     Ok(Script {
         events: Sequence::from_vec(events),
-        end: session.end,
+        end,
     })
 }

@@ -1,7 +1,8 @@
 // A whole session.
 ghost use Rattle.std.specs.Prelude.{◌≡◌, ◌≤◌, ◌==◌, ◌&&◌, length, Some, false};
 ghost use Rattle.wire.specs.Causes.{Rose};
-ghost use Rattle.replay.specs.FixedPolicy.{Wants};
+ghost use Rattle.replay.specs.Rounds.{language_of};
+ghost use Rattle.replay.specs.Turns.{Wants};
 ghost use Rattle.cache_law.specs.Beginning.{beginning_of};
 ghost use Rattle.replay.specs.Pieces.{UsesSink, pieces};
 ghost use Rattle.replay.specs.Replayed.{IsReplayed, IsWritten, SessionEnds, error_for, is_write_fault, refusal_of};
@@ -11,12 +12,14 @@ use crate::pieces::flush;
 use crate::rounds::{Break, Play};
 use crate::schedule::{Halt, play_events};
 use crate::script::{BuildError, build};
-use crate::{Policy, Turn};
+use crate::{Policy, Programs, Turn};
 use cache_law::{Boot, CacheCore, Entry, Params};
 use flat_core::FlatCore;
 use session_text::Session;
 use std::alloc::Global;
 use units::Sequence;
+use vcl_runs::Runner;
+use vmod_host::VmodTable;
 use wire::Sink;
 
 /// Why a session wasn't played to its end.
@@ -101,19 +104,21 @@ fn written<K: Sink>(
     }
 }
 
-/// Plays a session over a cache of this kind, its rounds led by this policy, and writes its transcript.
+/// Plays a session over a cache of this kind, its rounds led by this policy, and writes its transcript. Each event is gone
+/// once it is played.
 pub fn play_session<C: CacheCore + Drop, P: Policy, K: Sink>(
     alloc: Global,
-    script: &Script,
+    script: Script,
     params: &Params,
     boot: Boot,
     context: &mut P::Context,
     sink: &mut K,
 ) -> Replayed
-    ensures replayed { IsReplayed P.wants script.now (beginning_of params.now boot) (K.held sink.old) (K.held sink.new) result }
+    ensures replayed { IsReplayed P.wants script (beginning_of params.now boot) (K.held sink.old) (K.held sink.new) result }
     ensures later { K.faults sink.old ≤ K.faults sink.new }
     ensures cause { result.refusal ≡ Some ReplayError.WriteFault → Rose (K.faults sink.old) (K.faults sink.new) }
 {
+    let Script { events, end } = script;
     let core = match C::make(alloc, params, boot) {
         Ok(core) => core,
         Err(_) => {
@@ -130,9 +135,9 @@ pub fn play_session<C: CacheCore + Drop, P: Policy, K: Sink>(
         parked: Vec::new(alloc),
         unwritten: Vec::new(alloc),
     };
-    let played = play_events(alloc, &mut play, context, sink, script.events.as_slice());
+    let played = play_events(alloc, &mut play, context, sink, events);
     let nobody_waits = has_nobody(&play);
-    let ending = refusal(played, nobody_waits, script.end);
+    let ending = refusal(played, nobody_waits, end);
     let refusal = written(&mut play.unwritten, sink, ending);
     let Play { core, .. } = play;
     Replayed {
@@ -141,22 +146,28 @@ pub fn play_session<C: CacheCore + Drop, P: Policy, K: Sink>(
     }
 }
 
-/// Plays a session over the plain cache, its rounds led by the fixed policy. A session with a line that isn't
-/// built yet is refused before anything is played.
-pub fn run_session<K: Sink>(
+/// Plays a session over the plain cache. Its rounds are led by the programs of the library, and its lines of the console
+/// read with the stored functions of a table. A session with a line that isn't built yet is refused before anything is played.
+pub fn run_session<M: Runner, L: Programs<M>, K: Sink>(
     alloc: Global,
-    session: &Session,
+    session: Session,
+    vmods: &VmodTable,
+    library: &mut L,
     params: &Params,
     boot: Boot,
     sink: &mut K,
 ) -> Replayed
-    ensures replayed { SessionEnds Wants session.now (beginning_of params.now boot) result.history (K.held sink.old) (K.held sink.new) result.refusal }
+where
+    M::Program: Drop,
+    ensures replayed { SessionEnds vmods.now.stored (Wants (language_of L.of M.turns M.targets M.default_of)) session (beginning_of params.now boot) result.history (K.held sink.old) (K.held sink.new) result.refusal }
     ensures later { K.faults sink.old ≤ K.faults sink.new }
     ensures cause { result.refusal ≡ Some ReplayError.WriteFault → Rose (K.faults sink.old) (K.faults sink.new) }
 {
-    let refusal = match build(alloc, session) {
+    let refusal = match build(alloc, session, vmods) {
         Ok(script) => {
-            return play_session::<FlatCore, Turn, K>(alloc, &script, params, boot, &mut (), sink);
+            return play_session::<FlatCore, Turn<M, M::Program, L>, K>(
+                alloc, script, params, boot, library, sink,
+            );
         }
         Err(BuildError::NotBuilt(line)) => ReplayError::NotBuilt(line),
         Err(BuildError::NoMemory) => ReplayError::NoMemory,

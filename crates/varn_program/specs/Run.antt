@@ -6,6 +6,7 @@ use Rattle.session_text.specs.declared.session.FaultKind.{FaultKind}
 use Rattle.session_text.specs.Faults.{kind_number}
 use Rattle.session_text.specs.Sessions.{IsSession, IsFault}
 use Rattle.cache_law.specs.declared.setting.Params.{Params}
+use Rattle.vmod_host.specs.declared.signature.Stored.{Stored}
 use Rattle.cache_law.specs.declared.setting.Boot.{Boot}
 use Rattle.cache_law.specs.declared.call.Entry.{Entry}
 use Rattle.cache_law.specs.Beginning.{beginning_of}
@@ -14,8 +15,12 @@ use Rattle.replay.specs.Build.{IsBuilt}
 use Rattle.replay.specs.Laws.{NothingStops}
 use Rattle.replay.specs.declared.session.ReplayError.{ReplayError}
 use Rattle.replay.specs.declared.session.ReplayError.TheVariants as refusals
-use Rattle.replay.specs.FixedPolicy.{Wants}
+use Rattle.replay.specs.Turns.{Wants as TurnWants}
 use Rattle.replay.specs.Replayed.{SessionEnds, PlayedTo as SessionPlayedTo}
+use Rattle.replay.specs.declared.policy.Request.{Request}
+use Rattle.replay.specs.declared.policy.Given.{Given}
+use Rattle.replay.specs.declared.policy.Want.{Want}
+use Rattle.varn_program.specs.Programs.{vcl}
 use Rattle.varn_program.specs.Words.{AsksReplay}
 use Rattle.varn_program.specs.declared.outcome.Status.{Status}
 use Rattle.varn_program.specs.declared.outcome.Status.TheVariants.{Done, Words, Session, ReadFault, WriteFault, NoMemory, HistoryFull}
@@ -32,6 +37,10 @@ opening_boot = record { text = opening_text; backends = codes "default" ∷ [] }
 abbrev pub note_of : ℕ → ℕ → Option Note
 note_of line kind = Some (record { line = line; kind = kind })
 
+-- what a client of a session wants, led by VCL
+abbrev pub Wants : Request → List Given → Want → Type 0
+Wants = TurnWants vcl
+
 -- the text of a session: all that the source had left, or its first 67,108,865 bytes where it had more
 abbrev pub IsText : Option (List ℕ) → Option (List ℕ) → List ℕ → Type 0
 IsText before after text = ReadsUpTo 67108864 before after text
@@ -42,10 +51,10 @@ pub record Nothing (held0 held1 : Option (List ℕ)) (history : List Entry) : Ty
   pub held_is : held1 ≡ held0
 
 -- the source's text is a session, and playing it ended so
-abbrev pub PlayedTo : Params → Option (List ℕ) → Option (List ℕ) → Option (List ℕ) → Option (List ℕ) → List Entry → Option ReplayError → Type 0
-PlayedTo params left0 left1 held0 held1 history refusal =
+abbrev pub PlayedTo : List Stored → Params → Option (List ℕ) → Option (List ℕ) → Option (List ℕ) → Option (List ℕ) → List Entry → Option ReplayError → Type 0
+PlayedTo stored params left0 left1 held0 held1 history refusal =
     (text : List ℕ) × (session : TheSession) × IsText left0 left1 text × IsSession text session
-    × SessionEnds Wants session (beginning_of params opening_boot) history held0 held1 refusal
+    × SessionEnds stored Wants session (beginning_of params opening_boot) history held0 held1 refusal
 
 -- the source's text is no session
 abbrev pub IsRefused : Option (List ℕ) → Option (List ℕ) → Option Note → Type 0
@@ -53,51 +62,51 @@ IsRefused left0 left1 note =
     (text : List ℕ) × (line : ℕ) × (kind : FaultKind) × IsText left0 left1 text × IsFault text line kind × (note ≡ note_of line (kind_number kind))
 
 -- a line of the session isn't built, is idle, or is its end with somebody unanswered
-abbrev pub IsStopped : Params → Option (List ℕ) → Option (List ℕ) → Option (List ℕ) → Option (List ℕ) → List Entry → Option Note → Type 0
-IsStopped params left0 left1 held0 held1 history note =
-    ((line : ℕ) × (note ≡ note_of line 2) × PlayedTo params left0 left1 held0 held1 history (Some (refusals.NotBuilt line)))
-    ⊎ (((line : ℕ) × (note ≡ note_of line 7) × PlayedTo params left0 left1 held0 held1 history (Some (refusals.Idle line)))
-    ⊎ ((line : ℕ) × (note ≡ note_of line 8) × PlayedTo params left0 left1 held0 held1 history (Some (refusals.Unanswered line))))
+abbrev pub IsStopped : List Stored → Params → Option (List ℕ) → Option (List ℕ) → Option (List ℕ) → Option (List ℕ) → List Entry → Option Note → Type 0
+IsStopped stored params left0 left1 held0 held1 history note =
+    ((line : ℕ) × (note ≡ note_of line 2) × PlayedTo stored params left0 left1 held0 held1 history (Some (refusals.NotBuilt line)))
+    ⊎ (((line : ℕ) × (note ≡ note_of line 7) × PlayedTo stored params left0 left1 held0 held1 history (Some (refusals.Idle line)))
+    ⊎ ((line : ℕ) × (note ≡ note_of line 8) × PlayedTo stored params left0 left1 held0 held1 history (Some (refusals.Unanswered line))))
 
 -- how a replay ends, by its status
-abbrev pub EndsAs : Params → Option (List ℕ) → Option (List ℕ) → Option (List ℕ) → Option (List ℕ) → List Entry → Option Note → Status → Type 0
+abbrev pub EndsAs : List Stored → Params → Option (List ℕ) → Option (List ℕ) → Option (List ℕ) → Option (List ℕ) → List Entry → Option Note → Status → Type 0
 -- the whole transcript over the history
-EndsAs params left0 left1 held0 held1 history told Done = (told ≡ None) × PlayedTo params left0 left1 held0 held1 history None
-EndsAs params left0 left1 held0 held1 history told Words = ⊥
+EndsAs stored params left0 left1 held0 held1 history told Done = (told ≡ None) × PlayedTo stored params left0 left1 held0 held1 history None
+EndsAs stored params left0 left1 held0 held1 history told Words = ⊥
 -- refused before anything was written, or stopped at the noted line
-EndsAs params left0 left1 held0 held1 history told Session =
-    (Nothing held0 held1 history × IsRefused left0 left1 told) ⊎ IsStopped params left0 left1 held0 held1 history told
-EndsAs params left0 left1 held0 held1 history told ReadFault = (told ≡ None) × Nothing held0 held1 history
-EndsAs params left0 left1 held0 held1 history told WriteFault = (told ≡ None) × PlayedTo params left0 left1 held0 held1 history (Some refusals.WriteFault)
-EndsAs params left0 left1 held0 held1 history told HistoryFull = (told ≡ None) × PlayedTo params left0 left1 held0 held1 history (Some refusals.HistoryFull)
-EndsAs params left0 left1 held0 held1 history told NoMemory =
-    (told ≡ None) × (Nothing held0 held1 history ⊎ PlayedTo params left0 left1 held0 held1 history (Some refusals.NoMemory))
+EndsAs stored params left0 left1 held0 held1 history told Session =
+    (Nothing held0 held1 history × IsRefused left0 left1 told) ⊎ IsStopped stored params left0 left1 held0 held1 history told
+EndsAs stored params left0 left1 held0 held1 history told ReadFault = (told ≡ None) × Nothing held0 held1 history
+EndsAs stored params left0 left1 held0 held1 history told WriteFault = (told ≡ None) × PlayedTo stored params left0 left1 held0 held1 history (Some refusals.WriteFault)
+EndsAs stored params left0 left1 held0 held1 history told HistoryFull = (told ≡ None) × PlayedTo stored params left0 left1 held0 held1 history (Some refusals.HistoryFull)
+EndsAs stored params left0 left1 held0 held1 history told NoMemory =
+    (told ≡ None) × (Nothing held0 held1 history ⊎ PlayedTo stored params left0 left1 held0 held1 history (Some refusals.NoMemory))
 
-abbrev pub EndsReplay : Params → Option (List ℕ) → Option (List ℕ) → Option (List ℕ) → Option (List ℕ) → Outcome → Type 0
-EndsReplay params left0 left1 held0 held1 outcome = EndsAs params left0 left1 held0 held1 outcome.history outcome.note outcome.status
+abbrev pub EndsReplay : List Stored → Params → Option (List ℕ) → Option (List ℕ) → Option (List ℕ) → Option (List ℕ) → Outcome → Type 0
+EndsReplay stored params left0 left1 held0 held1 outcome = EndsAs stored params left0 left1 held0 held1 outcome.history outcome.note outcome.status
 
 -- The source has the bytes of this session left, and each of its lines is built.
-pub record HasSession (left : Option (List ℕ)) (session : TheSession) : Type 0 where
+pub record HasSession (stored : List Stored) (left : Option (List ℕ)) (session : TheSession) : Type 0 where
   pub bytes : List ℕ
   pub left_is : left ≡ Some bytes
   pub short : length bytes ≤ 67108864
   pub reads : IsSession bytes session
   pub script : Script
-  pub built : IsBuilt session script
+  pub built : IsBuilt stored session script
 
 -- Where the source has a session, nothing stops it over the history that is handed out, and no call of the outside failed,
 -- the run is whole: its status is Done, and the sink holds the transcript behind what it held. Or memory was wanting.
-abbrev pub IsComplete : Params → Option (List ℕ) → Option (List ℕ) → Option (List ℕ) → Type 0 → Outcome → Type 0
-IsComplete params left held0 held1 failed outcome =
-    (session : TheSession) → HasSession left session → NothingStops Wants session (beginning_of params opening_boot) outcome.history → (failed → ⊥)
-    → ((outcome.status ≡ Done) × SessionPlayedTo Wants session (beginning_of params opening_boot) outcome.history held0 held1 None) ⊎ (outcome.status ≡ NoMemory)
+abbrev pub IsComplete : List Stored → Params → Option (List ℕ) → Option (List ℕ) → Option (List ℕ) → Type 0 → Outcome → Type 0
+IsComplete stored params left held0 held1 failed outcome =
+    (session : TheSession) → HasSession stored left session → NothingStops stored Wants session (beginning_of params opening_boot) outcome.history → (failed → ⊥)
+    → ((outcome.status ≡ Done) × SessionPlayedTo stored Wants session (beginning_of params opening_boot) outcome.history held0 held1 None) ⊎ (outcome.status ≡ NoMemory)
 
 -- How a run ends: status Words exactly for words that ask for no replay, with nothing read or written; else as the replay
 -- that they ask for.
-abbrev pub Ends : List (List ℕ) → Option (List ℕ) → Option (List ℕ) → Option (List ℕ) → Option (List ℕ) → Outcome → Type 0
-Ends words left0 left1 held0 held1 outcome =
+abbrev pub Ends : List Stored → List (List ℕ) → Option (List ℕ) → Option (List ℕ) → Option (List ℕ) → Option (List ℕ) → Outcome → Type 0
+Ends stored words left0 left1 held0 held1 outcome =
     (((params : Params) → AsksReplay words params → ⊥) × (outcome ≡ record { status = Words; note = None; history = [] }) × (left1 ≡ left0) × (held1 ≡ held0))
-    ⊎ ((params : Params) × AsksReplay words params × EndsReplay params left0 left1 held0 held1 outcome)
+    ⊎ ((params : Params) × AsksReplay words params × EndsReplay stored params left0 left1 held0 held1 outcome)
 
 -- the outcome of a session that was played
 abbrev pub outcome_of : List Entry → Option ReplayError → Outcome

@@ -1,17 +1,22 @@
 // The top call.
 ghost use Rattle.std.specs.Prelude.{◌≡◌, ◌⊎◌, [], IfOk, Some, None};
 ghost use Rattle.cache_law.specs.declared.setting.Params.{Params as Limits};
+ghost use Rattle.varn_program.specs.Functions.{std_functions};
 ghost use Rattle.varn_program.specs.Run.{Ends, EndsReplay, IsComplete, opening_boot, outcome_of};
 ghost use Rattle.varn_program.specs.Words.{AsksReplay};
 ghost use Rattle.wire.specs.Causes.{Rose};
 
+use crate::functions::replay_with_std;
+use crate::library::Library;
 use crate::outcome::{Note, Outcome, Status};
 use crate::words::asked;
-use cache_law::{Boot, Params};
+use cache_law::{Boot, Params, Shared};
 use replay::{ReplayError, Replayed, run_session};
 use session_text::{SESSION_LIMIT, SessionError};
 use std::alloc::{AllocError, Global};
 use units::{Sequence, Text};
+use vcl_runner::Run;
+use vmod_host::VmodTable;
 use wire::{ReadError, Sink, Source, read_all};
 
 /// The VCL that a session begins under, and the name of its one backend.
@@ -30,8 +35,8 @@ fn make_boot(alloc: Global) -> Result<Boot, AllocError>
     })
 }
 
-// A run in which nothing was played.
-fn stopped(alloc: Global, status: Status, note: Option<Note>) -> Outcome
+/// A run in which nothing was played.
+pub(crate) fn stopped(alloc: Global, status: Status, note: Option<Note>) -> Outcome
     ensures { result ≡ record { status = status; note = note; history = [] } }
 {
     Outcome {
@@ -61,15 +66,18 @@ fn ended(replayed: Replayed) -> Outcome
     }
 }
 
-/// Reads the session from the source, plays it within these limits and writes its transcript to the sink.
+/// Reads the session from the source, plays it within these limits and writes its transcript to the sink. Texts of VCL
+/// that its console is given may call the functions of the table.
 pub fn replay<S: Source, K: Sink>(
     alloc: Global,
     params: &Params,
+    vmods: &Shared<VmodTable>,
     source: &mut S,
     sink: &mut K,
 ) -> Outcome
-    ensures ends { EndsReplay params.now (S.left source.old) (S.left source.new) (K.held sink.old) (K.held sink.new) result }
-    ensures complete { IsComplete params.now (S.left source.old) (K.held sink.old) (K.held sink.new) (Rose (S.faults source.old) (S.faults source.new) ⊎ Rose (K.faults sink.old) (K.faults sink.new)) result }
+    requires { vmods.now.stored ≡ std_functions }
+    ensures ends { EndsReplay vmods.now.stored params.now (S.left source.old) (S.left source.new) (K.held sink.old) (K.held sink.new) result }
+    ensures complete { IsComplete vmods.now.stored params.now (S.left source.old) (K.held sink.old) (K.held sink.new) (Rose (S.faults source.old) (S.faults source.new) ⊎ Rose (K.faults sink.old) (K.faults sink.new)) result }
     ensures read_fault { result.status ≡ Status.ReadFault → Rose (S.faults source.old) (S.faults source.new) }
     ensures write_fault { result.status ≡ Status.WriteFault → Rose (K.faults sink.old) (K.faults sink.new) }
 {
@@ -86,28 +94,43 @@ pub fn replay<S: Source, K: Sink>(
         }
         Err(SessionError::NoMemory) => return stopped(alloc, Status::NoMemory, None),
     };
+    drop(text);
     let boot = match make_boot(alloc) {
         Ok(boot) => boot,
         Err(_) => return stopped(alloc, Status::NoMemory, None),
     };
-    ended(run_session(alloc, &session, params, boot, sink))
+    let functions = match vmods.copy() {
+        Ok(functions) => functions,
+        Err(_) => return stopped(alloc, Status::NoMemory, None),
+    };
+    let mut library = Library::new(alloc, functions);
+    let replayed = run_session::<Run, Library, K>(
+        alloc,
+        session,
+        vmods,
+        &mut library,
+        params,
+        boot,
+        sink,
+    );
+    ended(replayed)
 }
 
 /// Does what the words say: `replay` plays the session of the source, within the limits that the options give or the
-/// usual ones.
+/// usual ones. Texts of VCL may call the functions of the module `std`.
 pub fn run<S: Source, K: Sink>(
     alloc: Global,
     words: &[Text],
     source: &mut S,
     sink: &mut K,
 ) -> Outcome
-    ensures ends { Ends words.now (S.left source.old) (S.left source.new) (K.held sink.old) (K.held sink.new) result }
-    ensures complete { (params : Limits) → AsksReplay words.now params → IsComplete params (S.left source.old) (K.held sink.old) (K.held sink.new) (Rose (S.faults source.old) (S.faults source.new) ⊎ Rose (K.faults sink.old) (K.faults sink.new)) result }
+    ensures ends { Ends std_functions words.now (S.left source.old) (S.left source.new) (K.held sink.old) (K.held sink.new) result }
+    ensures complete { (params : Limits) → AsksReplay words.now params → IsComplete std_functions params (S.left source.old) (K.held sink.old) (K.held sink.new) (Rose (S.faults source.old) (S.faults source.new) ⊎ Rose (K.faults sink.old) (K.faults sink.new)) result }
     ensures read_fault { result.status ≡ Status.ReadFault → Rose (S.faults source.old) (S.faults source.new) }
     ensures write_fault { result.status ≡ Status.WriteFault → Rose (K.faults sink.old) (K.faults sink.new) }
 {
     match asked(alloc, words) {
-        Ok(Some(params)) => replay(alloc, &params, source, sink),
+        Ok(Some(params)) => replay_with_std(alloc, &params, source, sink),
         Ok(None) => stopped(alloc, Status::Words, None),
         Err(_) => stopped(alloc, Status::NoMemory, None),
     }

@@ -6,13 +6,15 @@
 #![tactic(auto)]
 
 mod command;
+mod functions;
+mod library;
 mod limits;
 mod outcome;
 mod process;
-#[cfg(test)]
-mod tests;
 mod words;
 
 pub use command::{replay, run};
+pub use functions::replay_with_std;
 pub use outcome::{Note, Outcome, Status};
 pub use process::perform;
+pub use words::faulty_word;

@@ -139,7 +139,7 @@ fn fault_among(options: &[Text]) -> Option<&Text> {
 }
 
 /// The first word that is none of a command, of its options or of their values. None where a word is wanting.
-pub(crate) fn faulty_word(words: &[Text]) -> Option<&Text> {
+pub fn faulty_word(words: &[Text]) -> Option<&Text> {
     match words {
         [command, options @ ..] => {
             if is_word(command, b"replay") {

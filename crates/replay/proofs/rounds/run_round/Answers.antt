@@ -1,11 +1,13 @@
-use Rattle.std.proofs.Common.{Ok, Err, inl, refl, arith}
+use Rattle.std.proofs.Common.{Ok, Err, inl, arith}
 use Rattle.replay.specs.declared.policy.Want.TheVariants as wants
 use Rattle.replay.specs.Pieces.{pieces}
-use Rattle.replay.specs.Went.{stage_of}
-use Rattle.replay.proofs.Resting.{alone_behind, alone_still, ask_waits_not, done_waits_not, exchange_waits_not, free_to_ask, respond_waits_not, settles_done, settles_parked, settles_pending, told_nothing, wants_same, where_ok}
+use Rattle.replay.specs.Went.{NobodyRuns, stage_of}
+use Rattle.replay.proofs.Hearing.{led_at, rests_then}
+use Rattle.replay.proofs.Playing.{changed}
+use Rattle.replay.proofs.Resting.{alone_behind, alone_still, ask_waits_not, free_to_ask, respond_waits_not, told_nothing, wants_same}
 use Rattle.replay.proofs.Runs.{went-here}
 use Rattle.replay.proofs.Taking.{Takes-nil}
-use Rattle.replay.proofs.Turns.{KeepsCore-then, KeepsCore-none, asked_at, goes_on, breaks_off, exchange_rests, park_rests, done_rests}
+use Rattle.replay.proofs.Turns.{KeepsCore-then, KeepsCore-none, asked_at, goes_on, breaks_off}
 use Rattle.replay.proofs.rounds.run_round.Goals as goal
 
 pub wants-init : goal.wants-init
@@ -58,39 +60,21 @@ returns-in-Err-respond-clause-went g c = λ scene stage turn.
     breaks_off g.P.Policy.wants g.P.Policy.stands _ c.args.client c.wants.play.moment c.wants.play.waiting.items c.wants.play.parked.items scene _ _ _ _ _ _ _ c.respond.new.policy _ _ c.in-Err-respond.broken c.in-Respond.is (c.wants.invariant.went scene stage turn)
     (λ s at led. c.in-Err-respond.ensures.sent _ _ c.wants.play.moment s at led)
 
-pub returns-in-Exchange-clause-went : goal.returns-in-Exchange-clause-went
-returns-in-Exchange-clause-went g c = λ scene stage turn.
-    exchange_rests g.P.Policy.wants g.P.Policy.stands _ c.args.client c.wants.play.moment c.wants.play.waiting.items c.wants.play.parked.items scene _ _ _ _ _ _ _ _ _ _ c.begin_exchange.result refl c.asks_for_head-to_head.ensures c.in-Exchange.is
-    c.begin_exchange.ensures.told c.begin_exchange.ensures.waits (c.wants.invariant.went scene stage turn) (stage_of g.C.CacheCore.history c.args.play.now)
-
-pub returns-in-Await-clause-went : goal.returns-in-Await-clause-went
-returns-in-Await-clause-went g c = λ scene stage turn.
-    park_rests g.P.Policy.wants g.P.Policy.stands _ c.args.client c.wants.play.moment c.wants.play.waiting.items c.wants.play.parked.items scene _ _ _ _ _ _ _ c.park.result refl c.in-Await.is
-    c.park.ensures.parks c.park.ensures.only (c.wants.invariant.went scene stage turn) (stage_of g.C.CacheCore.history c.args.play.now)
-
-pub returns-in-Done-clause-went : goal.returns-in-Done-clause-went
-returns-in-Done-clause-went g c = λ scene stage turn.
-    done_rests g.P.Policy.wants g.P.Policy.stands _ c.args.client c.wants.play.moment c.wants.play.waiting.items c.wants.play.parked.items scene _ _ _ _ _ _ c.in-Done.is (c.wants.invariant.went scene stage turn) (stage_of g.C.CacheCore.history c.args.play.now)
-
 pub ask-requires-clause-waited : goal.ask-requires-clause-waited
 ask-requires-clause-waited g c =
     free_to_ask (g.C.CacheCore.beginning c.wants.play.core) (stage_of g.C.CacheCore.history c.wants.play) c.args.client _ _ c.in-Ask.is c.wants.invariant.alone
 
-pub returns-in-Exchange-clause-settled : goal.returns-in-Exchange-clause-settled
-returns-in-Exchange-clause-settled g c =
-    let now = g.C.CacheCore.beginning c.wants.play.core in
-    let stage = stage_of g.C.CacheCore.history c.wants.play in
-    let alone = wants_same now stage c.args.client _ _ c.in-Exchange.is c.wants.invariant.alone in
-    where_ok c.begin_exchange.result _ _ c.begin_exchange.ensures.waits (settles_pending now stage c.args.client _ alone (exchange_waits_not _ _ _) _ _ refl)
-
-pub returns-in-Await-clause-settled : goal.returns-in-Await-clause-settled
-returns-in-Await-clause-settled g c =
-    let now = g.C.CacheCore.beginning c.wants.play.core in
-    let stage = stage_of g.C.CacheCore.history c.wants.play in
-    where_ok c.park.result _ _ c.park.ensures.parks (settles_parked now stage c.args.client _ c.wants.invariant.alone _ _ refl c.in-Await.is)
-
-pub returns-in-Done-clause-settled : goal.returns-in-Done-clause-settled
-returns-in-Done-clause-settled g c =
-    let now = g.C.CacheCore.beginning c.wants.play.core in
-    let stage = stage_of g.C.CacheCore.history c.wants.play in
-    settles_done now stage c.args.client _ (wants_same now stage c.args.client _ _ c.in-Done.is c.wants.invariant.alone) done_waits_not
+pub returns-in_default-clause-went : goal.returns-in_default-clause-went
+returns-in_default-clause-went g c = λ scene stage turn.
+    let cache = g.C.CacheCore in
+    let policy = g.P.Policy in
+    let first = cache.beginning c.args.play.now.core in
+    let now = cache.beginning c.wants.play.core in
+    let start = stage_of cache.history c.args.play.now in
+    let middle = stage_of cache.history c.wants.play in
+    let after = stage_of cache.history c.rest.new.play in
+    let none = pieces (g.K.Sink.held c.args.sink.now) c.args.play.now.unwritten.items in
+    let some = pieces (g.K.Sink.held c.wants.sink) c.wants.play.unwritten.items in
+    let more = pieces (g.K.Sink.held c.rest.new.sink) c.rest.new.play.unwritten.items in
+    rests_then policy.wants first policy.stands scene start.history middle.history after.history c.wants.policy c.args.client c.wants.want start middle after none some more c.rest.result (c.wants.invariant.went scene stage turn)
+    (led_at policy.wants policy.stands NobodyRuns first now middle (changed middle after some more) middle.history after.history c.wants.policy c.args.client c.wants.want c.rest.result c.wants.invariant.core.same c.rest.ensures.went)

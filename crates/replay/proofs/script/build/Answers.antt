@@ -1,27 +1,33 @@
-use Rattle.std.proofs.Common.{◌≡◌, ◌<◌, List, subst, refl, length, get_or, take}
-use Rattle.session_text.specs.declared.session.NumberedLine.{NumberedLine}
+use Rattle.std.proofs.Common.{◌≡◌, refl, sym, ◌∙◌}
+use Rattle.std.specs.Vec.Iter.{into_iter_items}
 use Rattle.replay.specs.Build.{IsBuiltAs}
 use Rattle.replay.proofs.Building.{built_more, not_built, all_built}
+use Rattle.replay.proofs.Yielded.{one_taken, stood_between, all_taken, one_less}
 use Rattle.replay.proofs.script.build.Goals as goal
 
-pub returns-in-Ok-None : goal.returns-in-Ok-None
-returns-in-Ok-None c =
-    let items = c.as_slice-numbered-items.ensures in
+pub loop-numbered-preserved : goal.loop-numbered-preserved
+loop-numbered-preserved g c =
+    let at = c.loop-numbered in
+    let next = c.in-Some.ensures.steps in
     record {
-      built = not_built c.args.session.now c.loop-numbered.numbered-index c.loop-numbered.events.items c.numbered-item.result
-          (subst (λ (ls : List NumberedLine). c.loop-numbered.numbered-index < length ls) items c.loop-numbered-test.true)
-          (subst (λ (ls : List NumberedLine). c.numbered-item.result ≡ get_or ls c.loop-numbered.numbered-index c.numbered-item.result) items c.numbered-item.is)
-          (subst (λ (ls : List NumberedLine). IsBuiltAs (take c.loop-numbered.numbered-index ls) c.loop-numbered.events.items) items c.loop-numbered.invariant)
-          (rw c.in-Ok-None.field-0-is at c.in-Ok-None.ensures);
+      taken = one_taken at.yielded (into_iter_items at.numbered-iterator) _ _ c.in-Some.numbered at.invariant.taken next.0;
+      counted = one_less (into_iter_items at.numbered-iterator) _ c.in-Some.numbered _ _ next.0 at.invariant.counted (sym next.1);
+      built = built_more _ at.yielded _ _ c.in-Some.numbered at.invariant.built c.in-Ok.ensures;
     }
 
-pub loop-numbered-preserved : goal.loop-numbered-preserved
-loop-numbered-preserved c =
-    built_more _ _ _ _ c.numbered-item.result _ c.loop-numbered-test.true c.numbered-item.is c.loop-numbered.invariant refl (rw c.in-Ok-Some.field-0-is at c.in-Ok-Some.ensures) c.in-Ok.ensures.items
+pub returns-in-Err : goal.returns-in-Err
+returns-in-Err g c =
+    let at = c.loop-numbered in
+    let lines : into_iter_items c.into_iter-numbered-iterator.result ≡ c.args.session.lines = c.into_iter-numbered-iterator.ensures.into_iter_gives.0 ∙ c.into_vec-numbered-items.ensures in
+    record {
+      built = not_built c.args.vmods.now.stored c.args.session at.yielded _ at.events.items c.in-Some.numbered c.in-Err.error
+          (stood_between at.yielded (into_iter_items at.numbered-iterator) _ _ c.in-Some.numbered (at.invariant.taken ∙ lines) c.in-Some.ensures.steps.0) at.invariant.built c.in-Err.ensures;
+    }
 
 pub returns : goal.returns
-returns c =
-    let items = c.as_slice-numbered-items.ensures in
-    let built : IsBuiltAs c.args.session.now.lines c.loop-numbered.events.items =
-    subst (λ (ls : List NumberedLine). IsBuiltAs ls c.loop-numbered.events.items) items (all_built _ _ _ c.loop-numbered-test.false c.loop-numbered.invariant) in
+returns g c =
+    let at = c.loop-numbered in
+    let lines : into_iter_items c.into_iter-numbered-iterator.result ≡ c.args.session.lines = c.into_iter-numbered-iterator.ensures.into_iter_gives.0 ∙ c.into_vec-numbered-items.ensures in
+    let all : at.yielded ≡ c.args.session.lines = all_taken at.yielded (into_iter_items at.numbered-iterator) _ _ (at.invariant.taken ∙ lines) at.invariant.counted c.in-None.ensures.steps.0 in
+    let built : IsBuiltAs c.args.vmods.now.stored c.args.session.lines at.events.items = all_built c.args.vmods.now.stored _ at.yielded _ all at.invariant.built in
     record { built = record { lines_are = rw c.from_vec.ensures built; end_is = refl } }

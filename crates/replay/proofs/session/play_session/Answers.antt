@@ -1,17 +1,15 @@
-use Rattle.std.proofs.Common.{List, Option, subst}
+use Rattle.std.proofs.Common.{Option, subst}
 use Rattle.cache_law.proofs.Histories.{Legal-beginning_of}
-use Rattle.replay.specs.declared.event.NumberedEvent.{NumberedEvent}
 use Rattle.replay.specs.declared.session.ReplayError.{ReplayError}
 use Rattle.replay.specs.Pieces.{pieces}
 use Rattle.replay.specs.Replayed.{IsWritten}
-use Rattle.replay.specs.Went.{PlaysAll, Stage, stage_of}
+use Rattle.replay.specs.Went.{Stage, stage_of}
 use Rattle.replay.proofs.Ending.{ends_at, nothing_played}
-use Rattle.replay.proofs.Playing.{changed}
 use Rattle.replay.proofs.Resting.{opens_settled}
 use Rattle.replay.proofs.session.play_session.Goals as goal
 
 pub returns-in-Err-clause-replayed : goal.returns-in-Err-clause-replayed
-returns-in-Err-clause-replayed g c = rw c.new.ensures (nothing_played g.P.Policy.wants _ c.args.script.now (g.K.Sink.held c.args.sink.now) (Legal-beginning_of c.args.params.now c.args.boot))
+returns-in-Err-clause-replayed g c = rw c.new.ensures (nothing_played g.P.Policy.wants _ c.args.script (g.K.Sink.held c.args.sink.now) (Legal-beginning_of c.args.params.now c.args.boot))
 
 pub returns-clause-replayed : goal.returns-clause-replayed
 returns-clause-replayed g c =
@@ -24,9 +22,9 @@ returns-clause-replayed g c =
     let before = g.K.Sink.held c.args.sink.now in
     let middle = g.K.Sink.held played.new.sink in
     let now = g.K.Sink.held c.written-refusal.new.sink in
-    ends_at policy.wants policy.stands c.args.params.now c.args.boot (cache.beginning c.in-Ok.core) (cache.beginning played.new.play.core) c.args.script.now start stage c.into_history.result before middle now c.new-4.result.items played.new.play.unwritten.items played.result c.has_nobody-nobody_waits.result c.written-refusal.result
+    ends_at policy.wants policy.stands c.args.params.now c.args.boot (cache.beginning c.in-Ok.core) (cache.beginning played.new.play.core) c.args.script start stage c.into_history.result before middle now c.new-4.result.items played.new.play.unwritten.items played.result c.has_nobody-nobody_waits.result c.written-refusal.result
     c.in-Ok.ensures.begins kept.same c.in-Ok.ensures.history c.into_history.ensures c.new-4.ensures.items kept.legal c.has_nobody-nobody_waits.ensures
-    (subst (λ (es : List NumberedEvent). PlaysAll policy.wants policy.stands (cache.beginning c.in-Ok.core) (changed start stage (pieces before c.new-4.result.items) (pieces middle played.new.play.unwritten.items)) es played.result) c.as_slice.ensures played.ensures.plays)
+    played.ensures.plays
     (subst (λ (ending : Option ReplayError). IsWritten (pieces middle played.new.play.unwritten.items) now ending c.written-refusal.result) c.refusal-ending.ensures c.written-refusal.ensures.written)
 
 pub play_events-played-requires-clause-settled : goal.play_events-played-requires-clause-settled

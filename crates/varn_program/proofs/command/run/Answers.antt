@@ -1,12 +1,13 @@
 use Rattle.std.proofs.Common.{◌⊎◌, sym, subst}
 use Rattle.wire.specs.Causes.{Rose}
 use Rattle.cache_law.specs.declared.setting.Params.{Params}
+use Rattle.varn_program.specs.Functions.{std_functions}
 use Rattle.varn_program.specs.Run.{IsComplete}
 use Rattle.varn_program.proofs.Asking.{one_replay}
 use Rattle.varn_program.proofs.command.run.Goals as goal
 
 pub returns-in-Ok-Some-clause-complete : goal.returns-in-Ok-Some-clause-complete
 returns-in-Ok-Some-clause-complete g c = λ params asks.
-    subst (λ (limits : Params). IsComplete limits (g.S.Source.left c.args.source.now) (g.K.Sink.held c.args.sink.now) (g.K.Sink.held c.replay.new.sink)
-    (Rose (g.S.Source.faults c.args.source.now) (g.S.Source.faults c.replay.new.source) ⊎ Rose (g.K.Sink.faults c.args.sink.now) (g.K.Sink.faults c.replay.new.sink)) c.replay.result)
-    (sym (one_replay c.args.words.now c.in-Ok-Some.params params (rw c.in-Ok-Some.field-0-is at c.in-Ok-Some.ensures.asked) asks)) c.replay.ensures.complete
+    subst (λ (limits : Params). IsComplete std_functions limits (g.S.Source.left c.args.source.now) (g.K.Sink.held c.args.sink.now) (g.K.Sink.held c.replay_with_std.new.sink)
+    (Rose (g.S.Source.faults c.args.source.now) (g.S.Source.faults c.replay_with_std.new.source) ⊎ Rose (g.K.Sink.faults c.args.sink.now) (g.K.Sink.faults c.replay_with_std.new.sink)) c.replay_with_std.result)
+    (sym (one_replay c.args.words.now c.in-Ok-Some.params params (rw c.in-Ok-Some.field-0-is at c.in-Ok-Some.ensures.asked) asks)) c.replay_with_std.ensures.complete
