@@ -1,0 +1,118 @@
+#!/usr/bin/env python3
+"""Keeps examples/vcl, examples/sessions and the rows of the tests that run them one thing.
+
+  tools/examples.py            tells what has come apart, and fails where something has
+  tools/examples.py write      writes the sessions' lines that load a VCL, and the rows, from the files
+  tools/examples.py line FILE  prints the line of a session that loads the VCL of a file
+
+A session NAME.session loads examples/vcl/NAME.vcl by the line that `line` prints. It is a row of varn_program_tests,
+whose wanted answer is NAME.transcript, and the VCL is a row of vcl_store_tests. Transcripts are written by hand.
+"""
+import pathlib
+import re
+import sys
+
+TOP = pathlib.Path(__file__).resolve().parent.parent
+VCL, SESSIONS = TOP / "examples/vcl", TOP / "examples/sessions"
+RUNS, STORE = TOP / "crates/varn_program_tests", TOP / "crates/vcl_store_tests"
+RUN_MARK = "@ example="
+STORE_MARK = "# the files of examples/vcl, each on one line without its comments"
+# The longest transcript that varn_program_tests prints.
+SHORT = 5000
+
+
+def quoted(text):
+    """A text as a session has it in quotes."""
+    named = {'"': '\\"', "\\": "\\\\", "\n": "\\n", "\r": "\\r", "\t": "\\t"}
+    pieces = {byte: chr(byte) if 32 <= byte <= 126 else f"\\x{byte:02x}" for byte in range(256)}
+    pieces.update((ord(byte), piece) for byte, piece in named.items())
+    return '"' + "".join(pieces[byte] for byte in text.encode()) + '"'
+
+
+def loading(path):
+    """The line that loads a VCL under the name of its file."""
+    return f"cli vcl.inline {path.stem} {quoted(path.read_text())}"
+
+
+def with_loading(session, path):
+    """A session with its line for a VCL as the file has it."""
+    line = re.compile(rf"^cli vcl\.inline {re.escape(path.stem)} .*$", re.M)
+    if not line.search(session):
+        sys.exit(f"{path.stem}.session: no line loads {path.stem}.vcl")
+    return line.sub(lambda _: loading(path), session)
+
+
+def run_row(name, session):
+    """A session as the input of varn_program_tests, where `^`, backquotes and a last `$` mean something else."""
+    lines = [line.replace("^", "\\x5e").replace("`", "\\x60") for line in session.splitlines()]
+    if any(line.endswith("$") for line in lines):
+        sys.exit(f"{name}.session: a line ends with a dollar sign")
+    return "\n".join([f"{RUN_MARK}{name} replay", *lines]) + "\n"
+
+
+def run_answer(name, transcript):
+    if len(transcript.encode()) > SHORT:
+        sys.exit(f"{name}.transcript: over {SHORT} bytes")
+    return f"{RUN_MARK}{name} replay => 0 0 0\n{transcript}\n"
+
+
+def store_row(text):
+    """A VCL on one line, and what the test says of it: thirteen items are built in."""
+    lines = [line.strip() for line in text.splitlines() if not line.startswith("#")]
+    row = "7 " + " ".join(line for line in lines if line)
+    items, backends, directors = (
+        len(re.findall(form, text, re.M))
+        for form in ("^(import|backend|acl|probe|sub) ", "^backend ", "^  new ")
+    )
+    return row, f"{row} => items {13 + items}, backends {backends}, directors {directors}"
+
+
+def behind(text, mark, tail=""):
+    """A text up to the line that begins with a mark, and its last line where that is kept."""
+    at = ("\n" + text).find("\n" + mark)
+    return (text if at < 0 else text[:at]).removesuffix(tail)
+
+
+def wanted():
+    """Each file that is made, with what it should have."""
+    made = {}
+    names = sorted(path.stem for path in VCL.glob("*.vcl"))
+    for folder, kind in ((SESSIONS, "session"), (SESSIONS, "transcript")):
+        if sorted(path.stem for path in folder.glob(f"*.{kind}")) != names:
+            sys.exit(f"examples/sessions: not one {kind} for each VCL")
+    runs, answers = "", ""
+    rows, said = [STORE_MARK], [STORE_MARK]
+    for name in names:
+        vcl, path = VCL / f"{name}.vcl", SESSIONS / f"{name}.session"
+        made[path] = with_loading(path.read_text(), vcl)
+        runs += run_row(name, made[path])
+        answers += run_answer(name, (SESSIONS / f"{name}.transcript").read_text())
+        row, answer = store_row(vcl.read_text())
+        rows.append(row)
+        said.append(answer)
+    made[RUNS / "stdin"] = behind((RUNS / "stdin").read_text(), RUN_MARK) + runs
+    made[RUNS / "stdout"] = behind((RUNS / "stdout").read_text(), RUN_MARK) + answers
+    made[STORE / "stdin"] = behind((STORE / "stdin").read_text(), STORE_MARK) + "\n".join(rows) + "\n"
+    old = (STORE / "stdout").read_text()
+    last = old.splitlines(keepends=True)[-1]
+    made[STORE / "stdout"] = behind(old, STORE_MARK, last) + "\n".join(said) + "\n" + last
+    made[TOP / "crates/varn/stdin"] = (TOP / "examples/console.session").read_text()
+    return made
+
+
+def main(words):
+    if words[:1] == ["line"] and len(words) == 2:
+        print(loading(pathlib.Path(words[1])))
+        return
+    if words not in ([], ["write"]):
+        sys.exit(__doc__)
+    apart = {path: text for path, text in wanted().items() if path.read_text() != text}
+    for path, text in apart.items():
+        print(f"{path.relative_to(TOP)} {'is written' if words else 'is not as the examples have it'}")
+        if words:
+            path.write_text(text)
+    if apart and not words:
+        sys.exit(1)
+
+
+main(sys.argv[1:])
