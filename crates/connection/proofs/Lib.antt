@@ -1,3 +1,4 @@
 mod RequestFacts
 mod TurnFacts
 pub mod ReadingFacts
+mod AnswerFacts

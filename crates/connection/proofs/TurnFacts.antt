@@ -9,7 +9,8 @@ use Rattle.wire.specs.Flow.{Flow, IsOver, Moves}
 use Rattle.wire.proofs.Flowing.{Moves-trans}
 use Rattle.connection.specs.Requests.{Request, BeginsRequests}
 use Rattle.connection.specs.Reading.{RequestTold}
-use Rattle.connection.specs.Serving.{bad_request, Round, ending_of, Responds, Follow, AllKept, requests_of, sent_of, Went, Goes, EndsBehind, IsBad, Stops, Served, TurnTold, RefusedWith, Refused}
+use Rattle.http_heads.specs.Refusal.{bad_request}
+use Rattle.connection.specs.Serving.{Round, ending_of, Responds, Follow, AllKept, requests_of, sent_of, Went, Goes, EndsBehind, IsBad, Stops, Served, TurnTold, RefusedWith, Refused}
 use Rattle.connection.specs.declared.ended.Answered.{Answered}
 use Rattle.connection.specs.declared.ended.Ended.{Ended}
 use Rattle.connection.specs.declared.ended.Ended.TheVariants as ends

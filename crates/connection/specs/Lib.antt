@@ -1,3 +1,4 @@
 pub mod Requests
 pub mod Reading
 pub mod Serving
+pub mod Complete

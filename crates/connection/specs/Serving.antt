@@ -1,7 +1,7 @@
 -- What a connection came to: its rounds, and how it ended (RFC 9112, section 9).
-use Rattle.std.specs.Prelude.{◌≡◌, ◌⊎◌, ◌<◌, ℕ, List, [], ◌∷◌, ◌++◌, length, take, codes, map, Option, Some, None}
+use Rattle.std.specs.Prelude.{◌≡◌, ◌⊎◌, ◌<◌, ℕ, List, [], ◌∷◌, ◌++◌, length, take, map, Option, Some, None}
 use Rattle.std.specs.List.{flat_map}
-use Rattle.http_heads.specs.Printed.{line_end}
+use Rattle.http_heads.specs.Refusal.{bad_request}
 use Rattle.message_reader.specs.declared.stop.Stop.{Stop}
 use Rattle.message_reader.specs.declared.stop.Stop.TheVariants as stops
 use Rattle.wire.specs.Flow.{Flow, IsOver, Moves, MovesPart}
@@ -11,11 +11,6 @@ use Rattle.connection.specs.declared.ended.Answered.{Answered}
 use Rattle.connection.specs.declared.ended.Answered.TheVariants as rounds
 use Rattle.connection.specs.declared.ended.Ended.{Ended}
 use Rattle.connection.specs.declared.ended.Ended.TheVariants.{Closed, ReadFault, WriteFault, BadRequest, HistoryFull, NoMemory}
-
--- what is answered where no request can be read (RFC 9110, section 15.5.1)
-abbrev pub bad_request : List ℕ
-bad_request =
-    codes "HTTP/1.1 400 Bad Request" ++ line_end ++ codes "Content-Length: 0" ++ line_end ++ codes "Connection: close" ++ line_end ++ line_end
 
 -- a round: the request, what the link took, and how the round ended
 pub record Round : Type 0 where

@@ -12,11 +12,9 @@ mod refusing;
 mod requests;
 mod responder;
 mod serving;
-#[cfg(test)]
-mod tests;
 
 pub use ended::{Answered, Ended};
-pub use laws::{every_request, one_reading};
+pub use laws::{each_answered, every_request, one_reading};
 pub use requests::read_request;
 pub use responder::Responder;
 pub use serving::serve;

@@ -4,11 +4,9 @@ ghost use Rattle.wire.specs.Causes.{Rose};
 ghost use Rattle.connection.specs.Serving.{Refused, RefusedWith};
 
 use crate::Ended;
+use http_heads::bad_request;
 use message_reader::Stop;
 use wire::{Link, write_link};
-
-const BAD_REQUEST: &[u8] =
-    b"HTTP/1.1 400 Bad Request\r\nContent-Length: 0\r\nConnection: close\r\n\r\n";
 
 fn write_refusal<L: Link>(link: &mut L) -> Ended
     ensures told { RefusedWith (L.flow link.old) (L.flow link.new) result }
@@ -17,7 +15,7 @@ fn write_refusal<L: Link>(link: &mut L) -> Ended
     ensures other { L.read_faults link.new ≡ L.read_faults link.old }
     ensures peer { L.peer link.new ≡ L.peer link.old }
 {
-    match write_link(link, BAD_REQUEST) {
+    match write_link(link, bad_request()) {
         Ok(()) => Ended::BadRequest,
         Err(_) => Ended::WriteFault,
     }

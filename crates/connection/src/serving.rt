@@ -1,5 +1,5 @@
 // A connection from its first request to its end.
-ghost use Rattle.std.specs.Prelude.{◌≡◌, ◌<◌, ◌≤◌, length};
+ghost use Rattle.std.specs.Prelude.{◌≡◌, ◌<◌, ◌≤◌, length, IfNone};
 ghost use Rattle.std.specs.declared.option.Option.TheVariants.{Some};
 ghost use Rattle.wire.specs.Causes.{Rose};
 ghost use Rattle.connection.specs.Serving.{Served, TurnTold};
@@ -20,7 +20,9 @@ fn serve_next<L: Link, R: Responder<L>>(
     room: &mut [u8],
     responder: &mut R,
 ) -> Option<Ended>
-    requires { 0 < length room.old }
+    requires room { 0 < length room.old }
+    requires ready { R.ready responder.old }
+    ensures ready { IfNone result (R.ready responder.new) }
     ensures told { TurnTold R.does (L.flow link.old) (L.flow link.new) held.old held.new responder.old responder.new result }
     ensures reads { result ≡ Some Ended.ReadFault → Rose (L.read_faults link.old) (L.read_faults link.new) }
     ensures writes { result ≡ Some Ended.WriteFault → Rose (L.write_faults link.old) (L.write_faults link.new) }
@@ -44,7 +46,8 @@ pub fn serve<L: Link, R: Responder<L>>(
     room: &mut [u8],
     responder: &mut R,
 ) -> Ended
-    requires { 0 < length room.old }
+    requires room { 0 < length room.old }
+    requires ready { R.ready responder.old }
     ensures told { Served R.does (L.flow link.old) (L.flow link.new) held.old held.new responder.old responder.new result }
     ensures reads { result ≡ Ended.ReadFault → Rose (L.read_faults link.old) (L.read_faults link.new) }
     ensures writes { result ≡ Ended.WriteFault → Rose (L.write_faults link.old) (L.write_faults link.new) }

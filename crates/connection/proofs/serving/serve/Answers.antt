@@ -11,6 +11,7 @@ returns-in-Some-clause-told g c =
 
 pub loop-turn-preserved : goal.loop-turn-preserved
 loop-turn-preserved g c = record {
+  ready = c.in-None.ensures.ready;
   goes = goes_then g.R.Responder.does (g.L.Link.flow c.args.link.now) (g.L.Link.flow c.loop-turn.link) (g.L.Link.flow c.serve_next.new.link) c.args.held.now
       c.loop-turn.held c.serve_next.new.held c.args.responder.now c.loop-turn.responder c.serve_next.new.responder c.loop-turn.invariant.goes c.in-None.ensures.told;
   reads = omega (arith, c.loop-turn.invariant.reads, c.serve_next.ensures.later_reads);

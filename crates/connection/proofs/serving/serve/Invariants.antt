@@ -5,6 +5,7 @@ use Rattle.connection.proofs.serving.serve.Given as goal
 
 abbrev pub invariant-loop-turn : goal.invariant-loop-turn
 invariant-loop-turn g l = record {
+  ready : g.R.Responder.ready l.responder;
   goes : Goes g.R.Responder.does (g.L.Link.flow l.fn.link) (g.L.Link.flow l.link) l.fn.held l.held l.fn.responder l.responder;
   reads : g.L.Link.read_faults l.fn.link ≤ g.L.Link.read_faults l.link;
   writes : g.L.Link.write_faults l.fn.link ≤ g.L.Link.write_faults l.link;

@@ -1,0 +1,5 @@
+//! Rows for the public calls of `connection`.
+#![tactic(auto)]
+
+#[cfg(test)]
+mod tests;

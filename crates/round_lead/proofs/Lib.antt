@@ -1,0 +1,13 @@
+pub mod Open
+pub mod Told
+pub mod Seen
+pub mod Calls
+pub mod Exchanged
+pub mod Sent
+pub mod Did
+pub mod Things
+pub mod Onward
+pub mod Giving
+pub mod Going
+pub mod Responses
+pub mod Stays

@@ -1,0 +1,15 @@
+-- The first word is drawn, and the Begin is made or not.
+use Rattle.round_lead.proofs.Going.{begins, begin_declined}
+use Rattle.round_lead.proofs.leading.begin.Goals as goal
+
+pub returns-in-Ok-clause-began : goal.returns-in-Ok-clause-began
+returns-in-Ok-clause-began g c = λ over.
+    let made = rw c.word.ensures.readings at c.in-Ok.ensures.made in
+    begins g.D.Link.Link.flow over (g.D.Dialer.talks c.args.shift.now.kit.dialer) _ _ _ _ _ _ _ c.args.progress.now c.call_on.new.progress c.word.result c.word.ensures.word c.in-Ok.ensures.words
+    c.in-Ok.told made
+
+pub returns-in-Err-clause-began : goal.returns-in-Err-clause-began
+returns-in-Err-clause-began g c = λ over.
+    let made = rw c.word.ensures.readings at c.in-Err.ensures.declined in
+    rw c.cut_at.ensures (begin_declined g.D.Link.Link.flow over (g.D.Dialer.talks c.args.shift.now.kit.dialer) _ _ _ _ _ _ _ c.args.progress.now c.call_on.new.progress c.word.result
+    c.word.ensures.word c.in-Err.ensures.words c.in-Err.error made)

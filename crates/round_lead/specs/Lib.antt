@@ -1,0 +1,9 @@
+pub mod Tapes
+pub mod Seen
+pub mod Endings
+pub mod Things
+pub mod Talks
+pub mod Responses
+pub mod Steps
+pub mod Onward
+pub mod Leading

@@ -1,0 +1,110 @@
+// A round for each request of a connection.
+ghost use Rattle.std.specs.Prelude.{◌≡◌, ◌<◌, ◌≤◌, ◌++◌, ◌∷◌, [], false, length, Option};
+ghost use Rattle.std.specs.Vec.{vec_capacity};
+ghost use Rattle.wire.specs.Causes.{Rose};
+
+use cache_law::CacheCore;
+use cache_law::rounds::Request;
+use connection::{Answered, Responder};
+use http_heads::RequestHead;
+use round_lead::{Programs, Round, Shift, Site, lead};
+use std::alloc::Global;
+use std::marker::PhantomData;
+use std::sync::Wait;
+use units::Text;
+use vcl_runs::Runner;
+use wire::{Clock, Dialer, Link};
+use world::Gate;
+
+/// A caller that serves a connection from a peer, and what it has kept of its rounds.
+pub(crate) struct Server<'s, R, C: CacheCore, G, D, K, P, M> {
+    pub site: Site<'s, R, C, G>,
+    pub shift: Shift<D, K, P>,
+    pub peer: [u8; 4],
+    pub rounds: Vec<Round>,
+    pub runner: PhantomData<M>,
+}
+
+impl<'s, R, C: CacheCore, G, D: Drop, K: Drop, P: Drop, M> Drop
+    for Server<'s, R, C, G, D, K, P, M> {
+    fn drop(self) {
+        let Server {
+            site: _,
+            shift: _,
+            peer: _,
+            rounds: _,
+            runner: _,
+        } = self;
+    }
+}
+
+impl<'s, R, C: CacheCore, G, D: Drop, K: Drop, P: Drop, M> Server<'s, R, C, G, D, K, P, M> {
+    /// The caller's shift, and what was kept of its rounds.
+    pub(crate) fn into_parts(self) -> (Shift<D, K, P>, Vec<Round>)
+        ensures { result ≡ (self.entry.shift, self.entry.rounds) }
+    {
+        let Server {
+            site: _,
+            shift,
+            peer: _,
+            rounds,
+            runner: _,
+        } = self;
+        (shift, rounds)
+    }
+}
+
+// A round for which there is no memory.
+fn unled(alloc: Global, request: Request, peer: [u8; 4]) -> Round
+    ensures { (result.request ≡ request) × (result.peer ≡ peer) × (result.numbers.items ≡ []) × (result.exchanges.items ≡ []) × (result.sent.items ≡ []) }
+{
+    Round {
+        request,
+        peer,
+        numbers: Vec::new(alloc),
+        exchanges: Vec::new(alloc),
+        sent: Vec::new(alloc),
+    }
+}
+
+impl<
+    's,
+    R: Wait,
+    C: CacheCore,
+    G: Gate,
+    D: Dialer + Drop,
+    K: Clock + Drop,
+    P: Programs<M> + Drop,
+    M: Runner,
+    L: Link,
+> Responder<L> for Server<'s, R, C, G, D, K, P, M>
+where
+    M::Program: Drop,
+{
+    ghost use Rattle.round_lead.specs.Responses.{language_of};
+    ghost use Rattle.server.specs.Serving.{IsReady, IsSound, stand_of};
+    ghost use Rattle.server.specs.Transcripts.{LeadsOne};
+
+    ghost ready = { λ server. IsReady server };
+
+    ghost does = { λ old new turn. (new.site ≡ old.site) × (new.peer ≡ old.peer) × IsSound new
+        × LeadsOne (language_of P.of_text M.turns M.targets M.default_of P.backends) D.Link.flow old.peer
+        (stand_of D.talks K.readings K.words old) (stand_of D.talks K.readings K.words new) turn };
+
+    fn respond(&mut self, alloc: Global, link: &mut L, head: RequestHead, body: Text) -> Answered {
+        let request = Request { head, body };
+        if self.rounds.reserve(2).is_err() {
+            self.rounds.push_reserved(unled(alloc, request, self.peer));
+            return Answered::NoMemory;
+        }
+        let (round, answered) = lead::<R, C, G, D, K, P, M, L>(
+            &self.site,
+            &mut self.shift,
+            link,
+            request,
+            self.peer,
+        );
+        self.rounds.push_reserved(round);
+        answered
+    }
+}
