@@ -1,0 +1,76 @@
+-- Workers who were hired may begin, and have left once they have worked.
+use Rattle.std.proofs.Common.{◌≡◌, ℕ, List, [], ◌∷◌, ◌++◌, Option, Some, sym, ap, ◌∙◌, subst, arith}
+use Rattle.std.specs.Prelude.{All, IsSomeAnd}
+use Rattle.std.proofs.lemmas.List.Elements.{All-nil, All-cons}
+use Rattle.cache_law.specs.declared.call.Entry.{Entry}
+use Rattle.cache_law.specs.Beginning.{Beginning}
+use Rattle.turnstile.specs.declared.handles.Pass.{Pass}
+use Rattle.turnstile.specs.Handles.{known}
+use Rattle.shared_cache.specs.Sharing.{CallerKnows}
+use Rattle.entrance.specs.Arriving.{LinkTold}
+use Rattle.world.specs.declared.kit.Kit.{Kit}
+use Rattle.workers.specs.Working.{IsReady}
+use Rattle.workers.specs.declared.worker.Worker.{Worker}
+use Rattle.crew.specs.Calls.{HasCalled}
+use Rattle.crew.specs.Opening.{CanBegin, IsStart, IsFirst}
+use Rattle.crew.specs.Hiring.{IsHired, AllHired, Hires}
+use Rattle.crew.specs.Leaving.{HaveLeft, HaveWorked}
+use Rattle.crew.proofs.Leaving.{all_left}
+
+module _ {H L T A B D K : Type 0} (IsPass : Pass Entry Beginning → Type 0) (Unused : Kit D K → Type 0) (pass_of : H → Pass Entry Beginning) (kit_of : H → Kit D K)
+    (Ready : H → Type 0) where
+  module _ (setting : Option Beginning) (beginning : Beginning) (set : setting ≡ Some beginning) (can_begin : CanBegin beginning)
+      (ready : (shift : H) → IsPass (pass_of shift) → IsStart (known (pass_of shift)) → Ready shift) where
+    ready_one : (n : ℕ) (w : Worker H L T A B) → IsHired IsPass Unused pass_of kit_of setting n w → IsReady Ready w
+    ready_one n w hired =
+        let start : IsStart (known (pass_of hired.shift)) = record {
+          beginning = beginning;
+          begins = hired.fresh.setting_is ∙ set;
+          can_begin = can_begin;
+          unseen = hired.fresh.unseen;
+        } in
+        let parts = hired.accepted.0 in
+        let others = hired.left.0 in
+        record {
+          shift = subst (λ (o : Option H). IsSomeAnd o Ready) (sym hired.has) (ready hired.shift hired.pass start);
+          accepted = omega arith;
+          left = omega arith;
+        }
+
+    ready_each : (ns : List ℕ) (ws : List (Worker H L T A B)) → AllHired IsPass Unused pass_of kit_of setting ns ws → All (IsReady Ready) ws
+    ready_each [] [] hired = All-nil (IsReady Ready)
+    ready_each [] (w ∷ ws) hired = absurd hired
+    ready_each (n ∷ ns) [] hired = absurd hired
+    ready_each (n ∷ ns) (w ∷ ws) hired = All-cons (IsReady Ready) w ws (ready_one n w hired.0) (ready_each ns ws hired.1)
+
+  -- each may begin
+  pub ready_all : (ready : (shift : H) → IsPass (pass_of shift) → IsStart (known (pass_of shift)) → Ready shift)
+      (k after : CallerKnows) (ws : List (Worker H L T A B)) → IsFirst k → Hires IsPass Unused pass_of kit_of k.setting 0 k after ws → All (IsReady Ready) ws
+  ready_all ready k after ws first hires =
+      ready_each k.setting first.beginning (ap (λ (z : CallerKnows). z.setting) first.knows) first.can_begin ready hires.numbers ws hires.hired
+
+  module _ (places_of : T → List ℕ) (Tells : Beginning → List Entry → ℕ → Kit D K → Kit D K → LinkTold → LinkTold → T → Type 0) (told : L → LinkTold)
+      (Serves : H → H → LinkTold → LinkTold → T → Type 0) (passes : (shift : H) → Ready shift → IsPass (pass_of shift))
+      (calls : (old new : H) (opening closing : LinkTold) (transcript : T) → Serves old new opening closing transcript
+      → HasCalled (known (pass_of old)) (known (pass_of new)) (places_of transcript))
+      (tells : (old new : H) (opening closing : LinkTold) (transcript : T) (beginning : Beginning) → Serves old new opening closing transcript
+      → (known (pass_of new)).setting ≡ Some beginning
+      → Tells beginning (known (pass_of new)).seen (known (pass_of old)).number (kit_of old) (kit_of new) opening closing transcript)
+      (longer : (beginning : Beginning) (history more : List Entry) (number : ℕ) (before after : Kit D K) (opening closing : LinkTold) (transcript : T)
+      → Tells beginning history number before after opening closing transcript
+      → Tells beginning (history ++ more) number before after opening closing transcript) where
+    -- all have left
+    pub have_left : (k : CallerKnows) (ws : List (Worker H L T A B)) → HaveWorked IsPass Unused pass_of kit_of Ready Serves told k ws
+        → HaveLeft IsPass Unused pass_of kit_of places_of Tells told k ws
+    have_left k ws all =
+        let b = all.first.beginning in
+        let set : all.before.setting ≡ Some b = ap (λ (z : CallerKnows). z.setting) all.first.knows in
+        let hired = subst (λ (s : Option Beginning). AllHired IsPass Unused pass_of kit_of s all.hires.numbers all.olds) set all.hires.hired in
+        record {
+          beginning = b;
+          numbers = all.hires.numbers;
+          left = all_left IsPass Unused pass_of kit_of b places_of (Tells b) told Ready Serves passes calls
+              (λ old new opening closing transcript serves begun. tells old new opening closing transcript b serves begun) (longer b) all.hires.numbers all.olds ws hired all.worked;
+          knows = all.hires.knows ∙ ap (λ (z : CallerKnows). record z { upto = k.upto; made = z.made ++ all.hires.numbers }) all.first.knows;
+          once = all.hires.once;
+        }

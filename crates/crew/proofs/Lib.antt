@@ -1,0 +1,10 @@
+pub mod Counting
+pub mod Callers
+pub mod Hires
+pub mod Called
+pub mod Joining
+pub mod Leaving
+pub mod Runs
+pub mod Hired
+pub mod Left
+pub mod Ends

@@ -1,0 +1,28 @@
+-- The passes that were joined so far, and that the others may be.
+use Rattle.std.proofs.Common.{◌≡◌, ◌++◌, [], map}
+use Rattle.std.specs.Prelude.{All}
+use Rattle.wire.specs.Talks.{Adds}
+use Rattle.turnstile.specs.Handles.{known}
+use Rattle.turnstile.specs.Knowledge.{mine}
+use Rattle.shared_cache.specs.Passes.{IsPassOf}
+use Rattle.shared_cache.specs.Sharing.{caller_of}
+use Rattle.crew.specs.Hiring.{AllFronts, ended_of}
+use Rattle.crew.proofs.rejoining.rejoin.Given as goal
+
+abbrev pub invariant-loop-shift : goal.invariant-loop-shift
+invariant-loop-shift g l = record {
+  pass : IsPassOf l.cache l.root;
+  passes : All (λ shift. IsPassOf l.cache (g.H.Host.pass_of shift)) l.shift-iterator.rest.items;
+  leaves : All (λ shift. ((known (g.H.Host.pass_of shift)).made ≡ []) × ((known (g.H.Host.pass_of shift)).ended ≡ [])) l.shift-iterator.rest.items;
+  fronts : AllFronts (known l.root).seen (map (λ shift. known (g.H.Host.pass_of shift)) l.yielded);
+  knows : known l.root ≡ record (known l.fn.root) { seen = (known l.root).seen; ended = (known l.fn.root).ended ++ map (λ shift. ended_of (known (g.H.Host.pass_of shift))) l.yielded };
+  mine : mine caller_of (known l.root) ≡ mine caller_of (known l.fn.root);
+  kits : Adds (g.W.World.kits l.fn.world) (g.W.World.kits l.world) (map g.H.Host.kit_of l.yielded);
+  links : g.W.World.links l.world ≡ g.W.World.links l.fn.world;
+  kept : g.W.World.kept l.world ≡ g.W.World.kept l.fn.world;
+  ports : g.W.World.ports l.world ≡ g.W.World.ports l.fn.world;
+  files : g.W.World.files l.world ≡ g.W.World.files l.fn.world;
+  listens : g.W.World.listen_faults l.world ≡ g.W.World.listen_faults l.fn.world;
+  shelves : g.W.World.shelf_faults l.world ≡ g.W.World.shelf_faults l.fn.world;
+  ended : g.W.World.ended l.world ≡ g.W.World.ended l.fn.world;
+}

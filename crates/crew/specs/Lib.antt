@@ -1,0 +1,7 @@
+pub mod Places
+pub mod Calls
+pub mod Parts
+pub mod Opening
+pub mod Hiring
+pub mod Leaving
+pub mod Running

@@ -1,0 +1,45 @@
+// Passes that are joined again, and kits that are handed back.
+ghost use Rattle.std.specs.Prelude.{◌≡◌, ◌++◌, ◌∷◌, [], All, map};
+ghost use Rattle.wire.specs.Talks.{Adds};
+ghost use Rattle.turnstile.specs.Handles.{known};
+ghost use Rattle.turnstile.specs.Knowledge.{mine};
+ghost use Rattle.shared_cache.specs.Passes.{IsPassOf};
+ghost use Rattle.shared_cache.specs.Sharing.{caller_of};
+ghost use Rattle.crew.specs.Hiring.{AllFronts, ended_of};
+
+use crate::hiring::LinkOf;
+use crate::host::Host;
+use cache_law::CacheCore;
+use shared_cache::{CachePass, SharedCache};
+use world::World;
+
+/// Joins the passes of shifts into the first one, in their order, and hands their kits back to the world.
+pub(crate) fn rejoin<W: World, C: CacheCore, H: Host<C, W::Dialer, W::Clock, LinkOf<W>>>(
+    world: &mut W,
+    host: &H,
+    cache: &SharedCache<C>,
+    root: &mut CachePass,
+    shifts: Vec<H::Shift>,
+)
+    requires pass { IsPassOf cache.now root.old }
+    requires passes { All (λ shift. IsPassOf cache.now (H.pass_of shift)) shifts.items }
+    requires leaves { All (λ shift. ((known (H.pass_of shift)).made ≡ []) × ((known (H.pass_of shift)).ended ≡ [])) shifts.items }
+    ensures pass { IsPassOf cache.now root.new }
+    ensures fronts { AllFronts (known root.new).seen (map (λ shift. known (H.pass_of shift)) shifts.items) }
+    ensures known { known root.new ≡ record (known root.old) { seen = (known root.new).seen; ended = (known root.old).ended ++ map (λ shift. ended_of (known (H.pass_of shift))) shifts.items } }
+    ensures mine { mine caller_of (known root.new) ≡ mine caller_of (known root.old) }
+    ensures kits { Adds (W.kits world.old) (W.kits world.new) (map H.kit_of shifts.items) }
+    ensures links { W.links world.new ≡ W.links world.old }
+    ensures kept { W.kept world.new ≡ W.kept world.old }
+    ensures ports { W.ports world.new ≡ W.ports world.old }
+    ensures files { W.files world.new ≡ W.files world.old }
+    ensures listens { W.listen_faults world.new ≡ W.listen_faults world.old }
+    ensures shelves { W.shelf_faults world.new ≡ W.shelf_faults world.old }
+    ensures ended { W.ended world.new ≡ W.ended world.old }
+{
+    for shift in shifts {
+        let (pass, kit) = host.end_shift(shift);
+        cache.join(root, pass);
+        world.keep_kit(kit);
+    }
+}

@@ -1,0 +1,357 @@
+// Workers over a cache, from their hiring to their taking down.
+ghost use Rattle.std.specs.Prelude.{◌≡◌, ◌+◌, ◌≤◌, List, [], Some, IfSome, IfNone, length, vec_len, vec_capacity};
+ghost use Rattle.cache_law.specs.declared.call.Entry.{Entry as HistoryEntry};
+ghost use Rattle.cache_law.specs.Beginning.{Beginning};
+ghost use Rattle.cache_law.specs.History.{Legal};
+ghost use Rattle.turnstile.specs.Handles.{known};
+ghost use Rattle.turnstile.specs.Knowledge.{Meets, opened};
+ghost use Rattle.shared_cache.specs.Passes.{IsPassOf};
+ghost use Rattle.shared_cache.specs.Sharing.{caller_of};
+ghost use Rattle.entrance.specs.Arriving.{told_by};
+ghost use Rattle.crew.specs.Opening.{CanBegin, IsFirst};
+ghost use Rattle.crew.specs.Hiring.{IsUnused};
+ghost use Rattle.crew.specs.Leaving.{HaveWorked};
+ghost use Rattle.crew.specs.Running.{Ran, Stopped};
+
+use crate::hiring::{LinkOf, hire};
+use crate::host::Host;
+use crate::rejoining::rejoin;
+use crate::room::Room;
+use crate::working::work_all;
+use cache_law::{CacheCore, Entry};
+use entrance::{Door, Quota, Reason, Remains};
+use shared_cache::{CachePass, SharedCache};
+use std::alloc::Global;
+use std::marker::Brand;
+use std::sync::Wait;
+use std::sync::ledger::{Blank, Ledger, Share};
+use std::thread::Threads;
+use units::Sequence;
+use workers::{Joined, Worker, disband};
+use world::World;
+
+/// What a run of workers comes to: the history of the cache, what is told of the connections that were served, and why no more were
+/// accepted.
+#[derive(Drop)]
+pub struct Outcome<T> {
+    pub history: Sequence<Entry>,
+    pub transcripts: Vec<T>,
+    pub reason: Reason,
+}
+
+// Workers are hired, and work until each has left.
+fn employ<
+    R: Threads + Wait + Sync,
+    C: CacheCore + Send,
+    W: World,
+    H: Host<C, W::Dialer, W::Clock, LinkOf<W>> + Sync,
+    A: Quota + Send,
+    B: Ledger + Send,
+>(
+    rt: &R,
+    alloc: Global,
+    world: &mut W,
+    host: &H,
+    cache: &SharedCache<C>,
+    root: &mut CachePass,
+    door: &Door<W::Listener, A, B>,
+    count: u32,
+    accepted: &mut Share<A>,
+    left: &mut Share<B>,
+    workers: &mut Vec<Worker<H::Shift, LinkOf<W>, H::Transcript, A, B>>,
+)
+where
+    W::Listener: Send,
+    requires pass { IsPassOf cache.now root.old }
+    requires first { IsFirst (known root.old) }
+    requires parts { (count ≤ accepted.old.parts) × (count ≤ left.old.parts) }
+    requires nothing { (accepted.old.amount ≡ 0) × (left.old.amount ≡ 0) }
+    requires none { (workers.old.items ≡ []) × (vec_len workers.old ≡ 0) }
+    requires room { count ≤ vec_capacity workers.old }
+    ensures pass { IsPassOf cache.now root.new }
+    ensures have_worked { HaveWorked (IsPassOf cache.now) (IsUnused W.Dialer.talks W.Dialer.dial_faults W.Dialer.read_faults W.Dialer.write_faults W.Clock.readings W.Clock.words)
+        H.pass_of H.kit_of (H.Ready host.now cache.now) (H.Serves host.now cache.now) (told_by W.Listener.Link.flow W.Listener.Link.read_faults W.Listener.Link.write_faults W.Listener.Link.peer) (known root.new) workers.new.items }
+    ensures setting { (known root.new).setting ≡ (known root.old).setting }
+    ensures parts { accepted.new.parts + vec_len workers.new ≡ accepted.old.parts }
+    ensures nothing { accepted.new.amount ≡ 0 }
+    ensures few { vec_len workers.new ≤ count }
+    ensures count { length workers.new.items ≡ vec_len workers.new }
+    ensures links { W.links world.new ≡ W.links world.old }
+    ensures kept { W.kept world.new ≡ W.kept world.old }
+    ensures ports { W.ports world.new ≡ W.ports world.old }
+    ensures kits { W.kits world.new ≡ W.kits world.old }
+    ensures files { W.files world.new ≡ W.files world.old }
+    ensures listens { W.listen_faults world.new ≡ W.listen_faults world.old }
+    ensures shelves { W.shelf_faults world.new ≡ W.shelf_faults world.old }
+    ensures ended { W.ended world.new ≡ W.ended world.old }
+{
+    hire(
+        alloc, world, host, cache, root, count, accepted, left, workers,
+    );
+    work_all::<R, C, W, H, A, B>(rt, host, cache, door, workers);
+}
+
+// Workers who have left are taken down, and their passes are joined again. What they leave goes into empty lists.
+fn take_down<
+    C: CacheCore,
+    W: World,
+    H: Host<C, W::Dialer, W::Clock, LinkOf<W>>,
+    A: Quota,
+    B: Ledger,
+>(
+    world: &mut W,
+    host: &H,
+    cache: &SharedCache<C>,
+    root: &mut CachePass,
+    door: Door<W::Listener, A, B>,
+    workers: Vec<Worker<H::Shift, LinkOf<W>, H::Transcript, A, B>>,
+    joined: Joined<H::Shift, H::Transcript, A, B>,
+) -> (Vec<H::Transcript>, Reason)
+    requires pass { IsPassOf cache.now root.old }
+    requires have_worked { HaveWorked (IsPassOf cache.now) (IsUnused W.Dialer.talks W.Dialer.dial_faults W.Dialer.read_faults W.Dialer.write_faults W.Clock.readings W.Clock.words)
+        H.pass_of H.kit_of (H.Ready host.now cache.now) (H.Serves host.now cache.now) (told_by W.Listener.Link.flow W.Listener.Link.read_faults W.Listener.Link.write_faults W.Listener.Link.peer) (known root.old) workers.items }
+    requires none { (joined.shifts.items ≡ []) × (joined.transcripts.items ≡ []) }
+    requires empty { (vec_len joined.shifts ≡ 0) × (vec_len joined.transcripts ≡ 0) × (joined.accepted.amount ≡ 0) }
+    requires parts { joined.accepted.parts + vec_len workers ≡ A.parts }
+    requires count { length workers.items ≡ vec_len workers }
+    requires room { (A.most ≤ vec_capacity joined.transcripts) × (vec_len workers ≤ vec_capacity joined.shifts) }
+    ensures pass { IsPassOf cache.now root.new }
+    ensures setting { (known root.new).setting ≡ (known root.old).setting }
+    ensures ran { (beginning : Beginning) (history : List HistoryEntry) → (known root.new).setting ≡ Some beginning → Meets caller_of (known root.new) history → Legal beginning history
+        → Ran (IsUnused W.Dialer.talks W.Dialer.dial_faults W.Dialer.read_faults W.Dialer.write_faults W.Clock.readings W.Clock.words)
+        H.places (H.Tells host.now) (told_by W.Listener.Link.flow W.Listener.Link.read_faults W.Listener.Link.write_faults W.Listener.Link.peer) beginning
+        history (record { links = W.links world.old; kept = W.kept world.old; kits = W.kits world.old })
+        (record { links = W.links world.new; kept = W.kept world.new; kits = W.kits world.new }) result.0.items }
+    ensures within { vec_len result.0 ≤ A.most }
+    ensures stopped { Stopped result.1 A.most (vec_len result.0) (W.ended world.new) (W.listen_faults world.old) (W.listen_faults world.new) }
+    ensures ports { W.ports world.new ≡ W.ports world.old }
+    ensures files { W.files world.new ≡ W.files world.old }
+    ensures shelves { W.shelf_faults world.new ≡ W.shelf_faults world.old }
+{
+    let Remains {
+        listener,
+        accepted,
+        left: _,
+        reason,
+    } = door.close();
+    let mut joined = joined;
+    disband(world, &accepted, workers, &mut joined);
+    accepted.audit(&mut joined.accepted);
+    let Joined {
+        shifts,
+        transcripts,
+        accepted: _,
+        left: _,
+    } = joined;
+    rejoin(world, host, cache, root, shifts);
+    world.retire(listener);
+    (transcripts, reason.unwrap_or(Reason::NoMemory))
+}
+
+// A new cache with its first pass, and room for what a run of workers leaves.
+fn open_all<C: CacheCore + Drop, S: Drop, L: Drop, T: Drop, A: Quota, B: Ledger>(
+    alloc: Global,
+    core: C,
+    workers: usize,
+    connections: usize,
+) -> Option<(SharedCache<C>, CachePass, Room<S, L, T, A, B>)>
+    requires empty { C.history core ≡ [] }
+    requires legal { Legal (C.beginning core) [] }
+    ensures pass { IfSome result (λ all. IsPassOf all.0 all.1) }
+    ensures first { IfSome result (λ all. known all.1 ≡ opened 0 (C.beginning core)) }
+    ensures none { IfSome result (λ all. (all.2.workers.items ≡ []) × (all.2.shifts.items ≡ []) × (all.2.transcripts.items ≡ [])) }
+    ensures lengths { IfSome result (λ all. (vec_len all.2.workers ≡ 0) × (vec_len all.2.shifts ≡ 0) × (vec_len all.2.transcripts ≡ 0)) }
+    ensures room { IfSome result (λ all. (workers ≤ vec_capacity all.2.workers) × (workers ≤ vec_capacity all.2.shifts) × (connections ≤ vec_capacity all.2.transcripts)) }
+{
+    let Ok(room) = Room::new(alloc, workers, connections) else {
+        return None;
+    };
+    let Ok((cache, root)) = SharedCache::open(alloc, core, 0) else {
+        drop(room);
+        return None;
+    };
+    Some((cache, root, room))
+}
+
+// A run of workers over a cache that was just opened.
+fn run_all<
+    R: Threads + Wait + Sync,
+    C: CacheCore + Send + Drop,
+    W: World,
+    H: Host<C, W::Dialer, W::Clock, LinkOf<W>> + Sync,
+    A: Quota + Send,
+    B: Ledger + Send,
+>(
+    rt: &R,
+    alloc: Global,
+    world: &mut W,
+    host: &H,
+    cache: SharedCache<C>,
+    root: CachePass,
+    door: Door<W::Listener, A, B>,
+    count: u32,
+    accepted: Share<A>,
+    left: Share<B>,
+    room: Room<H::Shift, LinkOf<W>, H::Transcript, A, B>,
+) -> Outcome<H::Transcript>
+where
+    W::Listener: Send,
+    requires pass { IsPassOf cache root }
+    requires first { IsFirst (known root) }
+    requires parts { (accepted.parts ≡ A.parts) × (accepted.parts ≡ count) × (left.parts ≡ count) }
+    requires nothing { (accepted.amount ≡ 0) × (left.amount ≡ 0) }
+    requires none { (room.workers.items ≡ []) × (room.shifts.items ≡ []) × (room.transcripts.items ≡ []) }
+    requires lengths { (vec_len room.workers ≡ 0) × (vec_len room.shifts ≡ 0) × (vec_len room.transcripts ≡ 0) }
+    requires room { (count ≤ vec_capacity room.workers) × (count ≤ vec_capacity room.shifts) × (A.most ≤ vec_capacity room.transcripts) }
+    ensures ran { (beginning : Beginning) → (known root).setting ≡ Some beginning → Ran (IsUnused W.Dialer.talks W.Dialer.dial_faults W.Dialer.read_faults W.Dialer.write_faults W.Clock.readings W.Clock.words)
+        H.places (H.Tells host.now) (told_by W.Listener.Link.flow W.Listener.Link.read_faults W.Listener.Link.write_faults W.Listener.Link.peer) beginning
+        result.history (record { links = W.links world.old; kept = W.kept world.old; kits = W.kits world.old })
+        (record { links = W.links world.new; kept = W.kept world.new; kits = W.kits world.new }) result.transcripts.items }
+    ensures within { vec_len result.transcripts ≤ A.most }
+    ensures stopped { Stopped result.reason A.most (vec_len result.transcripts) (W.ended world.new) (W.listen_faults world.old) (W.listen_faults world.new) }
+    ensures ports { W.ports world.new ≡ W.ports world.old }
+    ensures files { W.files world.new ≡ W.files world.old }
+    ensures shelves { W.shelf_faults world.new ≡ W.shelf_faults world.old }
+{
+    let Room {
+        mut workers,
+        shifts,
+        transcripts,
+    } = room;
+    let (mut root, mut accepted, mut left) = (root, accepted, left);
+    employ(
+        rt,
+        alloc,
+        world,
+        host,
+        &cache,
+        &mut root,
+        &door,
+        count,
+        &mut accepted,
+        &mut left,
+        &mut workers,
+    );
+    let joined = Joined {
+        shifts,
+        transcripts,
+        accepted,
+        left,
+    };
+    let (transcripts, reason) = take_down(world, host, &cache, &mut root, door, workers, joined);
+    let (history, _) = cache.close(rt, root);
+    Outcome {
+        history,
+        transcripts,
+        reason,
+    }
+}
+
+// Nobody is accepted: the world has its listener back.
+fn turn_away<W: World, A: Quota, B: Ledger>(world: &mut W, door: Door<W::Listener, A, B>)
+    ensures links { W.links world.new ≡ W.links world.old }
+    ensures kept { W.kept world.new ≡ W.kept world.old }
+    ensures kits { W.kits world.new ≡ W.kits world.old }
+    ensures ports { W.ports world.new ≡ W.ports world.old }
+    ensures files { W.files world.new ≡ W.files world.old }
+    ensures shelves { W.shelf_faults world.new ≡ W.shelf_faults world.old }
+{
+    world.retire(door.close().listener);
+}
+
+// The same for two ledgers of its own.
+fn serve_counted<
+    R: Threads + Wait + Sync,
+    C: CacheCore + Send + Drop,
+    W: World,
+    H: Host<C, W::Dialer, W::Clock, LinkOf<W>> + Sync,
+    A: Quota + Send,
+    B: Ledger + Send,
+>(
+    rt: &R,
+    alloc: Global,
+    core: C,
+    host: &H,
+    world: &mut W,
+    listener: W::Listener,
+    workers: u32,
+    most: u64,
+    accepted: Blank,
+    left: Blank,
+) -> Option<Outcome<H::Transcript>>
+where
+    W::Listener: Send,
+    requires empty { C.history core ≡ [] }
+    requires can_begin { CanBegin (C.beginning core) }
+    requires most { most ≡ A.most }
+    requires accepted { (accepted.name ≡ A.name) × (accepted.parts ≡ A.parts) × (accepted.parts ≡ workers) }
+    requires left { (left.name ≡ B.name) × (left.parts ≡ B.parts) × (left.parts ≡ workers) }
+    ensures ran { IfSome result (λ o. Ran (IsUnused W.Dialer.talks W.Dialer.dial_faults W.Dialer.read_faults W.Dialer.write_faults W.Clock.readings W.Clock.words)
+        H.places (H.Tells host.now) (told_by W.Listener.Link.flow W.Listener.Link.read_faults W.Listener.Link.write_faults W.Listener.Link.peer) (C.beginning core)
+        o.history (record { links = W.links world.old; kept = W.kept world.old; kits = W.kits world.old })
+        (record { links = W.links world.new; kept = W.kept world.new; kits = W.kits world.new }) o.transcripts.items) }
+    ensures within { IfSome result (λ o. vec_len o.transcripts ≤ most) }
+    ensures stopped { IfSome result (λ o. Stopped o.reason most (vec_len o.transcripts) (W.ended world.new) (W.listen_faults world.old) (W.listen_faults world.new)) }
+    ensures nobody { IfNone result ((W.links world.new ≡ W.links world.old) × (W.kept world.new ≡ W.kept world.old) × (W.kits world.new ≡ W.kits world.old)) }
+    ensures ports { W.ports world.new ≡ W.ports world.old }
+    ensures files { W.files world.new ≡ W.files world.old }
+    ensures shelves { W.shelf_faults world.new ≡ W.shelf_faults world.old }
+{
+    let (door, accepted, left) = Door::<W::Listener, A, B>::open(listener, most, accepted, left);
+    let Some(all) = open_all(alloc, core, workers as usize, most as usize) else {
+        drop((accepted, left));
+        turn_away(world, door);
+        return None;
+    };
+    let (cache, root, room) = all;
+    Some(run_all(
+        rt, alloc, world, host, cache, root, door, workers, accepted, left, room,
+    ))
+}
+
+/// Serves connections at the listener over a new cache, by so many workers side by side, and takes all down again. At most so many
+/// connections are accepted. Without memory to begin with there is no outcome; the world has the listener back in each case. The call may
+/// wait for good.
+pub fn serve_all<
+    R: Threads + Wait + Sync,
+    C: CacheCore + Send + Drop,
+    W: World,
+    H: Host<C, W::Dialer, W::Clock, LinkOf<W>> + Sync,
+>(
+    rt: &R,
+    alloc: Global,
+    core: C,
+    host: &H,
+    world: &mut W,
+    listener: W::Listener,
+    workers: u32,
+    most: u64,
+) -> Option<Outcome<H::Transcript>>
+where
+    W::Listener: Send,
+    requires empty { C.history core ≡ [] }
+    requires can_begin { CanBegin (C.beginning core) }
+    ensures ran { IfSome result (λ o. Ran (IsUnused W.Dialer.talks W.Dialer.dial_faults W.Dialer.read_faults W.Dialer.write_faults W.Clock.readings W.Clock.words)
+        H.places (H.Tells host.now) (told_by W.Listener.Link.flow W.Listener.Link.read_faults W.Listener.Link.write_faults W.Listener.Link.peer) (C.beginning core)
+        o.history (record { links = W.links world.old; kept = W.kept world.old; kits = W.kits world.old })
+        (record { links = W.links world.new; kept = W.kept world.new; kits = W.kits world.new }) o.transcripts.items) }
+    ensures within { IfSome result (λ o. vec_len o.transcripts ≤ most) }
+    ensures stopped { IfSome result (λ o. Stopped o.reason most (vec_len o.transcripts) (W.ended world.new) (W.listen_faults world.old) (W.listen_faults world.new)) }
+    ensures nobody { IfNone result ((W.links world.new ≡ W.links world.old) × (W.kept world.new ≡ W.kept world.old) × (W.kits world.new ≡ W.kits world.old)) }
+    ensures ports { W.ports world.new ≡ W.ports world.old }
+    ensures files { W.files world.new ≡ W.files world.old }
+    ensures shelves { W.shelf_faults world.new ≡ W.shelf_faults world.old }
+{
+    serve_counted::<R, C, W, H, Brand, Brand>(
+        rt,
+        alloc,
+        core,
+        host,
+        world,
+        listener,
+        workers,
+        most,
+        Blank::new(u64::from(workers)),
+        Blank::new(u64::from(workers)),
+    )
+}
