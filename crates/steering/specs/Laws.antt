@@ -1,0 +1,120 @@
+-- What a host over rounds that VCL steers keeps to.
+use Rattle.std.proofs.Common.{◌≡◌, ℕ, false, List, [], ◌∷◌, ◌++◌, Option, Some, sym, ap, ◌∙◌, subst}
+use Rattle.std.specs.Option.{option_map_or}
+use Rattle.wire.specs.Flow.{Flow}
+use Rattle.wire.specs.Tapes.{Tape}
+use Rattle.wire.specs.declared.peer.Talk.{Talk}
+use Rattle.cache_law.specs.declared.call.Entry.{Entry}
+use Rattle.cache_law.specs.Beginning.{Beginning}
+use Rattle.cache_law.specs.declared.state.OpenRound.{OpenRound}
+use Rattle.cache_law.specs.History.{Legal, reached}
+use Rattle.cache_law.specs.State.{has_round}
+use Rattle.turnstile.specs.Handles.{known}
+use Rattle.shared_cache.specs.declared.sharing.SharedCache.{SharedCache}
+use Rattle.shared_cache.specs.Passes.{IsPassOf}
+use Rattle.shared_cache.specs.Sharing.{CallerKnows, SeesLegal}
+use Rattle.entrance.specs.Arriving.{LinkTold}
+use Rattle.world.specs.declared.kit.Kit.{Kit}
+use Rattle.connection.specs.Serving.{Round as Turn}
+use Rattle.round_lead.specs.declared.keeping.Round.{Round}
+use Rattle.round_lead.specs.declared.site.Shift.{Shift}
+use Rattle.round_lead.specs.Responses.{Language}
+use Rattle.round_lead.specs.Seen.{has_open, HasCalled as Called}
+use Rattle.round_lead.specs.Tapes.{ToldIn, WasDrawn}
+use Rattle.round_lead.proofs.Stays.{response_more}
+use Rattle.server.specs.declared.transcript.Transcript.{Transcript}
+use Rattle.server.specs.Transcripts.{AreResponses, all_numbers}
+use Rattle.steering.specs.Serving.{IsReady, Serves}
+use Rattle.steering.specs.Telling.{Tells}
+use Rattle.crew.specs.Calls.{HasCalled}
+use Rattle.crew.specs.Opening.{IsStart}
+
+-- ---- beginning
+
+shut_at : (k : CallerKnows) (beginning : Beginning) → k.setting ≡ Some beginning → k.seen ≡ [] → beginning.base.rounds ≡ [] → has_open k ≡ false
+shut_at k beginning begins unseen idle =
+    ap (λ (setting : Option Beginning). option_map_or (λ (b : Beginning). has_round (reached b k.seen).rounds k.number) setting false) begins
+    ∙ ap (λ (seen : List Entry). has_round (reached beginning seen).rounds k.number) unseen
+    ∙ ap (λ (rounds : List OpenRound). has_round rounds k.number) idle
+
+legal_at : (k : CallerKnows) → IsStart k → SeesLegal k
+legal_at k start = record {
+  beginning = start.beginning;
+  begins = start.begins;
+  legal = subst (λ (seen : List Entry). Legal start.beginning seen) (sym start.unseen) start.can_begin.legal;
+}
+
+pub starts : {C D K Q : Type 0} (cache : SharedCache C) (shift : Shift D K Q) → IsPassOf cache shift.pass → IsStart (known shift.pass) → IsReady cache shift
+starts cache shift pass start = record {
+  pass = pass;
+  idle = shut_at (known shift.pass) start.beginning start.begins start.unseen start.can_begin.idle;
+  legal = legal_at (known shift.pass) start;
+}
+
+-- ---- serving
+
+module _ {P D K Q L : Type 0} (language : Language P) (flow : L → Option Flow) (talks : D → Option (List (Talk L))) (readings words : K → Option Tape)
+    (old new : Shift D K Q) (opening closing : LinkTold) (transcript : Transcript) (serves : Serves language flow talks readings words old new opening closing transcript) where
+  pub calls_of : HasCalled (known old.pass) (known new.pass) (all_numbers transcript.rounds.items)
+  calls_of =
+      let all = serves.served.led in
+      let called = subst (λ (rounds : List Round). Called (known old.pass) (known new.pass) (all_numbers rounds)) (sym all.kept) all.called in
+      record { between = called.between; knows = called.knows; gained = called.gained }
+
+  pub tells_of : (beginning : Beginning) → (known new.pass).setting ≡ Some beginning
+      → Tells language flow talks readings words beginning (known new.pass).seen (known old.pass).number old.kit new.kit opening closing transcript
+  tells_of beginning begins =
+      let served = serves.served in
+      let all = served.led in
+      record {
+        address = serves.address;
+        from = serves.from;
+        stays = serves.stays;
+        turns = served.turns;
+        gained = all.talks;
+        added = all.added;
+        responses = subst (λ (rounds : List Round). AreResponses language (WasDrawn (words old.kit.clock) (words new.kit.clock)) (ToldIn (readings old.kit.clock) (readings new.kit.clock)) flow
+            beginning (known new.pass).seen (known old.pass).number serves.address rounds served.turns all.talks) (sym all.kept) (all.each beginning begins);
+        reads = all.read;
+        draws = all.drew;
+        heard = record { read = served.read; rest = served.rest; extra = served.extra; moves = served.moves; requests = served.requests; left = served.left; ends = served.ends };
+        faults = serves.faults;
+      }
+
+-- ---- a longer history
+
+module _ {P L : Type 0} (language : Language P) (flow : L → Option Flow) (words : Option ℕ → Type 0) (readings : ℕ → Type 0) (beginning : Beginning) (history more : List Entry)
+    (caller : ℕ) (peer : List ℕ) where
+  responses_more : (rounds : List Round) (turns : List Turn) (talks : List (Talk L)) → AreResponses language words readings flow beginning history caller peer rounds turns talks
+      → AreResponses language words readings flow beginning (history ++ more) caller peer rounds turns talks
+  responses_more [] [] talks are = are
+  responses_more [] (turn ∷ turns) talks are = absurd are
+  responses_more (round ∷ rounds) [] talks are = absurd are
+  responses_more (round ∷ rounds) (turn ∷ turns) talks are = (
+    are.0,
+    are.1,
+    are.2,
+    are.3,
+    response_more language flow words words readings readings (λ word drawn. drawn) (λ reading read. read) beginning history more caller round are.0 turn.answered are.4,
+    responses_more rounds turns are.1 are.5,
+  )
+
+pub longer_of : {P D K L : Type 0} (language : Language P) (flow : L → Option Flow) (talks : D → Option (List (Talk L))) (readings words : K → Option Tape)
+    (beginning : Beginning) (history more : List Entry) (number : ℕ) (before after : Kit D K) (opening closing : LinkTold) (transcript : Transcript)
+    → Tells language flow talks readings words beginning history number before after opening closing transcript
+    → Tells language flow talks readings words beginning (history ++ more) number before after opening closing transcript
+longer_of language flow talks readings words beginning history more number before after opening closing transcript tells =
+    record {
+      address = tells.address;
+      from = tells.from;
+      stays = tells.stays;
+      turns = tells.turns;
+      gained = tells.gained;
+      added = tells.added;
+      responses = responses_more language flow (WasDrawn (words before.clock) (words after.clock)) (ToldIn (readings before.clock) (readings after.clock)) beginning history more number
+          tells.address transcript.rounds.items tells.turns tells.gained tells.responses;
+      reads = tells.reads;
+      draws = tells.draws;
+      heard = tells.heard;
+      faults = tells.faults;
+    }

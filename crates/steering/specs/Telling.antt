@@ -1,0 +1,47 @@
+-- What is told of a connection over a history.
+use Rattle.std.specs.Prelude.{◌≡◌, ◌⊎◌, ℕ, List, ◌++◌, Option}
+use Rattle.wire.specs.Flow.{Flow, Moves}
+use Rattle.wire.specs.Tapes.{Tape}
+use Rattle.wire.specs.Talks.{Adds}
+use Rattle.wire.specs.declared.peer.Peer.TheVariants.{Accepted}
+use Rattle.wire.specs.declared.peer.Talk.{Talk}
+use Rattle.cache_law.specs.declared.call.Entry.{Entry}
+use Rattle.cache_law.specs.Beginning.{Beginning}
+use Rattle.entrance.specs.Arriving.{LinkTold}
+use Rattle.world.specs.declared.kit.Kit.{Kit}
+use Rattle.connection.specs.Requests.{BeginsRequests}
+use Rattle.connection.specs.Serving.{Round as Turn, requests_of, sent_of, AllKept, EndsBehind, Stops}
+use Rattle.connection.specs.declared.ended.Ended.{Ended}
+use Rattle.round_lead.specs.Responses.{Language}
+use Rattle.round_lead.specs.Tapes.{Went, ToldIn, WasDrawn}
+use Rattle.server.specs.declared.transcript.Transcript.{Transcript}
+use Rattle.server.specs.Transcripts.{AreResponses}
+use Rattle.steering.specs.Serving.{Faults}
+
+-- What came over the link begins with the requests of the turns, and `rest` stands behind them; the link took what was sent for
+-- them, and then `extra`.
+pub record Heard (turns : List Turn) (before after : Option Flow) (ended : Ended) : Type 0 where
+  pub read : List ℕ
+  pub rest : List ℕ
+  pub extra : List ℕ
+  pub moves : Moves before after read (sent_of turns ++ extra)
+  pub requests : BeginsRequests read (requests_of turns) rest
+  pub left : List ℕ
+  pub ends : EndsBehind ended turns left rest extra ⊎ (AllKept turns × Stops ended after left rest extra)
+
+-- A connection from a peer was served, from one kit to the next: its rounds are the responses to its requests, over the history, and
+-- the talks that the dialer gained are those of their exchanges, in order. What the clock told meanwhile has their moments and words.
+pub record Tells {P D K L : Type 0} (language : Language P) (flow : L → Option Flow) (talks : D → Option (List (Talk L))) (readings words : K → Option Tape)
+    (beginning : Beginning) (history : List Entry) (number : ℕ) (before after : Kit D K) (opening closing : LinkTold) (transcript : Transcript) : Type 0 where
+  pub address : List ℕ
+  pub from : opening.peer ≡ Accepted address
+  pub stays : closing.peer ≡ opening.peer
+  pub turns : List Turn
+  pub gained : List (Talk L)
+  pub added : Adds (talks before.dialer) (talks after.dialer) gained
+  pub responses : AreResponses language (WasDrawn (words before.clock) (words after.clock)) (ToldIn (readings before.clock) (readings after.clock)) flow
+      beginning history number address transcript.rounds.items turns gained
+  pub reads : Went (readings before.clock) (readings after.clock)
+  pub draws : Went (words before.clock) (words after.clock)
+  pub heard : Heard turns opening.flow closing.flow transcript.ended
+  pub faults : Faults opening closing transcript.ended

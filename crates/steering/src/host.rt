@@ -1,0 +1,78 @@
+// What workers begin with, and what they leave.
+ghost use Rattle.std.specs.Prelude.{◌≡◌};
+
+use crate::service::Steering;
+use crate::stock::Stock;
+use cache_law::CacheCore;
+use crew::Host;
+use round_lead::{Programs, Shift};
+use shared_cache::CachePass;
+use std::alloc::{AllocError, Global};
+use vcl_runs::Runner;
+use wire::{Clock, Dialer, Link};
+use world::{Gate, Kit};
+
+impl<
+    'g,
+    C: CacheCore,
+    L: Link,
+    D: Dialer + Drop + Send,
+    K: Clock + Drop + Send,
+    G: Gate,
+    F: Stock<P>,
+    P: Programs<M> + Drop + Send,
+    M: Runner,
+> Host<C, D, K, L> for Steering<'g, D, K, G, F, P, M>
+where
+    M::Program: Drop,
+{
+    type Outfit = P;
+
+    ghost use Rattle.round_lead.specs.Responses.{language_of};
+    ghost use Rattle.server.specs.Transcripts.{all_numbers};
+    ghost use Rattle.steering.specs.Telling.{Tells};
+    ghost use Rattle.steering.specs.Laws.{starts, calls_of, tells_of, longer_of};
+
+    ghost pass_of = { λ shift. shift.pass };
+
+    ghost kit_of = { λ shift. shift.kit };
+
+    ghost places = { λ transcript. all_numbers transcript.rounds.items };
+
+    ghost Tells = { λ _ beginning history number before after opening closing transcript. Tells (language_of P.of_text M.turns M.targets M.default_of P.backends) D.Link.flow D.talks K.readings K.words beginning history number before after opening closing transcript };
+
+    ghost ready = { λ host cache shift pass start. starts cache shift pass start };
+
+    ghost pass = { λ host cache shift ready. ready.pass };
+
+    ghost calls = { λ host cache old new opening closing transcript serves. calls_of (language_of P.of_text M.turns M.targets M.default_of P.backends) D.Link.flow D.talks K.readings K.words old new opening closing transcript serves };
+
+    ghost tells = { λ host cache old new opening closing transcript beginning serves begins. tells_of (language_of P.of_text M.turns M.targets M.default_of P.backends) D.Link.flow D.talks K.readings K.words old new opening closing transcript serves beginning begins };
+
+    ghost longer = { λ host beginning history more number before after opening closing transcript tells. longer_of (language_of P.of_text M.turns M.targets M.default_of P.backends) D.Link.flow D.talks K.readings K.words beginning history more number before after opening closing transcript tells };
+
+    fn outfit(&self, alloc: Global) -> Result<P, AllocError> {
+        self.stock.programs(alloc)
+    }
+
+    fn begin_shift(&self, outfit: P, pass: CachePass, kit: Kit<D, K>) -> Shift<D, K, P>
+        ensures { (result.pass ≡ pass) × (result.kit ≡ kit) }
+    {
+        Shift {
+            pass,
+            kit,
+            programs: outfit,
+        }
+    }
+
+    fn end_shift(&self, shift: Shift<D, K, P>) -> (CachePass, Kit<D, K>)
+        ensures { (result.0 ≡ shift.pass) × (result.1 ≡ shift.kit) }
+    {
+        let Shift {
+            pass,
+            kit,
+            programs: _,
+        } = shift;
+        (pass, kit)
+    }
+}
