@@ -2,13 +2,13 @@
 ghost use Rattle.std.specs.Prelude.{◌≡◌, ◌≤◌, IfSome, OnErr};
 ghost use Rattle.wire.specs.Causes.{HasCause, Rose};
 
-use crate::Listener;
+use crate::{Listener, PortLink};
 use std::io::{self, ErrorKind};
 use std::net::{IpAddr, OpenListener, TcpStream};
 use std::time::Duration;
-use wire::{Failed, Peer, TcpLink};
+use wire::Failed;
 
-/// How many seconds a read or a write takes at most.
+/// How many seconds a write takes at most.
 const CALL_SECONDS: u64 = 60;
 
 // How often a call is made at most where signals interrupt it or connections are over before they are taken.
@@ -21,12 +21,10 @@ pub struct PortListener<L: OpenListener<Stream = TcpStream> + Drop> {
     pub faults: u64,
 }
 
-// Small pieces are sent at once, and calls that take too long fail.
+// Small pieces are sent at once, and writes that take too long fail.
 fn prepare(stream: &TcpStream) -> io::Result<()> {
-    let time = Duration::from_secs(CALL_SECONDS);
     stream.set_nodelay(true)?;
-    stream.set_read_timeout(Some(time))?;
-    stream.set_write_timeout(Some(time))
+    stream.set_write_timeout(Some(Duration::from_secs(CALL_SECONDS)))
 }
 
 // The next connection, and the address that it came from. One that can't be prepared is over already.
@@ -93,7 +91,7 @@ impl<L: OpenListener<Stream = TcpStream> + Drop> PortListener<L> {
 }
 
 impl<L: OpenListener<Stream = TcpStream> + Drop> Listener for PortListener<L> {
-    type Link = TcpLink<TcpStream>;
+    type Link = PortLink;
 
     ghost use Rattle.std.specs.Prelude.{false};
 
@@ -103,8 +101,8 @@ impl<L: OpenListener<Stream = TcpStream> + Drop> Listener for PortListener<L> {
 
     /// A call that a signal interrupted, and a connection that was over before it was taken, count as faults, and the call is
     /// made again.
-    fn accept(&mut self) -> Result<Option<(TcpLink<TcpStream>, [u8; 4])>, Failed> {
+    fn accept(&mut self) -> Result<Option<(PortLink, [u8; 4])>, Failed> {
         let (stream, address) = self.next()?;
-        Ok(Some((TcpLink::new(stream, Peer::Accepted(address)), address)))
+        Ok(Some((PortLink::new(stream, address), address)))
     }
 }

@@ -1,7 +1,7 @@
 // The outside of a program: the system's sockets, files and clock.
 ghost use Rattle.std.specs.Prelude.{◌≡◌};
 
-use crate::{Kit, PortListener, ShelfError, World};
+use crate::{Kit, PortLink, PortListener, ShelfError, World};
 use std::alloc::AllocError;
 use std::fs;
 use std::io::{self, ErrorKind};
@@ -9,7 +9,7 @@ use std::net::{Ipv4Addr, Net, TcpListener, TcpStream};
 use std::random::RandomSource;
 use std::rt::{Clock, Files};
 use units::Text;
-use wire::{Failed, SystemClock, TcpDialer, TcpLink};
+use wire::{Failed, SystemClock, TcpDialer};
 
 /// The system's outside. It listens at one address of the machine's, and tells nothing but its counts.
 #[derive(Drop)]
@@ -110,7 +110,7 @@ where
         })
     }
 
-    fn keep_link(&mut self, _link: TcpLink<TcpStream>) {
+    fn keep_link(&mut self, _link: PortLink) {
         self.kept = self.kept.saturating_add(1);
     }
 
