@@ -10,6 +10,7 @@ use crate::mentions::{Mention, MentionKind};
 use crate::rules::unless;
 use crate::told::{fault_at, lesser};
 use std::alloc::{AllocError, Global};
+use units::lost;
 use vcl_calls::NameIndex;
 use vcl_language::{is_module, is_reserved, maker_named, subroutine_named};
 use vcl_tree::{Fault, Refusal};
@@ -116,6 +117,17 @@ fn things_of(alloc: Global, mentions: &[Mention<'_>]) -> Result<Vec<Thing>, Allo
     Ok(out)
 }
 
+// The index of these names.
+fn index_of<'t>(alloc: Global, mentions: Vec<Mention<'t>>) -> Result<NameIndex<'t>, AllocError>
+    ensures { IfOk result (λ names. names ≡ names_of mentions.entry.items) }
+{
+    let Ok(names) = names_of(alloc, mentions.as_slice()) else {
+        return Err(lost(mentions));
+    };
+    drop(mentions);
+    NameIndex::of(alloc, names)
+}
+
 /// What the names of a text stand for.
 pub fn tables_of<'t>(
     alloc: Global,
@@ -124,17 +136,31 @@ pub fn tables_of<'t>(
 ) -> Result<Tables<'t>, AllocError>
     ensures { IfOk result (λ tables. tables ≡ known_of mentions.entry.now stored.entry.now) }
 {
-    let imports = imports(alloc, mentions)?;
-    let declared = declarations(alloc, mentions)?;
-    let imported = NameIndex::of(alloc, names_of(alloc, imports.as_slice())?)?;
-    let names = NameIndex::of(alloc, names_of(alloc, declared.as_slice())?)?;
     let things = things_of(alloc, mentions)?;
+    let Ok(imports) = imported_names(alloc, mentions) else {
+        return Err(lost(things));
+    };
+    let Ok(names) = declared_names(alloc, mentions) else {
+        return Err(lost((things, imports)));
+    };
     Ok(Tables {
-        imports: imported,
+        imports,
         names,
         things,
         stored,
     })
+}
+
+fn imported_names<'t>(alloc: Global, mentions: &[Mention<'t>]) -> Result<NameIndex<'t>, AllocError>
+    ensures { IfOk result (λ names. names ≡ names_of (filter is_import mentions.entry.now)) }
+{
+    index_of(alloc, imports(alloc, mentions)?)
+}
+
+fn declared_names<'t>(alloc: Global, mentions: &[Mention<'t>]) -> Result<NameIndex<'t>, AllocError>
+    ensures { IfOk result (λ names. names ≡ names_of (declarations mentions.entry.now)) }
+{
+    index_of(alloc, declarations(alloc, mentions)?)
 }
 
 fn is_origin(stored: &[Stored], name: &[u8]) -> bool

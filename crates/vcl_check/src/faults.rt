@@ -1,5 +1,7 @@
 // The first fault of a whole text.
-ghost use Rattle.std.specs.Prelude.{◌≡◌, None, IfOk};
+ghost use Rattle.std.specs.Prelude.{◌≡◌, ◌≤◌, None, IfOk, length};
+ghost use Rattle.vcl_check.specs.Declarations.{declarations, known_of, names_of};
+ghost use Rattle.vcl_check.specs.Reaching.{numbered_names};
 ghost use Rattle.vcl_check.specs.Folded.{numbered};
 ghost use Rattle.vcl_check.specs.Least.{lesser};
 ghost use Rattle.vcl_check.specs.Items.{item_told, of_item};
@@ -9,13 +11,13 @@ use crate::acls::acl_fault;
 use crate::attributes::{backend_fault, probe_fault};
 use crate::declarations::{declarations, tables_of, twice_among, unknown_among};
 use crate::known::Tables;
-use crate::mentions::mentions;
+use crate::mentions::{Mention, mentions};
 use crate::patterns::try_patterns;
 use crate::reaching::{graph_of, numbers_of, roots_of, rows_of};
 use crate::statements::block;
 use crate::told::{fault_at, lesser};
 use std::alloc::{AllocError, Global};
-use units::Sequence;
+use units::{Sequence, lost};
 use vcl_calls::NameIndex;
 use vcl_tree::{Block, Fault, Item, Refusal};
 use vcl_values::Pattern;
@@ -95,6 +97,44 @@ pub struct Found {
     pub patterns: Vec<Pattern>,
 }
 
+/// What the names of a text are, for all that is asked of them.
+#[derive(Drop)]
+struct Names<'t> {
+    said: Vec<Mention<'t>>,
+    declared: Vec<Mention<'t>>,
+    tables: Tables<'t>,
+    numbers: NameIndex<'t>,
+}
+
+fn names_in<'t>(
+    alloc: Global,
+    items: &'t [Item],
+    stored: &'t [Stored],
+) -> Result<Names<'t>, AllocError>
+    ensures said { IfOk result (λ names. names.said.items ≡ says items.entry.now) }
+    ensures declared { IfOk result (λ names. names.declared.items ≡ declarations names.said.items) }
+    ensures tables { IfOk result (λ names. names.tables ≡ known_of names.said.items stored.entry.now) }
+    ensures numbers { IfOk result (λ names. names.numbers ≡ numbered_names (names_of names.declared.items)) }
+    ensures long { IfOk result (λ names. 13 ≤ length names.numbers) }
+{
+    let said = mentions(alloc, items)?;
+    let Ok(declared) = declarations(alloc, said.as_slice()) else {
+        return Err(lost(said));
+    };
+    let Ok(tables) = tables_of(alloc, said.as_slice(), stored) else {
+        return Err(lost((said, declared)));
+    };
+    let Ok(numbers) = numbers_of(alloc, declared.as_slice()) else {
+        return Err(lost(((said, declared), tables)));
+    };
+    Ok(Names {
+        said,
+        declared,
+        tables,
+        numbers,
+    })
+}
+
 /// Looks for faults of a text.
 pub fn first_fault<'t>(
     alloc: Global,
@@ -104,24 +144,48 @@ pub fn first_fault<'t>(
     ensures first { IfOk result (λ found. IsFirstFault items.now stored.now found.fault) }
     ensures patterns { IfOk result (λ found. found.fault ≡ None → found.patterns.items ≡ pattern_texts (says items.now)) }
 {
-    let mentioned = mentions(alloc, items)?;
-    let said = mentioned.as_slice();
-    let listed = declarations(alloc, said)?;
-    let declared = listed.as_slice();
-    let tables = tables_of(alloc, said, stored)?;
-    let numbers = numbers_of(alloc, declared)?;
-    let graph = graph_of(alloc, &tables, &numbers, said)?;
-    let reached = rows_of(alloc, &graph)?;
+    let names = names_in(alloc, items, stored)?;
+    let found = found_by(alloc, items, stored, &names);
+    drop(names);
+    found
+}
+
+// The same, by what the names are. Nothing that is to be let go is held where memory may be wanting.
+fn found_by(
+    alloc: Global,
+    items: &[Item],
+    stored: &[Stored],
+    names: &Names<'_>,
+) -> Result<Found, AllocError>
+    requires said { names.now.said.items ≡ says items.now }
+    requires declared { names.now.declared.items ≡ declarations names.now.said.items }
+    requires tables { names.now.tables ≡ known_of names.now.said.items stored.now }
+    requires numbers { names.now.numbers ≡ numbered_names (names_of names.now.declared.items) }
+    requires long { 13 ≤ length names.now.numbers }
+    ensures first { IfOk result (λ found. IsFirstFault items.now stored.now found.fault) }
+    ensures patterns { IfOk result (λ found. found.fault ≡ None → found.patterns.items ≡ pattern_texts (says items.now)) }
+{
+    let said = names.said.as_slice();
+    let declared = names.declared.as_slice();
+    let graph = graph_of(alloc, &names.tables, &names.numbers, said)?;
+    let Ok(reached) = rows_of(alloc, &graph) else {
+        return Err(lost(graph));
+    };
+    let Ok(on_circle) = graph.first_on_circle(alloc) else {
+        return Err(lost((graph, reached)));
+    };
+    drop(graph);
     let rows = reached.as_slice();
+    let Ok(inside) = among_items(alloc, &names.tables, &names.numbers, rows, items) else {
+        return Err(lost(reached));
+    };
+    drop(reached);
     let tried = try_patterns(alloc, said)?;
-    let places = tried.places.as_slice();
-    let names = tables.names();
-    let on_circle = graph.first_on_circle(alloc)?;
     let unknown = unknown_among(stored, said);
-    let twice = twice_among(names, declared);
-    let inside = among_items(alloc, &tables, &numbers, rows, items)?;
+    let twice = twice_among(names.tables.names(), declared);
     let circle = fault_at(Refusal::Recursion, on_circle);
-    let refused = among_refused(places);
+    let refused = among_refused(tried.places.as_slice());
+    drop(tried.places);
     let fault = first_of(unknown, twice, inside, circle, refused);
     Ok(Found {
         fault,

@@ -49,13 +49,25 @@ pub fn check(alloc: Global, tree: Tree, vmods: &VmodTable) -> Result<Program, Vc
     ensures sound { OnOk result (IsSound tree.items vmods.now.stored) }
     ensures refused { IfErr result (IsRefused tree.items vmods.now.stored) }
 {
-    let patterns = patterns_of(alloc, &tree, vmods.stored.as_slice())?;
-    let stored = entries_of(alloc, vmods.stored.as_slice())?;
-    Ok(Program {
-        tree,
-        stored,
-        patterns,
-    })
+    let patterns = match patterns_of(alloc, &tree, vmods.stored.as_slice()) {
+        Ok(patterns) => patterns,
+        Err(why) => return Err(given_up(tree, why)),
+    };
+    match entries_of(alloc, vmods.stored.as_slice()) {
+        Ok(stored) => Ok(Program {
+            tree,
+            stored,
+            patterns,
+        }),
+        Err(_) => Err(given_up((tree, patterns), VclError::NoMemory)),
+    }
+}
+
+// Why there is no program. What is at hand is let go: here once, and not part by part on each way out where it was held.
+fn given_up<V: Drop>(_held: V, why: VclError) -> VclError
+    ensures { result ≡ why }
+{
+    why
 }
 
 // The patterns of a text that is sound.
@@ -67,18 +79,22 @@ fn patterns_of(alloc: Global, tree: &Tree, stored: &[Stored]) -> Result<Vec<Patt
     let items = tree.items.as_slice();
     let found = first_fault(alloc, items, stored)?;
     match found.fault {
-        Some(fault) => Err(VclError::Refused {
-            kind: fault.kind,
-            place: fault.place,
-        }),
+        Some(fault) => {
+            let why = VclError::Refused {
+                kind: fault.kind,
+                place: fault.place,
+            };
+            Err(given_up(found, why))
+        }
         None => {
             if has_backend(items) {
                 Ok(found.patterns)
             } else {
-                Err(VclError::Refused {
+                let why = VclError::Refused {
                     kind: Refusal::NoBackend,
                     place: 0,
-                })
+                };
+                Err(given_up(found, why))
             }
         }
     }

@@ -6,13 +6,14 @@ ghost use Rattle.vcl_tree.specs.Phrase.{Phrase, list_of};
 ghost use Rattle.vcl_tree.specs.AttributeView.{value_of};
 ghost use Rattle.vcl_tree.specs.TreeView.{entry_of, masked};
 ghost use Rattle.vcl_tree.specs.declared.token.Sign.TheVariants as sign;
-ghost use Rattle.vcl_parse.specs.Machine.{Want, Read, Go, Take, Attributes, Value, Address, Entries, MoreEntries, Semicolon, watch};
+ghost use Rattle.vcl_parse.specs.Machine.{Want, Read, Go, Take, Attributes, Value, Address, Entries, MoreAttributes, MoreEntries, Semicolon, watch};
 ghost use Rattle.vcl_parse.specs.Machine as machine;
-ghost use Rattle.vcl_parse.specs.Steps.{IsRead, IsStopped, ReadsOne, StopsOne, Ends, CarriesAny, first_is_string, address_of};
+ghost use Rattle.vcl_parse.specs.Steps.{IsRead, IsStopped, ReadsOne, StopsOne, Ends, CarriesAny, CarriesOn, first_is_string, address_of};
 ghost use Rattle.vcl_tree.specs.Signs.{first_is};
 
-use crate::signs::{any_name, begins, behind_sign, enter, expect, first_place, mask_number, split};
-use crate::stop::Stop;
+use crate::lists::add;
+use crate::signs::{any_name, begins, behind_sign, ended, enter, first_place, mask_number, split};
+use crate::stop::{Stop, given_up};
 use std::alloc::Global;
 use vcl_tree::{AclEntry, Attribute, AttributeValue, Mask, Name, Sign, Token, TokenKind};
 
@@ -33,14 +34,42 @@ pub fn braced_attributes(
     let deeper = enter(depth, tokens.len())?;
     let mut attributes = Vec::new(alloc);
     let mut rest = behind;
-    while let Some((place, behind)) = behind_sign(rest, Sign::Dot) {
-        let (name, later) = any_name(behind)?;
-        let later = expect(later, Sign::Assign)?;
-        let (value, later) = value(alloc, deeper, later)?;
-        attributes.push(Attribute { place, name, value })?;
-        rest = later;
+    'attributes: loop {
+        match attribute_at(alloc, deeper, rest) {
+            Ok(Some((attribute, later))) => {
+                if let Err(why) = add(&mut attributes, attribute) {
+                    return Err(given_up(attributes, why));
+                }
+                rest = later;
+            }
+            Ok(None) => return ended(attributes, rest, Sign::CloseBrace),
+            Err(why) => return Err(given_up(attributes, why)),
+        }
     }
-    Ok((attributes, expect(rest, Sign::CloseBrace)?))
+}
+
+// The attribute at the front, if one begins there.
+#[cycle(attribute)]
+fn attribute_at(
+    alloc: Global,
+    depth: u32,
+    tokens: &[Token],
+) -> Result<Option<(Attribute, &[Token])>, Stop>
+    ensures { MatchResult result
+        (λ found. MatchOption found
+        (Ends MoreAttributes tokens.now)
+        (λ x. CarriesOn MoreAttributes depth tokens.now x.0 x.1.now))
+        (λ why. IsStopped (Go MoreAttributes) depth tokens.now why) }
+{
+    let Some((place, behind)) = behind_sign(tokens, Sign::Dot) else {
+        return Ok(None);
+    };
+    let (name, rest) = any_name(behind)?;
+    let (name, rest) = ended(name, rest, Sign::Assign)?;
+    match value(alloc, depth, rest) {
+        Ok((value, rest)) => Ok(Some((Attribute { place, name, value }, rest))),
+        Err(why) => Err(given_up(name, why)),
+    }
 }
 
 // The value of an attribute, and its semicolon.
@@ -52,7 +81,7 @@ fn value(alloc: Global, depth: u32, tokens: &[Token]) -> Result<(AttributeValue,
 {
     if !begins(tokens, Sign::OpenBrace) {
         let (value, rest) = plain_value(tokens)?;
-        return Ok((value, expect(rest, Sign::Semicolon)?));
+        return ended(value, rest, Sign::Semicolon);
     }
     let (attributes, rest) = braced_attributes(alloc, depth, tokens)?;
     let value = AttributeValue::Attributes(first_place(tokens), attributes);
@@ -115,11 +144,18 @@ pub fn braced_entries(
     let deeper = enter(depth, tokens.len())?;
     let mut entries = Vec::new(alloc);
     let mut rest = behind;
-    while let Some((entry, later)) = entry_at(rest)? {
-        entries.push(entry)?;
-        rest = later;
+    'entries: loop {
+        match entry_at(rest) {
+            Ok(Some((entry, later))) => {
+                if let Err(why) = add(&mut entries, entry) {
+                    return Err(given_up(entries, why));
+                }
+                rest = later;
+            }
+            Ok(None) => return ended(entries, rest, Sign::CloseBrace),
+            Err(why) => return Err(given_up(entries, why)),
+        }
     }
-    Ok((entries, expect(rest, Sign::CloseBrace)?))
 }
 
 // The entry at the front, if one begins there.
@@ -166,8 +202,11 @@ fn address(excluded: Option<u32>, tokens: &[Token]) -> Result<(AclEntry, &[Token
     match &first.kind {
         TokenKind::String(text) => {
             let address = text.copy()?;
-            let (mask, rest) = mask_at(rest)?;
-            let rest = expect(rest, Sign::Semicolon)?;
+            let (mask, rest) = match mask_at(rest) {
+                Ok(read) => read,
+                Err(why) => return Err(given_up(address, why)),
+            };
+            let (address, rest) = ended(address, rest, Sign::Semicolon)?;
             let address_place = first.place;
             Ok((
                 AclEntry {

@@ -9,11 +9,12 @@ ghost use Rattle.vcl_parse.specs.Steps.{IsRead, IsReadOn, IsStopped, ReadsOne, S
 ghost use Rattle.vcl_tree.specs.Signs.{first_is};
 ghost use Rattle.vcl_tree.specs.ExpressionForm.{looseness};
 
+use crate::lists::{add, only};
 use crate::making::{all_of, any_of, call_of, compared, group_of, not_of, opposite_of, sum_from};
 use crate::names::has_zero_fraction;
-use crate::signs::{begins, behind_sign, enter, expect, split};
+use crate::signs::{begins, behind_sign, ended, enter, split};
 use crate::starts::comparison;
-use crate::stop::Stop;
+use crate::stop::{Stop, given_up};
 use std::alloc::Global;
 use units::Text;
 use vcl_tree::{Addend, Addition, Comparison, Expression, Operation, Sign, Token, TokenKind};
@@ -28,8 +29,13 @@ pub fn any(alloc: Global, depth: u32, tokens: &[Token]) -> Result<(Expression, &
     let (first, mut rest) = all(alloc, depth, tokens)?;
     let mut others = Vec::new(alloc);
     while let Some((_, behind)) = behind_sign(rest, Sign::Or) {
-        let (operand, later) = all(alloc, depth, behind)?;
-        others.push(operand)?;
+        let (operand, later) = match all(alloc, depth, behind) {
+            Ok(read) => read,
+            Err(why) => return Err(given_up((first, others), why)),
+        };
+        if let Err(why) = add(&mut others, operand) {
+            return Err(given_up((first, others), why));
+        }
         rest = later;
     }
     Ok((any_of(alloc, first, others)?, rest))
@@ -45,8 +51,13 @@ fn all(alloc: Global, depth: u32, tokens: &[Token]) -> Result<(Expression, &[Tok
     let (first, mut rest) = negation(alloc, depth, tokens)?;
     let mut others = Vec::new(alloc);
     while let Some((_, behind)) = behind_sign(rest, Sign::And) {
-        let (operand, later) = negation(alloc, depth, behind)?;
-        others.push(operand)?;
+        let (operand, later) = match negation(alloc, depth, behind) {
+            Ok(read) => read,
+            Err(why) => return Err(given_up((first, others), why)),
+        };
+        if let Err(why) = add(&mut others, operand) {
+            return Err(given_up((first, others), why));
+        }
         rest = later;
     }
     Ok((all_of(alloc, first, others)?, rest))
@@ -77,8 +88,10 @@ fn comparing(alloc: Global, depth: u32, tokens: &[Token]) -> Result<(Expression,
     let Some((how, behind)) = comparison_at(rest) else {
         return Ok((left, rest));
     };
-    let (right, later) = sum(alloc, depth, behind)?;
-    Ok((compared(alloc, how, left, right)?, later))
+    match sum(alloc, depth, behind) {
+        Ok((right, later)) => Ok((compared(alloc, how, left, right)?, later)),
+        Err(why) => Err(given_up(left, why)),
+    }
 }
 
 #[cycle(expression)]
@@ -91,8 +104,13 @@ fn sum(alloc: Global, depth: u32, tokens: &[Token]) -> Result<(Expression, &[Tok
     let (first, mut rest) = term(alloc, depth, tokens)?;
     let mut others = Vec::new(alloc);
     while let Some((sign, behind)) = addition_at(rest) {
-        let (term, later) = term(alloc, depth, behind)?;
-        others.push(Addend { sign, term })?;
+        let (term, later) = match term(alloc, depth, behind) {
+            Ok(read) => read,
+            Err(why) => return Err(given_up((first, others), why)),
+        };
+        if let Err(why) = add(&mut others, Addend { sign, term }) {
+            return Err(given_up((first, others), why));
+        }
         rest = later;
     }
     Ok((sum_from(alloc, first, others)?, rest))
@@ -110,7 +128,7 @@ fn term(alloc: Global, depth: u32, tokens: &[Token]) -> Result<(Expression, &[To
     };
     let deeper = enter(depth, tokens.len())?;
     let (inner, rest) = any(alloc, deeper, behind)?;
-    let rest = expect(rest, Sign::CloseParenthesis)?;
+    let (inner, rest) = ended(inner, rest, Sign::CloseParenthesis)?;
     Ok((group_of(alloc, place, inner)?, rest))
 }
 
@@ -170,7 +188,7 @@ fn named<'a>(
         return Ok((Expression { operation }, tokens));
     }
     let (arguments, rest) = arguments(alloc, depth, false, tokens)?;
-    Ok((call_of(place, name.copy()?, arguments), rest))
+    Ok((call_of(place, name, arguments)?, rest))
 }
 
 /// Arguments in parentheses, of which all but the first may be weights where that is said.
@@ -189,18 +207,22 @@ pub fn arguments(
         return Err(Stop::Syntax(tokens.len()));
     };
     let deeper = enter(depth, tokens.len())?;
-    let mut arguments = Vec::new(alloc);
     if let Some((_, rest)) = behind_sign(behind, Sign::CloseParenthesis) {
-        return Ok((arguments, rest));
+        return Ok((Vec::new(alloc), rest));
     }
     let (first, mut rest) = any(alloc, deeper, behind)?;
-    arguments.push(first)?;
+    let mut arguments = only(alloc, first)?;
     while let Some((_, behind)) = behind_sign(rest, Sign::Comma) {
-        let (further, later) = argument(alloc, deeper, weight, behind)?;
-        arguments.push(further)?;
+        let (further, later) = match argument(alloc, deeper, weight, behind) {
+            Ok(read) => read,
+            Err(why) => return Err(given_up(arguments, why)),
+        };
+        if let Err(why) = add(&mut arguments, further) {
+            return Err(given_up(arguments, why));
+        }
         rest = later;
     }
-    Ok((arguments, expect(rest, Sign::CloseParenthesis)?))
+    ended(arguments, rest, Sign::CloseParenthesis)
 }
 
 #[cycle(expression)]

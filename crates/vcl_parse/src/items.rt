@@ -10,10 +10,11 @@ ghost use Rattle.vcl_parse.specs.Machine as machine;
 ghost use Rattle.vcl_parse.specs.Steps.{IsReadAll, IsStoppedAll, IsStopped, Stops, Ends, CarriesOn};
 
 use crate::attributes::{braced_attributes, braced_entries};
-use crate::signs::{any_name, behind_sign, expect, new_name, split};
+use crate::lists::add;
+use crate::signs::{any_name, behind_sign, ended, new_name, split};
 use crate::starts::{ItemWord, item_word};
 use crate::statements::block;
-use crate::stop::Stop;
+use crate::stop::{Stop, given_up};
 use std::alloc::Global;
 use units::Sequence;
 use vcl_tree::{Item, Sign, Token, TokenKind, Word};
@@ -26,14 +27,22 @@ pub fn all_items(alloc: Global, tokens: &[Token]) -> Result<Vec<Item>, Stop>
 {
     let mut items = Vec::new(alloc);
     let mut rest = tokens;
-    while let Some((item, later)) = item_at(alloc, rest)? {
-        items.push(item)?;
-        rest = later;
+    'items: loop {
+        match item_at(alloc, rest) {
+            Ok(Some((item, later))) => {
+                if let Err(why) = add(&mut items, item) {
+                    return Err(given_up(items, why));
+                }
+                rest = later;
+            }
+            Ok(None) => break,
+            Err(why) => return Err(given_up(items, why)),
+        }
     }
     if rest.is_empty() {
         Ok(items)
     } else {
-        Err(Stop::Syntax(rest.len()))
+        Err(given_up(items, Stop::Syntax(rest.len())))
     }
 }
 
@@ -72,8 +81,7 @@ fn import(place: u32, tokens: &[Token]) -> Result<(Item, &[Token]), Stop>
         (λ why. IsStoppedAll (AnyName ∷ Take sign.Semicolon ∷ Join Import ∷ []) 0 (At place) tokens.now why) }
 {
     let (name, rest) = any_name(tokens)?;
-    let rest = expect(rest, Sign::Semicolon)?;
-    Ok((Item::Import(place, name), rest))
+    ended(Item::Import(place, name), rest, Sign::Semicolon)
 }
 
 fn backend(alloc: Global, place: u32, tokens: &[Token]) -> Result<(Item, &[Token]), Stop>
@@ -83,14 +91,15 @@ fn backend(alloc: Global, place: u32, tokens: &[Token]) -> Result<(Item, &[Token
 {
     let (name, rest) = new_name(tokens)?;
     if let Some(behind) = behind_none(rest) {
-        let rest = expect(behind, Sign::Semicolon)?;
-        return Ok((Item::NoBackend(place, name), rest));
+        return ended(Item::NoBackend(place, name), behind, Sign::Semicolon);
     }
-    let (attributes, rest) = braced_attributes(alloc, 0, rest)?;
-    Ok((
-        Item::Backend(place, name, Sequence::from_vec(attributes)),
-        rest,
-    ))
+    match braced_attributes(alloc, 0, rest) {
+        Ok((attributes, rest)) => Ok((
+            Item::Backend(place, name, Sequence::from_vec(attributes)),
+            rest,
+        )),
+        Err(why) => Err(given_up(name, why)),
+    }
 }
 
 // What stands behind the word `none`, if it comes first.
@@ -125,8 +134,10 @@ fn acl(alloc: Global, place: u32, tokens: &[Token]) -> Result<(Item, &[Token]), 
         (λ why. IsStoppedAll (NewName ∷ Read Entries ∷ Join Bound ∷ Join Acl ∷ []) 0 (At place) tokens.now why) }
 {
     let (name, rest) = new_name(tokens)?;
-    let (entries, rest) = braced_entries(alloc, 0, rest)?;
-    Ok((Item::Acl(place, name, Sequence::from_vec(entries)), rest))
+    match braced_entries(alloc, 0, rest) {
+        Ok((entries, rest)) => Ok((Item::Acl(place, name, Sequence::from_vec(entries)), rest)),
+        Err(why) => Err(given_up(name, why)),
+    }
 }
 
 fn probe(alloc: Global, place: u32, tokens: &[Token]) -> Result<(Item, &[Token]), Stop>
@@ -135,11 +146,13 @@ fn probe(alloc: Global, place: u32, tokens: &[Token]) -> Result<(Item, &[Token])
         (λ why. IsStoppedAll (NewName ∷ Read Attributes ∷ Join Bound ∷ Join Probe ∷ []) 0 (At place) tokens.now why) }
 {
     let (name, rest) = new_name(tokens)?;
-    let (attributes, rest) = braced_attributes(alloc, 0, rest)?;
-    Ok((
-        Item::Probe(place, name, Sequence::from_vec(attributes)),
-        rest,
-    ))
+    match braced_attributes(alloc, 0, rest) {
+        Ok((attributes, rest)) => Ok((
+            Item::Probe(place, name, Sequence::from_vec(attributes)),
+            rest,
+        )),
+        Err(why) => Err(given_up(name, why)),
+    }
 }
 
 fn sub(alloc: Global, place: u32, tokens: &[Token]) -> Result<(Item, &[Token]), Stop>
@@ -148,6 +161,8 @@ fn sub(alloc: Global, place: u32, tokens: &[Token]) -> Result<(Item, &[Token]), 
         (λ why. IsStoppedAll (NewName ∷ Read Block ∷ Join Bound ∷ Join Sub ∷ []) 0 (At place) tokens.now why) }
 {
     let (name, rest) = new_name(tokens)?;
-    let (block, rest) = block(alloc, 0, rest)?;
-    Ok((Item::Sub(place, name, block), rest))
+    match block(alloc, 0, rest) {
+        Ok((block, rest)) => Ok((Item::Sub(place, name, block), rest)),
+        Err(why) => Err(given_up(name, why)),
+    }
 }

@@ -7,6 +7,7 @@
 mod attributes;
 mod expressions;
 mod items;
+mod lists;
 mod making;
 mod names;
 mod parsing;

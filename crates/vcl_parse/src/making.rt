@@ -10,8 +10,22 @@ ghost use Rattle.vcl_tree.specs.Numbers.{opposite};
 ghost use Rattle.vcl_parse.specs.Steps.{set_label};
 
 use std::alloc::{AllocError, Global};
-use units::Text;
+use units::{Text, lost};
 use vcl_tree::{Action, Addend, Block, Branch, Comparison, Expression, Name, Operation, Statement};
+
+/// Two values in boxes. Their types aren't known here, so that a value that is let go is no more than that.
+fn boxed<A: Drop, B: Drop>(
+    alloc: Global,
+    first: A,
+    second: B,
+) -> Result<(Box<A>, Box<B>), AllocError>
+    ensures first { IfOk result (λ x. x.0.value ≡ first) }
+    ensures second { IfOk result (λ x. x.1.value ≡ second) }
+{
+    let first = Box::new(alloc, first)?;
+    let second = Box::new(alloc, second)?;
+    Ok((first, second))
+}
 
 #[tactic(auto, using(crate::proofs::Binding::binding))]
 pub fn any_of(
@@ -26,7 +40,10 @@ pub fn any_of(
         return Ok(first);
     }
     let second = others.remove(0);
-    let operation = Operation::Any(Box::new(alloc, first)?, Box::new(alloc, second)?, others);
+    let Ok((first, second)) = boxed(alloc, first, second) else {
+        return Err(lost(others));
+    };
+    let operation = Operation::Any(first, second, others);
     Ok(Expression { operation })
 }
 
@@ -44,7 +61,10 @@ pub fn all_of(
         return Ok(first);
     }
     let second = others.remove(0);
-    let operation = Operation::All(Box::new(alloc, first)?, Box::new(alloc, second)?, others);
+    let Ok((first, second)) = boxed(alloc, first, second) else {
+        return Err(lost(others));
+    };
+    let operation = Operation::All(first, second, others);
     Ok(Expression { operation })
 }
 
@@ -62,7 +82,10 @@ pub fn sum_from(
         return Ok(first);
     }
     let second = others.remove(0);
-    let operation = Operation::Sum(Box::new(alloc, first)?, Box::new(alloc, second)?, others);
+    let Ok((first, second)) = boxed(alloc, first, second) else {
+        return Err(lost(others));
+    };
+    let operation = Operation::Sum(first, second, others);
     Ok(Expression { operation })
 }
 
@@ -88,7 +111,8 @@ pub fn compared(
 ) -> Result<Expression, AllocError>
     ensures { IfOk result (λ e. e ≡ Node (Compared how) left right) }
 {
-    let operation = Operation::Compare(how, Box::new(alloc, left)?, Box::new(alloc, right)?);
+    let (left, right) = boxed(alloc, left, right)?;
+    let operation = Operation::Compare(how, left, right);
     Ok(Expression { operation })
 }
 
@@ -100,19 +124,35 @@ pub fn opposite_of(n: i64) -> i64
     n.wrapping_neg()
 }
 
-pub fn call_of(place: u32, name: Text, arguments: Vec<Expression>) -> Expression
-    ensures { result ≡ Node Called (Named place name) (list_of arguments.items) }
+pub fn call_of(
+    place: u32,
+    name: &Text,
+    arguments: Vec<Expression>,
+) -> Result<Expression, AllocError>
+    ensures { IfOk result (λ e. e ≡ Node Called (Named place name.now) (list_of arguments.items)) }
 {
-    Expression {
-        operation: Operation::Call(place, name, arguments),
+    match name.copy() {
+        Ok(name) => {
+            let operation = Operation::Call(place, name, arguments);
+            Ok(Expression { operation })
+        }
+        Err(_) => Err(lost(arguments)),
     }
 }
 
-pub fn called_statement(place: u32, text: Text, arguments: Vec<Expression>) -> Statement
-    ensures { result ≡ Node Called (Named place text) (list_of arguments.items) }
+pub fn called_statement(
+    place: u32,
+    text: &Text,
+    arguments: Vec<Expression>,
+) -> Result<Statement, AllocError>
+    ensures { IfOk result (λ s. s ≡ Node Called (Named place text.now) (list_of arguments.items)) }
 {
-    Statement {
-        action: Action::Run(Name { place, text }, arguments),
+    match text.copy() {
+        Ok(text) => {
+            let action = Action::Run(Name { place, text }, arguments);
+            Ok(Statement { action })
+        }
+        Err(_) => Err(lost(arguments)),
     }
 }
 

@@ -8,7 +8,7 @@ ghost use Rattle.vcl_tree.specs.StatementView.{name_of};
 ghost use Rattle.vcl_parse.specs.Steps.{Passes, ReadsOne, StopsOne, BeginsWith, first_at, sign_level, opens_sign, IsEntered, IsTooDeep};
 ghost use Rattle.vcl_tree.specs.Signs.{first_is};
 
-use crate::stop::Stop;
+use crate::stop::{Stop, given_up};
 use std::alloc::AllocError;
 use units::Text;
 use vcl_tree::{Mask, Name, Sign, Token, TokenKind};
@@ -64,6 +64,20 @@ pub fn expect(tokens: &[Token], sign: Sign) -> Result<&[Token], Stop>
     match behind_sign(tokens, sign) {
         Some((_, rest)) => Ok(rest),
         None => Err(Stop::Syntax(tokens.len())),
+    }
+}
+
+/// What was read, and what stands behind the sign, which has to come next and opens nothing.
+pub fn ended<V: Drop>(read: V, tokens: &[Token], sign: Sign) -> Result<(V, &[Token]), Stop>
+    requires { opens_sign sign ≡ false }
+    ensures passed { MatchResult result
+        (λ x. Passes (Take sign) (sign_level sign) tokens.now x.1.now)
+        (λ why. StopsOne (Take sign) tokens.now why) }
+    ensures same { IfOk result (λ x. x.0 ≡ read) }
+{
+    match expect(tokens, sign) {
+        Ok(rest) => Ok((read, rest)),
+        Err(why) => Err(given_up(read, why)),
     }
 }
 

@@ -11,13 +11,14 @@ ghost use Rattle.vcl_tree.specs.Phrase.{Called, Bound, New, Unset, Jump, Return,
 ghost use Rattle.vcl_parse.specs.Steps.{IsRead, IsReadOn, IsReadAll, ReadsAll, IsStopped, IsStoppedAll, StopsOne, Ends, CarriesOn, Assigns, else_wants};
 
 use crate::expressions::{any, arguments};
+use crate::lists::add;
 use crate::making::{
     called_statement, if_of, jump_of, new_of, return_of, return_with, set_of, unset_of,
 };
 use crate::names::takes_weight;
-use crate::signs::{any_name, begins, behind_sign, enter, expect, new_name, split};
+use crate::signs::{any_name, begins, behind_sign, ended, enter, new_name, split};
 use crate::starts::{ElseWord, StatementWord, else_word, statement_word};
-use crate::stop::Stop;
+use crate::stop::{Stop, given_up};
 use std::alloc::Global;
 use units::Text;
 use vcl_tree::{Block, Branch, Sign, Statement, Token, TokenKind};
@@ -35,11 +36,18 @@ pub fn block(alloc: Global, depth: u32, tokens: &[Token]) -> Result<(Block, &[To
     let deeper = enter(depth, tokens.len())?;
     let mut statements = Vec::new(alloc);
     let mut rest = behind;
-    while let Some((statement, later)) = statement_at(alloc, deeper, rest)? {
-        statements.push(statement)?;
-        rest = later;
+    'statements: loop {
+        match statement_at(alloc, deeper, rest) {
+            Ok(Some((statement, later))) => {
+                if let Err(why) = add(&mut statements, statement) {
+                    return Err(given_up(statements, why));
+                }
+                rest = later;
+            }
+            Ok(None) => return ended(Block { statements }, rest, Sign::CloseBrace),
+            Err(why) => return Err(given_up(statements, why)),
+        }
     }
-    Ok((Block { statements }, expect(rest, Sign::CloseBrace)?))
 }
 
 // The statement at the front, if one begins there.
@@ -95,12 +103,20 @@ fn conditional(
         let (word, behind) = else_at(rest);
         match word {
             ElseWord::ElseIf => {
-                let (further, later) = branch(alloc, depth, behind)?;
-                others.push(further)?;
+                let (further, later) = match branch(alloc, depth, behind) {
+                    Ok(read) => read,
+                    Err(why) => return Err(given_up((first, others), why)),
+                };
+                if let Err(why) = add(&mut others, further) {
+                    return Err(given_up((first, others), why));
+                }
                 rest = later;
             }
             ElseWord::Else => {
-                let (block, later) = block(alloc, depth, behind)?;
+                let (block, later) = match block(alloc, depth, behind) {
+                    Ok(read) => read,
+                    Err(why) => return Err(given_up((first, others), why)),
+                };
                 return Ok((if_of(alloc, place, first, others, Some(block))?, later));
             }
             ElseWord::Nothing => return Ok((if_of(alloc, place, first, others, None)?, behind)),
@@ -120,9 +136,11 @@ fn branch(alloc: Global, depth: u32, tokens: &[Token]) -> Result<(Branch, &[Toke
     };
     let deeper = enter(depth, tokens.len())?;
     let (condition, rest) = any(alloc, deeper, behind)?;
-    let rest = expect(rest, Sign::CloseParenthesis)?;
-    let (block, rest) = block(alloc, depth, rest)?;
-    Ok((Branch { condition, block }, rest))
+    let (condition, rest) = ended(condition, rest, Sign::CloseParenthesis)?;
+    match block(alloc, depth, rest) {
+        Ok((block, rest)) => Ok((Branch { condition, block }, rest)),
+        Err(why) => Err(given_up(condition, why)),
+    }
 }
 
 // How a conditional statement goes on, and what stands behind the words that say so.
@@ -194,8 +212,8 @@ fn run<'a>(
         (λ why. IsStoppedAll (Read (Arguments (adds_backend name.now)) ∷ Join Called ∷ Take sign.Semicolon ∷ []) depth (Named place name.now) tokens.now why) }
 {
     let (arguments, rest) = arguments(alloc, depth, takes_weight(name.bytes()), tokens)?;
-    let rest = expect(rest, Sign::Semicolon)?;
-    Ok((called_statement(place, name.copy()?, arguments), rest))
+    let (arguments, rest) = ended(arguments, rest, Sign::Semicolon)?;
+    Ok((called_statement(place, name, arguments)?, rest))
 }
 
 fn set(
@@ -209,10 +227,14 @@ fn set(
         (λ why. IsStoppedAll (AnyName ∷ Read Assignment ∷ []) depth (At place) tokens.now why) }
 {
     let (name, rest) = any_name(tokens)?;
-    let (appends, rest) = assignment(rest)?;
-    let (value, rest) = any(alloc, depth, rest)?;
-    let rest = expect(rest, Sign::Semicolon)?;
-    Ok((set_of(appends, place, name, value), rest))
+    let (appends, rest) = match assignment(rest) {
+        Ok(read) => read,
+        Err(why) => return Err(given_up(name, why)),
+    };
+    match any(alloc, depth, rest) {
+        Ok((value, rest)) => ended(set_of(appends, place, name, value), rest, Sign::Semicolon),
+        Err(why) => Err(given_up(name, why)),
+    }
 }
 
 // The sign of an assignment: whether it appends.
@@ -236,8 +258,7 @@ fn unset(place: u32, tokens: &[Token]) -> Result<(Statement, &[Token]), Stop>
         (λ why. (depth : ℕ) → IsStoppedAll (AnyName ∷ Take sign.Semicolon ∷ Join Unset ∷ []) depth (At place) tokens.now why) }
 {
     let (name, rest) = any_name(tokens)?;
-    let rest = expect(rest, Sign::Semicolon)?;
-    Ok((unset_of(place, name), rest))
+    ended(unset_of(place, name), rest, Sign::Semicolon)
 }
 
 fn jump(place: u32, tokens: &[Token]) -> Result<(Statement, &[Token]), Stop>
@@ -246,8 +267,7 @@ fn jump(place: u32, tokens: &[Token]) -> Result<(Statement, &[Token]), Stop>
         (λ why. (depth : ℕ) → IsStoppedAll (AnyName ∷ Take sign.Semicolon ∷ Join Jump ∷ []) depth (At place) tokens.now why) }
 {
     let (name, rest) = any_name(tokens)?;
-    let rest = expect(rest, Sign::Semicolon)?;
-    Ok((jump_of(place, name), rest))
+    ended(jump_of(place, name), rest, Sign::Semicolon)
 }
 
 fn new(
@@ -261,11 +281,17 @@ fn new(
         (λ why. IsStoppedAll (NewName ∷ Take sign.Assign ∷ AnyName ∷ Read (Arguments false) ∷ Join Called ∷ Take sign.Semicolon ∷ Join Bound ∷ Join New ∷ []) depth (At place) tokens.now why) }
 {
     let (name, rest) = new_name(tokens)?;
-    let rest = expect(rest, Sign::Assign)?;
-    let (maker, rest) = any_name(rest)?;
-    let (arguments, rest) = arguments(alloc, depth, false, rest)?;
-    let rest = expect(rest, Sign::Semicolon)?;
-    Ok((new_of(place, name, maker, arguments), rest))
+    let (name, rest) = ended(name, rest, Sign::Assign)?;
+    let (maker, rest) = match any_name(rest) {
+        Ok(read) => read,
+        Err(why) => return Err(given_up(name, why)),
+    };
+    match arguments(alloc, depth, false, rest) {
+        Ok((arguments, rest)) => {
+            ended(new_of(place, name, maker, arguments), rest, Sign::Semicolon)
+        }
+        Err(why) => Err(given_up((name, maker), why)),
+    }
 }
 
 // What stands behind `return`.
@@ -285,12 +311,17 @@ fn leave(
     let deeper = enter(depth, tokens.len())?;
     let (word, rest) = any_name(behind)?;
     if !begins(rest, Sign::OpenParenthesis) {
-        let rest = expect(rest, Sign::CloseParenthesis)?;
-        let rest = expect(rest, Sign::Semicolon)?;
-        return Ok((return_of(place, word), rest));
+        let (word, rest) = ended(word, rest, Sign::CloseParenthesis)?;
+        return ended(return_of(place, word), rest, Sign::Semicolon);
     }
-    let (arguments, rest) = arguments(alloc, deeper, false, rest)?;
-    let rest = expect(rest, Sign::CloseParenthesis)?;
-    let rest = expect(rest, Sign::Semicolon)?;
-    Ok((return_with(place, word, arguments), rest))
+    let (arguments, rest) = match arguments(alloc, deeper, false, rest) {
+        Ok(read) => read,
+        Err(why) => return Err(given_up(word, why)),
+    };
+    let (statement, rest) = ended(
+        return_with(place, word, arguments),
+        rest,
+        Sign::CloseParenthesis,
+    )?;
+    ended(statement, rest, Sign::Semicolon)
 }

@@ -29,3 +29,10 @@ impl<T: Drop> From<AllocFailed<T>> for Stop {
         Stop::NoMemory
     }
 }
+
+/// Why reading stops. What is at hand is let go: here once, and not part by part on each way out where it was held.
+pub fn given_up<V: Drop>(_held: V, why: Stop) -> Stop
+    ensures { result ≡ why }
+{
+    why
+}

@@ -8,7 +8,7 @@ use crate::code::Code;
 use crate::numbering::numbered;
 use acl_match::{Acl, AclEntries, AclError};
 use std::alloc::{AllocError, Global};
-use units::{Sequence, Text};
+use units::{Sequence, Text, lost};
 use vcl_calls::NameIndex;
 use vcl_check::{Program, sound_keeps};
 use vcl_values::Pattern;
@@ -31,9 +31,15 @@ impl Compiled {
         ensures tree { IfOk result (λ compiled. compiled.program.tree ≡ program.tree) }
         ensures stored { IfOk result (λ compiled. compiled.program.stored ≡ program.stored) }
     {
-        let code = numbered(alloc, &program.tree, program.stored.as_slice())?;
-        let pattern_numbers = numbers_of(alloc, &program, &code)?;
-        let acls = acls_in(alloc, &program, &code)?;
+        let Ok(code) = numbered(alloc, &program.tree, program.stored.as_slice()) else {
+            return Err(lost(program));
+        };
+        let Ok(pattern_numbers) = numbers_of(alloc, &program, &code) else {
+            return Err(lost((program, code)));
+        };
+        let Ok(acls) = acls_in(alloc, &program, &code) else {
+            return Err(lost(((program, code), pattern_numbers)));
+        };
         Ok(Compiled {
             program,
             code,
@@ -76,7 +82,9 @@ fn numbers_of(alloc: Global, program: &Program, code: &Code) -> Result<Vec<usize
     ensures { IfOk result (λ numbers. map (λ k. slice_get (pattern_texts (says program.now.tree.items)) k) numbers.items ≡ map Some code.now.arena.patterns) }
 {
     let texts = program.pattern_texts(alloc)?;
-    places(alloc, &texts, code.arena.patterns.as_slice())
+    let numbers = places(alloc, &texts, code.arena.patterns.as_slice());
+    drop(texts);
+    numbers
 }
 
 fn places(alloc: Global, texts: &NameIndex<'_>, sources: &[Text]) -> Result<Vec<usize>, AllocError>

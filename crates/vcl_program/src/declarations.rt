@@ -8,7 +8,7 @@ use crate::code::Director;
 use acl_match::AclEntries;
 use directors::DirectorKind;
 use std::alloc::{AllocError, Global};
-use units::{Sequence, Text};
+use units::{Sequence, Text, lost};
 use vcl_code::Thing;
 use vcl_language::{is_reserved, maker_named};
 use vcl_tree::{AclEntry, Action, Block, Item, Statement};
@@ -32,7 +32,9 @@ pub fn declared_in(alloc: Global, items: &[Item]) -> Result<Declarations, AllocE
 {
     let mut declarations = Declarations::new(alloc);
     for item in items {
-        declarations.item(alloc, item)?;
+        let Ok(()) = declarations.item(alloc, item) else {
+            return Err(lost(declarations));
+        };
     }
     Ok(declarations)
 }

@@ -1,18 +1,20 @@
 // A whole text in numbers.
-ghost use Rattle.std.specs.Prelude.{◌≡◌, IfOk, map, position};
+ghost use Rattle.std.specs.Prelude.{◌≡◌, [], IfOk, map, position};
 ghost use Rattle.std.specs.Option.{unwrap_or};
 ghost use Rattle.std.specs.Str.{bytes_eq};
-ghost use Rattle.vcl_program.specs.Codes.{known_in, is_default, default_of, code_of};
+ghost use Rattle.vcl_program.specs.Blocks.{heads};
+ghost use Rattle.vcl_program.specs.Codes.{known_in, is_default, default_of, own_of, built_in_of, code_of};
+ghost use Rattle.vcl_program.specs.Members.{with_items};
 
 use crate::blocks::{built_in_blocks, own_blocks};
-use crate::code::Code;
+use crate::code::{Code, Member};
 use crate::declarations::{Declarations, declared_in};
 use crate::members::members;
 use std::alloc::{AllocError, Global};
-use units::Text;
+use units::{Sequence, Text, lost};
 use vcl_calls::NameIndex;
 use vcl_code::{Arena, Names, Thing};
-use vcl_tree::Tree;
+use vcl_tree::{Item, Tree};
 use vcl_values::Backend;
 use vmod_host::Stored;
 
@@ -22,19 +24,75 @@ pub fn numbered(alloc: Global, tree: &Tree, stored: &[Stored]) -> Result<Code, A
 {
     let items = tree.items.as_slice();
     let declared = declared_in(alloc, items)?;
-    let names = names_of(alloc, &declared, stored)?;
-    let members = members(alloc, &names, items)?;
-    let mut arena = Arena::new(alloc)?;
-    let customs = own_blocks(alloc, &names, items, &mut arena)?;
-    let built_in = built_in_blocks(alloc, &names, items, &mut arena)?;
-    drop(names);
-    let default_backend = default_of(declared.backends.as_slice());
+    let Ok(parts) = parts_under(alloc, &declared, stored, items) else {
+        return Err(lost(declared));
+    };
+    let Declarations {
+        imports,
+        names,
+        things,
+        own,
+        backends,
+        acls,
+        directors,
+    } = declared;
+    drop(((imports, names), (things, own)));
+    let default_backend = default_of(backends.as_slice());
+    let built_in = parts.built_in;
     Ok(Code {
-        arena,
-        backends: declared.backends,
+        arena: parts.arena,
+        backends,
         default_backend,
-        acls: declared.acls,
-        directors: declared.directors,
+        acls,
+        directors,
+        members: parts.members,
+        customs: parts.customs,
+        built_in,
+    })
+}
+
+/// What is numbered by the names that a text declares.
+#[derive(Drop)]
+struct Parts {
+    arena: Arena,
+    members: Sequence<Member>,
+    customs: Sequence<usize>,
+    built_in: [usize; 13],
+}
+
+fn parts_under(
+    alloc: Global,
+    declared: &Declarations,
+    stored: &[Stored],
+    items: &[Item],
+) -> Result<Parts, AllocError>
+    ensures members { IfOk result (λ parts. parts.members ≡ with_items (known_in declared.now stored.now) [] items.now) }
+    ensures customs { IfOk result (λ parts. parts.customs ≡ (own_of (known_in declared.now stored.now) items.now).numbers) }
+    ensures built_in { IfOk result (λ parts. built_in_of (known_in declared.now stored.now) items.now ≡ heads parts.built_in parts.arena) }
+{
+    let names = names_of(alloc, declared, stored)?;
+    let parts = parts_of(alloc, &names, items);
+    drop(names);
+    parts
+}
+
+fn parts_of(alloc: Global, names: &Names<'_>, items: &[Item]) -> Result<Parts, AllocError>
+    ensures members { IfOk result (λ parts. parts.members ≡ with_items names.now [] items.now) }
+    ensures customs { IfOk result (λ parts. parts.customs ≡ (own_of names.now items.now).numbers) }
+    ensures built_in { IfOk result (λ parts. built_in_of names.now items.now ≡ heads parts.built_in parts.arena) }
+{
+    let members = members(alloc, names, items)?;
+    let Ok(mut arena) = Arena::new(alloc) else {
+        return Err(lost(members));
+    };
+    let Ok(customs) = own_blocks(alloc, names, items, &mut arena) else {
+        return Err(lost((members, arena)));
+    };
+    let Ok(built_in) = built_in_blocks(alloc, names, items, &mut arena) else {
+        return Err(lost(((members, arena), customs)));
+    };
+    Ok(Parts {
+        arena,
         members,
         customs,
         built_in,
@@ -48,10 +106,17 @@ fn names_of<'t>(
 ) -> Result<Names<'t>, AllocError>
     ensures { IfOk result (λ names. names ≡ known_in declared.entry.now stored.entry.now) }
 {
+    let imports = index_of(alloc, declared.imports.as_slice())?;
+    let Ok(names) = index_of(alloc, declared.names.as_slice()) else {
+        return Err(lost(imports));
+    };
+    let Ok(things) = things_of(alloc, declared.things.as_slice()) else {
+        return Err(lost((imports, names)));
+    };
     Ok(Names {
-        imports: index_of(alloc, declared.imports.as_slice())?,
-        names: index_of(alloc, declared.names.as_slice())?,
-        things: things_of(alloc, declared.things.as_slice())?,
+        imports,
+        names,
+        things,
         stored,
     })
 }

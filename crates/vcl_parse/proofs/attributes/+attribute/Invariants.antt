@@ -7,14 +7,17 @@ use Rattle.vcl_parse.proofs.attributes.+attribute.Given as goal
 abbrev pub decreases-braced_attributes : goal.decreases-braced_attributes
 decreases-braced_attributes l = 2 * length l.tokens.now
 
+abbrev pub decreases-attribute_at : goal.decreases-attribute_at
+decreases-attribute_at l = 2 * length l.tokens.now
+
 abbrev pub decreases-value : goal.decreases-value
 decreases-value l = 2 * length l.tokens.now + 1
 
-abbrev pub invariant-braced_attributes-loop-place : goal.invariant-braced_attributes-loop-place
-invariant-braced_attributes-loop-place l = record {
+abbrev pub invariant-braced_attributes-attributes : goal.invariant-braced_attributes-attributes
+invariant-braced_attributes-attributes l = record {
   shorter : length l.rest < length l.tokens;
   watched : (s : List Want) (vs : List Phrase) → watch l.depth (Read Attributes ∷ s) vs l.tokens ≡ watch l.deeper (Go MoreAttributes ∷ Take sign.CloseBrace ∷ s) (list_of l.attributes.items ∷ vs) l.rest;
 }
 
-abbrev pub decreases-braced_attributes-loop-place : goal.decreases-braced_attributes-loop-place
-decreases-braced_attributes-loop-place l = length l.rest
+abbrev pub decreases-braced_attributes-attributes : goal.decreases-braced_attributes-attributes
+decreases-braced_attributes-attributes l = length l.rest

@@ -1,6 +1,6 @@
 use Rattle.std.proofs.Common.{◌≡◌, ◌∷◌, ◌<◌, ◌+◌, ◌*◌, List, length}
 use Rattle.vcl_tree.specs.Phrase.{Phrase, Either, Both, chain, list_of}
-use Rattle.vcl_tree.specs.ExpressionView.{expression_of, sum_of}
+use Rattle.vcl_tree.specs.ExpressionView.{sum_of}
 use Rattle.vcl_parse.specs.Machine.{Want, Read, Go, Any, All, Sum, Arguments, MoreAny, MoreAll, MoreSum, MoreArguments, Take, watch}
 use Rattle.vcl_tree.specs.declared.token.Sign.TheVariants as sign
 use Rattle.vcl_parse.proofs.expressions.+expression.Given as goal
@@ -38,7 +38,7 @@ decreases-argument l = 16 * length l.tokens.now + 9
 abbrev pub invariant-any-loop-behind : goal.invariant-any-loop-behind
 invariant-any-loop-behind l = record {
   shorter : length l.rest < length l.tokens;
-  watched : (s : List Want) (vs : List Phrase) → watch l.depth (Read Any ∷ s) vs l.tokens ≡ watch l.depth (Go MoreAny ∷ s) (chain Either (expression_of l.first-inside.operation) l.others.items ∷ vs) l.rest;
+  watched : (s : List Want) (vs : List Phrase) → watch l.depth (Read Any ∷ s) vs l.tokens ≡ watch l.depth (Go MoreAny ∷ s) (chain Either l.first l.others.items ∷ vs) l.rest;
 }
 
 abbrev pub decreases-any-loop-behind : goal.decreases-any-loop-behind
@@ -47,7 +47,7 @@ decreases-any-loop-behind l = length l.rest
 abbrev pub invariant-all-loop-behind : goal.invariant-all-loop-behind
 invariant-all-loop-behind l = record {
   shorter : length l.rest < length l.tokens;
-  watched : (s : List Want) (vs : List Phrase) → watch l.depth (Read All ∷ s) vs l.tokens ≡ watch l.depth (Go MoreAll ∷ s) (chain Both (expression_of l.first-inside.operation) l.others.items ∷ vs) l.rest;
+  watched : (s : List Want) (vs : List Phrase) → watch l.depth (Read All ∷ s) vs l.tokens ≡ watch l.depth (Go MoreAll ∷ s) (chain Both l.first l.others.items ∷ vs) l.rest;
 }
 
 abbrev pub decreases-all-loop-behind : goal.decreases-all-loop-behind
@@ -56,7 +56,7 @@ decreases-all-loop-behind l = length l.rest
 abbrev pub invariant-sum-loop-sign : goal.invariant-sum-loop-sign
 invariant-sum-loop-sign l = record {
   shorter : length l.rest < length l.tokens;
-  watched : (s : List Want) (vs : List Phrase) → watch l.depth (Read Sum ∷ s) vs l.tokens ≡ watch l.depth (Go MoreSum ∷ s) (sum_of (expression_of l.first-inside.operation) l.others.items ∷ vs) l.rest;
+  watched : (s : List Want) (vs : List Phrase) → watch l.depth (Read Sum ∷ s) vs l.tokens ≡ watch l.depth (Go MoreSum ∷ s) (sum_of l.first l.others.items ∷ vs) l.rest;
 }
 
 abbrev pub decreases-sum-loop-sign : goal.decreases-sum-loop-sign

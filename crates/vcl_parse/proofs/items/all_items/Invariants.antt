@@ -5,8 +5,8 @@ use Rattle.vcl_tree.specs.TreeView.{item_of}
 use Rattle.vcl_parse.specs.Machine.{Want, Go, MoreItems, watch}
 use Rattle.vcl_parse.proofs.items.all_items.Given as goal
 
-abbrev pub invariant-loop-items : goal.invariant-loop-items
-invariant-loop-items l = (s : List Want) (vs : List Phrase) → watch 0 (Go MoreItems ∷ s) (Nothing ∷ vs) l.tokens ≡ watch 0 (Go MoreItems ∷ s) (list_of (map item_of l.items.items) ∷ vs) l.rest
+abbrev pub invariant-items : goal.invariant-items
+invariant-items l = (s : List Want) (vs : List Phrase) → watch 0 (Go MoreItems ∷ s) (Nothing ∷ vs) l.tokens ≡ watch 0 (Go MoreItems ∷ s) (list_of (map item_of l.items.items) ∷ vs) l.rest
 
-abbrev pub decreases-loop-items : goal.decreases-loop-items
-decreases-loop-items l = length l.rest
+abbrev pub decreases-items : goal.decreases-items
+decreases-items l = length l.rest

@@ -16,14 +16,14 @@ decreases-conditional l = 4 * length l.tokens.now + 3
 abbrev pub decreases-branch : goal.decreases-branch
 decreases-branch l = 4 * length l.tokens.now + 2
 
-abbrev pub invariant-block-loop-statements : goal.invariant-block-loop-statements
-invariant-block-loop-statements l = record {
+abbrev pub invariant-block-statements : goal.invariant-block-statements
+invariant-block-statements l = record {
   shorter : length l.rest < length l.tokens;
   watched : (s : List Want) (vs : List Phrase) → watch l.depth (Read Block ∷ s) vs l.tokens ≡ watch l.deeper (Go MoreStatements ∷ Take sign.CloseBrace ∷ s) (list_of l.statements.items ∷ vs) l.rest;
 }
 
-abbrev pub decreases-block-loop-statements : goal.decreases-block-loop-statements
-decreases-block-loop-statements l = length l.rest
+abbrev pub decreases-block-statements : goal.decreases-block-statements
+decreases-block-statements l = length l.rest
 
 abbrev pub invariant-conditional-branches : goal.invariant-conditional-branches
 invariant-conditional-branches l = record {
