@@ -6,3 +6,4 @@ pub mod Going
 pub mod Places
 pub mod Ends
 pub mod Live
+pub mod Subroutines

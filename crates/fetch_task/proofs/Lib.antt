@@ -2,3 +2,4 @@ pub mod Lowering
 pub mod OneWant
 pub mod Orders
 pub mod Going
+pub mod Subroutines

@@ -4,3 +4,4 @@ pub mod Asking
 pub mod Outcomes
 mod Options
 mod Texts
+mod Standard

@@ -9,6 +9,7 @@ use replay::Programs;
 use std::alloc::{AllocError, Global};
 use units::Text;
 use vcl_runner::{Executable, Run};
+use vcl_soundness::{backends_are_there, program_never_strays, standard_are_meant};
 use vcl_store::program_of;
 use vmod_host::VmodTable;
 
@@ -51,7 +52,12 @@ impl Library {
         ensures { IfOk result (λ made. IsProgramOf text.now made.compiled.program.tree made.compiled.program.stored) }
     {
         match program_of(alloc, text, &self.functions) {
-            Ok(compiled) => Ok(Executable::of(compiled, self.functions.copy()?)),
+            Ok(compiled) => {
+                program_never_strays(&compiled);
+                backends_are_there(&compiled);
+                standard_are_meant();
+                Ok(Executable::of(compiled, self.functions.copy()?))
+            }
             Err(_) => Err(AllocError),
         }
     }

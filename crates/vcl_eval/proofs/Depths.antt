@@ -14,15 +14,15 @@ use Rattle.vcl_code.specs.declared.node.Choice.TheVariants as choice
 use Rattle.vcl_program.specs.declared.code.Code.{Code}
 use Rattle.vcl_turns.specs.declared.turn.Answer.{Answer}
 use Rattle.vcl_operands.specs.Falls.{ChoicesFall}
-use Rattle.vcl_operands.specs.Outs.{Out, On, Ends, Asks, and_then, fail}
+use Rattle.vcl_operands.specs.Outs.{Out, On, Ends, Asks, Strays, and_then, fail}
 use Rattle.vcl_operands.specs.Nodes.{world, value_at}
 use Rattle.vcl_eval.specs.declared.finish.Finish.{Finish}
 use Rattle.vcl_eval.specs.declared.finish.Finish.TheVariants as finish
 use Rattle.vcl_eval.specs.declared.finish.Plan.{Plan}
 use Rattle.vcl_eval.specs.declared.finish.Plan.TheVariants as plan
 use Rattle.vcl_eval.specs.States.{State, Doing, in_state, most_statements}
-use Rattle.vcl_eval.specs.Runs.{block_on, taken_by, condition_of, asked_at, choice_within, choice_at, finished, plan_of, planned, block_done, block_within, deepest, block_at, with_operand}
-use Rattle.vcl_eval.proofs.Rises.{AtLeast, Rises, plan-rises, block-rises}
+use Rattle.vcl_eval.specs.Runs.{block_on, taken_by, condition_of, asked_at, choice_within, choice_at, finished, plan_of, planned, begun_by, block_done, block_within, deepest, block_at, with_operand}
+use Rattle.vcl_eval.proofs.Rises.{AtLeast, Rises, begun-rises, block-rises}
 
 -- the same from so many statements on
 abbrev pub SameFrom : ℕ → Doing → Doing → Type 0
@@ -32,11 +32,13 @@ pub then-same : {A B : Type 0} (k : ℕ) (m : Out State A) (f g : A → State �
 then-same k (On a s) f g h e = e a s h
 then-same k (Ends word s) f g h e = refl
 then-same k (Asks command) f g h e = refl
+then-same k Strays f g h e = refl
 
 pub in-state-same : (k : ℕ) (s : State) (o : Out (List Answer) Value) (f g : Value → Doing) → k ≤ s.statements → ((v : Value) → SameFrom k (f v) (g v)) → and_then (in_state s o) f ≡ and_then (in_state s o) g
 in-state-same k s (On v answers) f g h e = e v (record s { answers = answers }) h
 in-state-same k s (Ends word answers) f g h e = refl
 in-state-same k s (Asks command) f g h e = refl
+in-state-same k s Strays f g h e = refl
 
 operand-same : (k : ℕ) (code : Code) (stored : List Stored) (e : ℕ) (f g : Value → Doing) → ((v : Value) → SameFrom k (f v) (g v)) → SameFrom k (with_operand code stored e f) (with_operand code stored e g)
 operand-same k code stored e f g h s low = in-state-same k s (value_at (world code stored s.context) e s.answers) f g low h
@@ -83,17 +85,22 @@ plan-same k code stored f g (plan.Call j) h s low = block-on-same k f g (slice_g
 plan-same k code stored f g (plan.Choose c) h s low = choice-same k code stored f g c h s low
 plan-same k code stored f g _ h s low = refl
 
+begun-same : (k : ℕ) (code : Code) (stored : List Stored) (f g : ℕ → Doing) (o : Option Plan) → ((n : ℕ) → SameFrom k (f n) (g n)) → SameFrom k (begun_by code stored f o) (begun_by code stored g o)
+begun-same k code stored f g (Some p) h s low = plan-same k code stored f g p h s low
+begun-same k code stored f g None h s low = refl
+
 -- a statement and what is behind it
-statement-same : (k : ℕ) (code : Code) (stored : List Stored) (f g : ℕ → Doing) (p : Plan) (next : ℕ) (s : State) → k ≤ s.statements → ((n : ℕ) → SameFrom k (f n) (g n)) → ((n : ℕ) → Rises (g n))
-    → and_then (planned code stored f p s) (λ done. f next) ≡ and_then (planned code stored g p s) (λ done. g next)
+statement-same : (k : ℕ) (code : Code) (stored : List Stored) (f g : ℕ → Doing) (p : Option Plan) (next : ℕ) (s : State) → k ≤ s.statements → ((n : ℕ) → SameFrom k (f n) (g n)) → ((n : ℕ) → Rises (g n))
+    → and_then (begun_by code stored f p s) (λ done. f next) ≡ and_then (begun_by code stored g p s) (λ done. g next)
 statement-same k code stored f g p next s low h r =
-    ap (λ (o : Out State (Unit {0})). and_then o (λ done. f next)) (plan-same k code stored f g p h s low)
-    ∙ then-same k (planned code stored g p s) (λ done. f next) (λ done. g next) (least-low k s (planned code stored g p s) low (plan-rises code stored g p r s)) (λ done t there. h next t there)
+    ap (λ (o : Out State (Unit {0})). and_then o (λ done. f next)) (begun-same k code stored f g p h s low)
+    ∙ then-same k (begun_by code stored g p s) (λ done. f next) (λ done. g next) (least-low k s (begun_by code stored g p s) low (begun-rises code stored g p r s)) (λ done t there. h next t there)
   where
     least-low : (k : ℕ) (s : State) (m : Out State (Unit {0})) → k ≤ s.statements → AtLeast s.statements m → AtLeast k m
     least-low k s (On a t) low h = omega arith
     least-low k s (Ends word t) low h = tt
     least-low k s (Asks command) low h = tt
+    least-low k s Strays low h = tt
 
 pub counted-same : (d e : Doing) (b : Bool) (s : State) → nat_lt s.statements most_statements ≡ b
     → (s.statements < most_statements → d (record s { statements = s.statements + 1 }) ≡ e (record s { statements = s.statements + 1 }))
@@ -106,7 +113,7 @@ done-same : (code : Code) (stored : List Stored) (f g : ℕ → Doing) (b : Opti
 done-same code stored f g None s h r = refl
 done-same code stored f g (Some End) s h r = refl
 done-same code stored f g (Some (Then what next)) s h r =
-    counted-same (λ t. and_then (planned code stored f (plan_of what) t) (λ done. f next)) (λ t. and_then (planned code stored g (plan_of what) t) (λ done. g next))
+    counted-same (λ t. and_then (begun_by code stored f (plan_of what) t) (λ done. f next)) (λ t. and_then (begun_by code stored g (plan_of what) t) (λ done. g next))
     (nat_lt s.statements most_statements) s refl
     (λ low. statement-same (s.statements + 1) code stored f g (plan_of what) next (record s { statements = s.statements + 1 }) (le_refl (s.statements + 1)) (h low) r)
 
@@ -177,13 +184,13 @@ pub branch-is : (code : Code) → ChoicesFall code.arena.branches → (stored : 
 unfolding choice_at
 branch-is code falls stored go j b s e = branch-within code falls stored go (length code.arena.branches) j b s e (slice_get_within code.arena.branches j b e)
 
-none-within : (code : Code) (stored : List Stored) (go : ℕ → Doing) (d j : ℕ) (s : State) → slice_get code.arena.branches j ≡ None → choice_within d code stored go (choice.Branch j) s ≡ fail s
+none-within : (code : Code) (stored : List Stored) (go : ℕ → Doing) (d j : ℕ) (s : State) → slice_get code.arena.branches j ≡ None → choice_within d code stored go (choice.Branch j) s ≡ Strays
 unfolding choice_within
 none-within code stored go zero j s e = refl
 none-within code stored go (suc d) j s e =
     ap (λ (o : Option Branch). asked_at code stored (λ v. taken_by go (choice_within d code stored go) (slice_get code.arena.branches j) (truth_of v)) (option_map (λ (x : Branch). x.condition) o) s) e
 
-pub branch-none : (code : Code) (stored : List Stored) (go : ℕ → Doing) (j : ℕ) (s : State) → slice_get code.arena.branches j ≡ None → choice_at code stored go (choice.Branch j) s ≡ fail s
+pub branch-none : (code : Code) (stored : List Stored) (go : ℕ → Doing) (j : ℕ) (s : State) → slice_get code.arena.branches j ≡ None → choice_at code stored go (choice.Branch j) s ≡ Strays
 unfolding choice_at
 branch-none code stored go j s e = none-within code stored go (length code.arena.branches) j s e
 

@@ -13,7 +13,7 @@ use Rattle.vcl_code.specs.declared.node.Choice.TheVariants as choice
 use Rattle.vcl_program.specs.declared.code.Code.{Code}
 use Rattle.vcl_turns.specs.declared.turn.Answer.{Answer}
 use Rattle.vcl_operands.specs.Falls.{ChoicesFall}
-use Rattle.vcl_operands.specs.Outs.{Out, and_then, fail}
+use Rattle.vcl_operands.specs.Outs.{Out, Strays, and_then, fail}
 use Rattle.vcl_operands.proofs.Binds.{bind_bind}
 use Rattle.vcl_eval.specs.declared.finish.Finish.TheVariants as finish
 use Rattle.vcl_eval.specs.declared.live.Live.{Live}
@@ -21,7 +21,7 @@ use Rattle.vcl_eval.specs.declared.task.Task.{Task}
 use Rattle.vcl_eval.specs.declared.task.Task.TheVariants as task
 use Rattle.vcl_eval.specs.States.{State, most_statements}
 use Rattle.vcl_eval.specs.Lives.{state_of, behind, rest_of}
-use Rattle.vcl_eval.specs.Runs.{finished, planned, plan_of, taken_by, choice_at, block_done, block_at, blocks_at, with_operand}
+use Rattle.vcl_eval.specs.Runs.{finished, plan_of, begun_by, taken_by, choice_at, block_done, block_at, blocks_at, with_operand}
 use Rattle.vcl_eval.proofs.Depths.{block-is, branch-is, branch-none, nothing-is, block-chosen}
 
 -- the same left, by another task
@@ -43,7 +43,7 @@ block-by : (code : Code) (stored : List Stored) (b : ℕ) (o : Option Block) (bs
 block-by code stored b o bs s e =
     ap (λ (m : Out State (Unit {0})). and_then m (behind code stored bs)) (block-is code stored b s ∙ ap (λ (x : Option Block). block_done code stored (block_at code stored) x s) (sym e))
 
-pub block-none : (code : Code) (stored : List Stored) (b : ℕ) (bs : List ℕ) (s : State) → None ≡ slice_get code.arena.blocks b → and_then (block_at code stored b s) (behind code stored bs) ≡ fail s
+pub block-none : (code : Code) (stored : List Stored) (b : ℕ) (bs : List ℕ) (s : State) → None ≡ slice_get code.arena.blocks b → and_then (block_at code stored b s) (behind code stored bs) ≡ Strays
 block-none code stored b bs s e = block-by code stored b None bs s e
 
 pub block-ended : (code : Code) (stored : List Stored) (b : ℕ) (bs : List ℕ) (s : State) → Some End ≡ slice_get code.arena.blocks b
@@ -60,18 +60,18 @@ pub block-full : (code : Code) (stored : List Stored) (b next : ℕ) (what : Act
     → and_then (block_at code stored b s) (behind code stored bs) ≡ fail s
 block-full code stored b next what bs s e h =
     block-by code stored b (Some (Then what next)) bs s e
-    ∙ ap (λ (t : Bool). and_then (if t then and_then (planned code stored (block_at code stored) (plan_of what) (record s { statements = s.statements + 1 })) (λ done. block_at code stored next) else fail s) (behind code stored bs))
+    ∙ ap (λ (t : Bool). and_then (if t then and_then (begun_by code stored (block_at code stored) (plan_of what) (record s { statements = s.statements + 1 })) (λ done. block_at code stored next) else fail s) (behind code stored bs))
     (not-less s.statements h)
 
 pub block-begun : (code : Code) (stored : List Stored) (b next : ℕ) (what : Action) (bs mid : List ℕ) (s : State) → Some (Then what next) ≡ slice_get code.arena.blocks b → s.statements < most_statements
     → mid ≡ next ∷ bs
-    → and_then (block_at code stored b s) (behind code stored bs) ≡ and_then (planned code stored (block_at code stored) (plan_of what) (record s { statements = s.statements + 1 })) (behind code stored mid)
+    → and_then (block_at code stored b s) (behind code stored bs) ≡ and_then (begun_by code stored (block_at code stored) (plan_of what) (record s { statements = s.statements + 1 })) (behind code stored mid)
 block-begun code stored b next what bs mid s e h m =
     block-by code stored b (Some (Then what next)) bs s e
-    ∙ ap (λ (t : Bool). and_then (if t then and_then (planned code stored (block_at code stored) (plan_of what) (record s { statements = s.statements + 1 })) (λ done. block_at code stored next) else fail s) (behind code stored bs))
+    ∙ ap (λ (t : Bool). and_then (if t then and_then (begun_by code stored (block_at code stored) (plan_of what) (record s { statements = s.statements + 1 })) (λ done. block_at code stored next) else fail s) (behind code stored bs))
     (less s.statements h)
-    ∙ bind_bind (planned code stored (block_at code stored) (plan_of what) (record s { statements = s.statements + 1 })) (λ done. block_at code stored next) (behind code stored bs)
-    ∙ sym (ap (λ (l : List ℕ). and_then (planned code stored (block_at code stored) (plan_of what) (record s { statements = s.statements + 1 })) (behind code stored l)) m)
+    ∙ bind_bind (begun_by code stored (block_at code stored) (plan_of what) (record s { statements = s.statements + 1 })) (λ done. block_at code stored next) (behind code stored bs)
+    ∙ sym (ap (λ (l : List ℕ). and_then (begun_by code stored (block_at code stored) (plan_of what) (record s { statements = s.statements + 1 })) (behind code stored l)) m)
 
 -- what is taken
 pub choice-along : (code : Code) (stored : List Stored) (bs : List ℕ) (s : State) (x y : Choice) → x ≡ y
@@ -92,7 +92,7 @@ pub chosen-branch : (code : Code) → ChoicesFall code.arena.branches → (store
 chosen-branch code falls stored k b bs s e = ap (λ (o : Out State (Unit {0})). and_then o (behind code stored bs)) (branch-is code falls stored (block_at code stored) k b s (sym e))
 
 pub chosen-none : (code : Code) (stored : List Stored) (k : ℕ) (bs : List ℕ) (s : State) → None ≡ slice_get code.arena.branches k
-    → and_then (choice_at code stored (block_at code stored) (choice.Branch k) s) (behind code stored bs) ≡ fail s
+    → and_then (choice_at code stored (block_at code stored) (choice.Branch k) s) (behind code stored bs) ≡ Strays
 chosen-none code stored k bs s e = ap (λ (o : Out State (Unit {0})). and_then o (behind code stored bs)) (branch-none code stored (block_at code stored) k s (sym e))
 
 -- a branch by its condition's value
@@ -104,11 +104,11 @@ taken-is code stored k v b t bs s e h =
     ∙ ap (λ (x : Option Bool). and_then (taken_by (block_at code stored) (choice_at code stored (block_at code stored)) (slice_get code.arena.branches k) x s) (behind code stored bs)) h)
 
 pub taken-no-branch : (code : Code) (stored : List Stored) (k : ℕ) (v : Value) (bs : List ℕ) (s : State) → None ≡ slice_get code.arena.branches k
-    → and_then (finished code stored (block_at code stored) (finish.Choose k) v s) (behind code stored bs) ≡ fail s
+    → and_then (finished code stored (block_at code stored) (finish.Choose k) v s) (behind code stored bs) ≡ Strays
 taken-no-branch code stored k v bs s e = taken-is code stored k v None (truth_of v) bs s e refl
 
 pub taken-no-truth : (code : Code) (stored : List Stored) (k : ℕ) (v : Value) (b : Branch) (bs : List ℕ) (s : State) → Some b ≡ slice_get code.arena.branches k → None ≡ truth_of v
-    → and_then (finished code stored (block_at code stored) (finish.Choose k) v s) (behind code stored bs) ≡ fail s
+    → and_then (finished code stored (block_at code stored) (finish.Choose k) v s) (behind code stored bs) ≡ Strays
 taken-no-truth code stored k v b bs s e h = taken-is code stored k v (Some b) None bs s e h
 
 pub taken-true : (code : Code) (stored : List Stored) (k : ℕ) (v : Value) (b : Branch) (bs mid : List ℕ) (s : State) → Some b ≡ slice_get code.arena.branches k → Some true ≡ truth_of v → mid ≡ b.block ∷ bs

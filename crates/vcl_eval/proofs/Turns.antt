@@ -42,13 +42,19 @@ came-on code stored live fs what (outcome.Value v) answers = refl
 came-on code stored live fs what (outcome.Purge keys soft) answers = refl
 came-on code stored live fs what outcome.Fail answers = refl
 
+pub counted-is : (code : Code) (stored : List Stored) (live : Live) (fs : List Frame) (what : Finish) (o : Outcome) (n : ℤ) (t : Task) → t ≡ task_after what o
+    → ((answers : List Answer) → given_number (world code stored live.context) live.evaluation (answer.Number n) answers ≡ came_to (world code stored live.context) o fs answers) → (answers : List Answer)
+    → counted_on code stored live what n answers ≡ rest_of code stored t (record live { evaluation = fs }) answers
+counted-is code stored live fs what o n t e h answers =
+    ap (λ (x : Out (List Answer) Value). and_then (in_state (state_of live answers) x) (given_to code stored live what)) (h answers)
+    ∙ came-on code stored live fs what o answers ∙ ap (λ (x : Task). rest_of code stored x (record live { evaluation = fs }) answers) (sym e)
+
 pub counted-follows : {E : Type 0} (code : Code) (stored : List Stored) (live new : Live) (fs : List Frame) (what : Finish) (o : Outcome) (n : ℤ) (t : Task) (r : Result Stop E) → t ≡ task_after what o
     → ((answers : List Answer) → given_number (world code stored live.context) live.evaluation (answer.Number n) answers ≡ came_to (world code stored live.context) o fs answers)
     → Follows code stored (rest_of code stored t (record live { evaluation = fs })) r new → Follows code stored (counted_on code stored live what n) r new
 counted-follows code stored live new fs what o n t r e h =
     follows-along code stored (counted_on code stored live what n) (rest_of code stored t (record live { evaluation = fs })) r new
-    (λ answers. ap (λ (x : Out (List Answer) Value). and_then (in_state (state_of live answers) x) (given_to code stored live what)) (h answers)
-    ∙ came-on code stored live fs what o answers ∙ ap (λ (x : Task). rest_of code stored x (record live { evaluation = fs }) answers) (sym e))
+    (counted-is code stored live fs what o n t e h)
 
 pub begin-answered : {E : Type 0} (code : Code) (stored : List Stored) (left : Left) (a : Answer) (w : Asked) (live new : Live) (r : Result Stop E) → w ≡ asked.Begin → SuitsAsked a w
     → WaitsFor code stored left live w → Follows code stored (rest_of code stored task.Run live) r new → Follows code stored (behind_answer a left) r new

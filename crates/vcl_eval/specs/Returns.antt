@@ -1,4 +1,4 @@
--- What the words of return come to, with their values. None ends the run as `fail`.
+-- What the words of return come to, with their values. `Some None` ends the run as `fail`; None is for what no sound text has.
 use Rattle.std.specs.Prelude.{ℕ, ℤ, pos, ◌&&◌, List, Option, Some, None, option_and_then, if◌then◌else◌}
 use Rattle.vcl_values.specs.declared.value.Value.{Value}
 use Rattle.vcl_values.specs.declared.value.Value.TheVariants as value
@@ -15,30 +15,30 @@ abbrev pub answered : (ℤ → List ℕ → Return) → ℤ → List ℕ → Opt
 answered make status reason = if is_status status && is_reason reason then Some (make status reason) else None
 
 -- a word alone; `error` alone is error(503), and `synth` has a status always
-abbrev pub plain : ReturnWord → Option Return
-plain word.Hash = Some ending.Hash
-plain word.Pass = Some ending.Pass
-plain word.Purge = Some ending.Purge
-plain word.Restart = Some ending.Restart
-plain word.Lookup = Some ending.Lookup
-plain word.Deliver = Some ending.Deliver
-plain word.Fetch = Some ending.Fetch
-plain word.Abandon = Some ending.Abandon
-plain word.Retry = Some ending.Retry
-plain word.Ok = Some ending.Ok
-plain word.Error = answered ending.Error (pos 503) (reason_of (pos 503))
+abbrev pub plain : ReturnWord → Option (Option Return)
+plain word.Hash = Some (Some ending.Hash)
+plain word.Pass = Some (Some ending.Pass)
+plain word.Purge = Some (Some ending.Purge)
+plain word.Restart = Some (Some ending.Restart)
+plain word.Lookup = Some (Some ending.Lookup)
+plain word.Deliver = Some (Some ending.Deliver)
+plain word.Fetch = Some (Some ending.Fetch)
+plain word.Abandon = Some (Some ending.Abandon)
+plain word.Retry = Some (Some ending.Retry)
+plain word.Ok = Some (Some ending.Ok)
+plain word.Error = Some (answered ending.Error (pos 503) (reason_of (pos 503)))
+plain word.Fail = Some None
 plain word.Synth = None
-plain word.Fail = None
 
 -- with one value: a status whose reason goes with it, or the time of `pass`
-abbrev pub with_one : ReturnWord → Value → Option Return
-with_one word.Synth (value.Int status) = answered ending.Synth status (reason_of status)
-with_one word.Error (value.Int status) = answered ending.Error status (reason_of status)
-with_one word.Pass (value.Duration time) = Some (ending.PassFor time)
+abbrev pub with_one : ReturnWord → Value → Option (Option Return)
+with_one word.Synth (value.Int status) = Some (answered ending.Synth status (reason_of status))
+with_one word.Error (value.Int status) = Some (answered ending.Error status (reason_of status))
+with_one word.Pass (value.Duration time) = Some (Some (ending.PassFor time))
 with_one _ v = None
 
 -- with a status and a reason
-abbrev pub with_two : ReturnWord → Value → Value → Option Return
-with_two word.Synth (value.Int status) reason = option_and_then (answered ending.Synth status) (as_text reason)
-with_two word.Error (value.Int status) reason = option_and_then (answered ending.Error status) (as_text reason)
+abbrev pub with_two : ReturnWord → Value → Value → Option (Option Return)
+with_two word.Synth (value.Int status) reason = Some (option_and_then (answered ending.Synth status) (as_text reason))
+with_two word.Error (value.Int status) reason = Some (option_and_then (answered ending.Error status) (as_text reason))
 with_two _ status reason = None

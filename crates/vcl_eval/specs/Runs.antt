@@ -1,5 +1,4 @@
--- What runs of subroutines do, on a text in numbers, with the answers that they are given. What no sound text has ends the run
--- as `fail`.
+-- What runs of subroutines do, on a text in numbers, with the answers that they are given. What no sound text has strays.
 use Rattle.std.specs.Prelude.{ℕ, zero, suc, Bool, List, [], ◌∷◌, Option, Some, None, option_map, option_and_then, slice_get, slice_index, length, if◌then◌else◌}
 use Rattle.vcl_values.specs.declared.value.Value.{Value}
 use Rattle.vcl_values.specs.Values.{truth_of}
@@ -18,7 +17,7 @@ use Rattle.vcl_code.specs.declared.node.Choice.{Choice}
 use Rattle.vcl_code.specs.declared.node.Choice.TheVariants as choice
 use Rattle.vcl_program.specs.declared.code.Code.{Code}
 use Rattle.vcl_turns.specs.declared.turn.Answer.{Answer}
-use Rattle.vcl_operands.specs.Outs.{Out, and_then, fail}
+use Rattle.vcl_operands.specs.Outs.{Out, Strays, and_then, fail}
 use Rattle.vcl_operands.specs.Nodes.{world, value_at}
 use Rattle.vcl_eval.specs.declared.finish.Finish.{Finish}
 use Rattle.vcl_eval.specs.declared.finish.Finish.TheVariants as finish
@@ -26,7 +25,7 @@ use Rattle.vcl_eval.specs.declared.finish.Plan.{Plan}
 use Rattle.vcl_eval.specs.declared.finish.Plan.TheVariants as plan
 use Rattle.vcl_eval.specs.Returns.{plain, with_one, with_two}
 use Rattle.vcl_eval.specs.Statements.{set_to, field_to, append_to, append_field, key_given, body_given}
-use Rattle.vcl_eval.specs.States.{State, state, Doing, in_state, nothing, set_on, counted, ends_on, banned}
+use Rattle.vcl_eval.specs.States.{State, state, Doing, in_state, nothing, set_on, set_due, counted, ends_due, banned}
 
 -- an expression by the number of its node, and what is done with its value
 abbrev pub with_operand : Code → List Stored → ℕ → (Value → Doing) → Doing
@@ -35,12 +34,12 @@ with_operand code stored e next s = and_then (in_state s (value_at (world code s
 -- a block or nothing, if there is one
 abbrev pub block_on : (ℕ → Doing) → Option ℕ → Doing
 block_on go (Some block) s = go block s
-block_on go None s = fail s
+block_on go None s = Strays
 
 -- a branch's block, or what is taken where its condition doesn't hold
 abbrev pub taken_by : (ℕ → Doing) → (Choice → Doing) → Option Branch → Option Bool → Doing
-taken_by go other None truth s = fail s
-taken_by go other (Some branch) None s = fail s
+taken_by go other None truth s = Strays
+taken_by go other (Some branch) None s = Strays
 taken_by go other (Some branch) (Some truth) s = if truth then go branch.block s else other branch.otherwise s
 
 -- a branch by its number: its condition, and what is taken by it; what is taken otherwise has a smaller number
@@ -48,13 +47,13 @@ abbrev pub condition_of : List Branch → ℕ → Option ℕ
 condition_of branches k = option_map (λ (b : Branch). b.condition) (slice_get branches k)
 
 abbrev pub asked_at : Code → List Stored → (Value → Doing) → Option ℕ → Doing
-asked_at code stored next None s = fail s
+asked_at code stored next None s = Strays
 asked_at code stored next (Some e) s = with_operand code stored e next s
 
 unfoldable pub choice_within : ℕ → Code → List Stored → (ℕ → Doing) → Choice → Doing
 choice_within depth code stored go choice.Nothing s = nothing s
 choice_within depth code stored go (choice.Block block) s = go block s
-choice_within zero code stored go (choice.Branch k) s = fail s
+choice_within zero code stored go (choice.Branch k) s = Strays
 choice_within (suc depth) code stored go (choice.Branch k) s =
     asked_at code stored (λ v. taken_by go (choice_within depth code stored go) (slice_get code.arena.branches k) (truth_of v)) (condition_of code.arena.branches k) s
 
@@ -63,52 +62,55 @@ choice_at code stored go other s = choice_within (length code.arena.branches) co
 
 -- what is done with an expression's value
 abbrev pub finished : Code → List Stored → (ℕ → Doing) → Finish → Value → Doing
-finished code stored go (finish.Assign variable) v s = set_on (set_to variable v s.context) s
-finished code stored go (finish.Append variable) v s = set_on (append_to variable v s.context) s
-finished code stored go (finish.AssignField message k) v s = set_on (option_and_then (λ name. field_to message name v s.context) (slice_get code.arena.texts k)) s
-finished code stored go (finish.AppendField message k) v s = set_on (option_and_then (λ name. append_field message name v s.context) (slice_get code.arena.texts k)) s
+finished code stored go (finish.Assign variable) v s = set_due (set_to variable v s.context) s
+finished code stored go (finish.Append variable) v s = set_due (append_to variable v s.context) s
+finished code stored go (finish.AssignField message k) v s = set_due (option_and_then (λ name. field_to message name v s.context) (slice_get code.arena.texts k)) s
+finished code stored go (finish.AppendField message k) v s = set_due (option_and_then (λ name. append_field message name v s.context) (slice_get code.arena.texts k)) s
 finished code stored go finish.HashData v s = set_on (key_given v s.context) s
 finished code stored go finish.Synthetic v s = set_on (body_given v s.context) s
 finished code stored go finish.Ban v s = banned v s
 finished code stored go finish.Forget v s = nothing s
 finished code stored go (finish.Choose k) v s = taken_by go (choice_at code stored go) (slice_get code.arena.branches k) (truth_of v) s
-finished code stored go (finish.Return word) v s = ends_on (with_one word v) s
-finished code stored go (finish.ReturnFirst word e) v s = with_operand code stored e (λ w. ends_on (with_two word v w)) s
-finished code stored go (finish.ReturnSecond word v) w s = ends_on (with_two word v w) s
+finished code stored go (finish.Return word) v s = ends_due (with_one word v) s
+finished code stored go (finish.ReturnFirst word e) v s = with_operand code stored e (λ w. ends_due (with_two word v w)) s
+finished code stored go (finish.ReturnSecond word v) w s = ends_due (with_two word v w) s
 
 -- how a statement begins: with an expression, at once, or with another block
-abbrev pub plan_of : Action → Plan
-plan_of action.Absent = plan.Fail
-plan_of (action.Set variable e) = plan.Evaluate e (finish.Assign variable)
-plan_of (action.Append variable e) = plan.Evaluate e (finish.Append variable)
-plan_of (action.SetField message k e) = plan.Evaluate e (finish.AssignField message k)
-plan_of (action.AppendField message k e) = plan.Evaluate e (finish.AppendField message k)
-plan_of (action.UnsetField message k) = plan.Unset message k
-plan_of (action.Call k) = plan.Call k
-plan_of (action.If taken) = plan.Choose taken
-plan_of (action.Return word Zero) = plan.Return word
-plan_of (action.Return word (One e)) = plan.Evaluate e (finish.Return word)
-plan_of (action.Return word (Two e f)) = plan.Evaluate e (finish.ReturnFirst word f)
-plan_of (action.Return word (Three e f g)) = plan.Fail
-plan_of (action.Return word More) = plan.Fail
-plan_of (action.HashData e) = plan.Evaluate e finish.HashData
-plan_of (action.Synthetic e) = plan.Evaluate e finish.Synthetic
-plan_of (action.Ban e) = plan.Evaluate e finish.Ban
-plan_of (action.Evaluate e) = plan.Evaluate e finish.Forget
+abbrev pub plan_of : Action → Option Plan
+plan_of (action.Set variable e) = Some (plan.Evaluate e (finish.Assign variable))
+plan_of (action.Append variable e) = Some (plan.Evaluate e (finish.Append variable))
+plan_of (action.SetField message k e) = Some (plan.Evaluate e (finish.AssignField message k))
+plan_of (action.AppendField message k e) = Some (plan.Evaluate e (finish.AppendField message k))
+plan_of (action.UnsetField message k) = Some (plan.Unset message k)
+plan_of (action.Call k) = Some (plan.Call k)
+plan_of (action.If taken) = Some (plan.Choose taken)
+plan_of (action.Return word Zero) = Some (plan.Return word)
+plan_of (action.Return word (One e)) = Some (plan.Evaluate e (finish.Return word))
+plan_of (action.Return word (Two e f)) = Some (plan.Evaluate e (finish.ReturnFirst word f))
+plan_of (action.Return word (Three e f g)) = None
+plan_of (action.Return word More) = None
+plan_of (action.HashData e) = Some (plan.Evaluate e finish.HashData)
+plan_of (action.Synthetic e) = Some (plan.Evaluate e finish.Synthetic)
+plan_of (action.Ban e) = Some (plan.Evaluate e finish.Ban)
+plan_of (action.Evaluate e) = Some (plan.Evaluate e finish.Forget)
+plan_of action.Absent = None
 
 abbrev pub planned : Code → List Stored → (ℕ → Doing) → Plan → Doing
 planned code stored go (plan.Evaluate e what) s = with_operand code stored e (finished code stored go what) s
-planned code stored go (plan.Unset message k) s = set_on (option_map (λ name. field_unset message name s.context) (slice_get code.arena.texts k)) s
+planned code stored go (plan.Unset message k) s = set_due (option_map (λ name. Some (field_unset message name s.context)) (slice_get code.arena.texts k)) s
 planned code stored go (plan.Call k) s = block_on go (slice_get code.customs k) s
 planned code stored go (plan.Choose other) s = choice_at code stored go other s
-planned code stored go (plan.Return word) s = ends_on (plain word) s
-planned code stored go plan.Fail s = fail s
+planned code stored go (plan.Return word) s = ends_due (plain word) s
+
+abbrev pub begun_by : Code → List Stored → (ℕ → Doing) → Option Plan → Doing
+begun_by code stored go (Some p) s = planned code stored go p s
+begun_by code stored go None s = Strays
 
 -- a block: its statement, which is counted, and then the block behind it
 abbrev pub block_done : Code → List Stored → (ℕ → Doing) → Option Block → Doing
-block_done code stored go None s = fail s
+block_done code stored go None s = Strays
 block_done code stored go (Some End) s = nothing s
-block_done code stored go (Some (Then what next)) s = counted (λ s. and_then (planned code stored go (plan_of what) s) (λ done. go next)) s
+block_done code stored go (Some (Then what next)) s = counted (λ s. and_then (begun_by code stored go (plan_of what) s) (λ done. go next)) s
 
 -- blocks nest no deeper than statements are counted
 unfoldable pub block_within : ℕ → Code → List Stored → ℕ → Doing

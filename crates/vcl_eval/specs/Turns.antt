@@ -6,7 +6,7 @@ use Rattle.vcl_program.specs.declared.code.Code.{Code}
 use Rattle.vcl_turns.specs.declared.turn.Answer.{Answer}
 use Rattle.vcl_turns.specs.declared.turn.Answer.TheVariants as answer
 use Rattle.vcl_turns.specs.declared.turn.Command.TheVariants as command
-use Rattle.vcl_operands.specs.Outs.{Out, On, Ends, Asks}
+use Rattle.vcl_operands.specs.Outs.{Out, On, Ends, Asks, Strays, IsSure}
 use Rattle.vcl_eval.specs.declared.live.Live.{Live}
 use Rattle.vcl_eval.specs.declared.machine.Asked.{Asked}
 use Rattle.vcl_eval.specs.declared.machine.Asked.TheVariants as asked
@@ -36,6 +36,19 @@ WaitsAt code stored left (Some w) = WaitsFor code stored left w.live w.asked
 abbrev pub IsAt : Code → List Stored → Left → Machine → Type 0
 IsAt code stored left machine = WaitsAt code stored left machine.waiting
 
+-- whatever it is answered, it doesn't stray
+abbrev pub SureFor : Code → List Stored → Live → Asked → Type 0
+SureFor code stored live asked.Begin = (answers : List Answer) → IsSure (rest_of code stored task.Run live answers)
+SureFor code stored live asked.Ban = (answers : List Answer) → IsSure (rest_of code stored task.Run live answers)
+SureFor code stored live (asked.Purge what) = (n : ℤ) (answers : List Answer) → IsSure (counted_on code stored live what n answers)
+
+abbrev pub SureWaiting : Code → List Stored → Option Waiting → Type 0
+SureWaiting code stored None = Unit {0}
+SureWaiting code stored (Some w) = SureFor code stored w.live w.asked
+
+abbrev pub IsSureAt : Code → List Stored → Machine → Type 0
+IsSureAt code stored machine = SureWaiting code stored machine.waiting
+
 -- the answer is the one that is waited for; one that has ended, or wanted memory, waits for none
 abbrev pub SuitsAsked : Answer → Asked → Type 0
 SuitsAsked answer.Begin asked.Begin = Unit {0}
@@ -64,6 +77,7 @@ abbrev pub EndsAs : Out State (Unit {0}) → Turn → Type 0
 EndsAs (Ends word s) t = t ≡ turn.End word (closed s)
 EndsAs (On done s) t = ⊥
 EndsAs (Asks wanted) t = ⊥
+EndsAs Strays t = ⊥
 
 -- a turn of what is left: it wants this command and the machine waits for its answer, or it ends so whatever comes
 abbrev pub IsTurn : Code → List Stored → Left → Turn → Machine → Type 0

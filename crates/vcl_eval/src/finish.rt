@@ -1,5 +1,5 @@
 // How statements begin and what is done with the values of their expressions.
-ghost use Rattle.std.specs.Prelude.{◌≡◌};
+ghost use Rattle.std.specs.Prelude.{◌≡◌, IsSome, Some};
 ghost use Rattle.vcl_eval.specs.Runs.{plan_of};
 
 use vcl_code::{Action, Arguments, Choice, ReturnWord};
@@ -35,15 +35,14 @@ pub enum Plan {
     Call(usize),
     Choose(Choice),
     Return(ReturnWord),
-    Fail,
 }
 
 /// How a statement begins.
 pub fn plan_of(action: Action) -> Plan
-    ensures { result ≡ plan_of action }
+    requires { IsSome (plan_of action) }
+    ensures { plan_of action ≡ Some result }
 {
     match action {
-        Action::Absent => Plan::Fail,
         Action::Set(variable, e) => Plan::Evaluate(e, Finish::Assign(variable)),
         Action::Append(variable, e) => Plan::Evaluate(e, Finish::Append(variable)),
         Action::SetField(message, name, e) => {
@@ -60,10 +59,12 @@ pub fn plan_of(action: Action) -> Plan
         Action::Return(word, Arguments::Two(e, f)) => {
             Plan::Evaluate(e, Finish::ReturnFirst(word, f))
         }
-        Action::Return(_, Arguments::Three(_, _, _) | Arguments::More) => Plan::Fail,
         Action::HashData(e) => Plan::Evaluate(e, Finish::HashData),
         Action::Synthetic(e) => Plan::Evaluate(e, Finish::Synthetic),
         Action::Ban(e) => Plan::Evaluate(e, Finish::Ban),
         Action::Evaluate(e) => Plan::Evaluate(e, Finish::Forget),
+        Action::Return(_, Arguments::Three(_, _, _) | Arguments::More) | Action::Absent => {
+            unreachable!()
+        }
     }
 }

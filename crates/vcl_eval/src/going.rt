@@ -1,8 +1,9 @@
 // Runs from one command to the next.
 ghost use Rattle.std.specs.Prelude.{◌≡◌, ◌<◌, List, IfOk};
 ghost use Rattle.vcl_turns.specs.declared.turn.Answer.{Answer as AnswerHere};
+ghost use Rattle.vcl_operands.specs.Outs.{IsSure};
 ghost use Rattle.vcl_eval.specs.Lives.{rest_of, task_after, stopped, counted_on};
-ghost use Rattle.vcl_eval.specs.Turns.{Left, WaitsFor, SuitsAsked, behind_answer};
+ghost use Rattle.vcl_eval.specs.Turns.{Left, WaitsFor, SureFor, SuitsAsked, behind_answer};
 ghost use Rattle.vcl_eval.specs.Weights.{weight, amount, IsTidy, TidyAsked, left_asked, StopsLeft};
 
 use crate::finish::Finish;
@@ -25,7 +26,8 @@ impl Live {
         asked: Asked,
         answer: Answer,
     ) -> Result<Stop, AllocError>
-        requires { SuitsAsked answer asked }
+        requires suits { SuitsAsked answer asked }
+        requires sure { SureFor program.now.code functions.now.stored self.old asked }
         ensures value { (left : Left) → WaitsFor program.now.code functions.now.stored left self.old asked → IfOk result (λ stop. (answers : List AnswerHere)
             → behind_answer answer left answers ≡ rest_of program.now.code functions.now.stored (stopped stop) self.new answers) }
         ensures less { TidyAsked program.now.code self.old asked → IfOk result (λ stop. StopsLeft program.now.code (left_asked program.now.code self.old asked) stop self.new) }
@@ -48,6 +50,7 @@ impl Live {
         functions: &VmodTable,
         first: Task,
     ) -> Result<Stop, AllocError>
+        requires { (answers : List AnswerHere) → IsSure (rest_of program.now.code functions.now.stored first self.old answers) }
         ensures value { IfOk result (λ stop. (answers : List AnswerHere) → rest_of program.now.code functions.now.stored first self.old answers
             ≡ rest_of program.now.code functions.now.stored (stopped stop) self.new answers) }
         ensures less { IsTidy program.now.code first self.old → IfOk result (λ stop. StopsLeft program.now.code (amount program.now.code first self.old) stop self.new) }
@@ -76,6 +79,7 @@ impl Live {
         what: Finish,
         count: i64,
     ) -> Result<Stop, AllocError>
+        requires { (answers : List AnswerHere) → IsSure (counted_on program.now.code functions.now.stored self.old what count answers) }
         ensures value { IfOk result (λ stop. (answers : List AnswerHere) → counted_on program.now.code functions.now.stored self.old what count answers
             ≡ rest_of program.now.code functions.now.stored (stopped stop) self.new answers) }
         ensures less { TidyAsked program.now.code self.old (Asked.Purge what)
@@ -96,6 +100,7 @@ impl Live {
         number: usize,
         what: Finish,
     ) -> Result<Task, AllocError>
+        requires { (answers : List AnswerHere) → IsSure (rest_of program.now.code functions.now.stored (Task.Evaluate number what) self.old answers) }
         ensures value { IfOk result (λ task. (answers : List AnswerHere) → rest_of program.now.code functions.now.stored (Task.Evaluate number what) self.old answers
             ≡ rest_of program.now.code functions.now.stored task self.new answers) }
         ensures smaller { IfOk result (λ task. weight program.now.code task self.new < weight program.now.code (Task.Evaluate number what) self.old) }

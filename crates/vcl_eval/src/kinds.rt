@@ -1,6 +1,6 @@
-// The types of variables, and which are set to what.
+// The types of variables.
 ghost use Rattle.std.specs.Prelude.{◌≡◌};
-ghost use Rattle.vcl_context.specs.Kinds.{kind_of_variable, accepts, fits, is_set, is_set_request, is_set_fetch_request, is_set_fetch_response, is_set_response, request_kind, object_kind, fetch_request_kind, fetch_response_kind, response_kind};
+ghost use Rattle.vcl_context.specs.Kinds.{kind_of_variable, request_kind, object_kind, fetch_request_kind, fetch_response_kind, response_kind};
 
 use vcl_context::{
     FetchRequestVariable, FetchResponseVariable, ObjectVariable, RequestVariable, ResponseVariable,
@@ -78,41 +78,5 @@ fn response_kind(variable: ResponseVariable) -> Kind
     match variable {
         ResponseVariable::Status => Kind::Int,
         _ => Kind::String,
-    }
-}
-
-/// Whether a variable is set to a value of this type.
-pub fn accepts(variable: Variable, given: Kind) -> bool
-    ensures { result ≡ accepts variable given }
-{
-    is_set(variable)
-        && (kind_of_variable(variable) == Kind::String || kind_of_variable(variable) == given)
-}
-
-fn is_set(variable: Variable) -> bool
-    ensures { result ≡ is_set variable }
-{
-    match variable {
-        Variable::ClientIdentity | Variable::Body => true,
-        Variable::Request(request) => !matches!(
-            request,
-            RequestVariable::Proto
-                | RequestVariable::Restarts
-                | RequestVariable::IsHitmiss
-                | RequestVariable::IsHitpass
-        ),
-        Variable::FetchRequest(fetch) => matches!(
-            fetch,
-            FetchRequestVariable::Method | FetchRequestVariable::Url | FetchRequestVariable::Backend
-        ),
-        Variable::FetchResponse(fetched) => !matches!(
-            fetched,
-            FetchResponseVariable::Proto
-                | FetchResponseVariable::Age
-                | FetchResponseVariable::Was304
-                | FetchResponseVariable::Backend
-        ),
-        Variable::Response(response) => !matches!(response, ResponseVariable::Proto),
-        Variable::ClientIp | Variable::ServerIp | Variable::Object(_) => false,
     }
 }

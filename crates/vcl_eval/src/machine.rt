@@ -2,13 +2,13 @@
 ghost use Rattle.std.specs.Prelude.{◌≡◌, ℕ, List, IfOk, OnOk, OnErr, IsSome, None, option_map};
 ghost use Rattle.vmod_host.specs.declared.signature.Stored.{Stored};
 ghost use Rattle.vcl_turns.specs.declared.turn.Answer.{Answer as AnswerHere};
-ghost use Rattle.vcl_operands.specs.Outs.{Out};
+ghost use Rattle.vcl_operands.specs.Outs.{Out, IsSure};
 ghost use Rattle.vcl_eval.specs.States.{State};
 ghost use Rattle.vcl_program.specs.declared.code.Code.{Code};
 ghost use Rattle.vcl_eval.specs.Lives.{rest_of, stopped};
 ghost use Rattle.vcl_eval.specs.Runs.{run_at};
 ghost use Rattle.vcl_eval.specs.Weights.{IsTidyAt, left_in, Lessens, TidyAsked, left_asked, StopsLeft, StopsBehind};
-ghost use Rattle.vcl_eval.specs.Turns.{Left, WaitsFor, IsAt, SuitsAsked, Suits, behind_answer, IsTurn, IsTurnBehind, SuitsBehind, waits_for};
+ghost use Rattle.vcl_eval.specs.Turns.{Left, WaitsFor, IsAt, SureFor, IsSureAt, SuitsAsked, Suits, behind_answer, IsTurn, IsTurnBehind, SuitsBehind, waits_for};
 
 use crate::finish::Finish;
 use crate::live::Live;
@@ -56,6 +56,7 @@ impl Machine {
         ensures at { (stored : List Stored) → IfOk result (IsAt program.now.code stored (run_at program.now.code stored subroutine context)) }
         ensures suits { IfOk result (Suits Answer.Begin) }
         ensures tidy { IfOk result (IsTidyAt program.now.code) }
+        ensures sure { (stored : List Stored) → ((answers : List AnswerHere) → IsSure (run_at program.now.code stored subroutine context answers)) → IfOk result (IsSureAt program.now.code stored) }
     {
         let mut ahead = Stack::new(alloc);
         ahead.push(program.code.built_in[number_of(subroutine)])?;
@@ -73,7 +74,8 @@ impl Machine {
         })
     }
 
-    /// Goes on with an answer until a command is wanted or the subroutine ends. After want of memory it answers that for ever.
+    /// Goes on with an answer until a command is wanted or the subroutine ends, on a run that doesn't stray. After want of memory
+    /// it answers that for ever.
     pub fn resume(
         &mut self,
         alloc: Global,
@@ -81,10 +83,12 @@ impl Machine {
         functions: &VmodTable,
         answer: Answer,
     ) -> Result<Turn, AllocError>
-        requires { Suits answer self.old }
+        requires suits { Suits answer self.old }
+        requires sure { IsSureAt program.now.code functions.now.stored self.old }
         ensures turn { (left : List AnswerHere → Out State (Unit {0})) → IsAt program.now.code functions.now.stored left self.old
             → IfOk result (λ turn. IsTurn program.now.code functions.now.stored (behind_answer answer left) turn self.new) }
         ensures suits { IfOk result (λ turn. SuitsBehind turn self.new) }
+        ensures sure { IfOk result (λ turn. IsSureAt program.now.code functions.now.stored self.new) }
         ensures wanting { OnErr result (self.new.waiting ≡ None) }
         ensures alive { OnOk result (IsSome self.old.waiting) }
         ensures less { IsTidyAt program.now.code self.old → IfOk result (λ turn. Lessens program.now.code (left_in program.now.code self.old) turn self.new) }
@@ -143,7 +147,8 @@ impl Waiting {
         functions: &VmodTable,
         answer: Answer,
     ) -> Result<Stop, AllocError>
-        requires { SuitsAsked answer self.old.asked }
+        requires suits { SuitsAsked answer self.old.asked }
+        requires sure { SureFor program.now.code functions.now.stored self.old.live self.old.asked }
         ensures value { (left : Left) → WaitsFor program.now.code functions.now.stored left self.old.live self.old.asked → IfOk result (λ stop. (answers : List AnswerHere)
             → behind_answer answer left answers ≡ rest_of program.now.code functions.now.stored (stopped stop) self.new.live answers) }
         ensures less { TidyAsked program.now.code self.old.live self.old.asked

@@ -1,5 +1,5 @@
 // How a subroutine returns.
-ghost use Rattle.std.specs.Prelude.{◌≡◌, IfOk};
+ghost use Rattle.std.specs.Prelude.{◌≡◌, IfOk, IsSome, Some};
 ghost use Rattle.vcl_context.specs.Carried.{is_status, is_reason};
 ghost use Rattle.vcl_eval.specs.Returns.{plain, with_one, with_two, answered};
 ghost use Rattle.vcl_eval.specs.Statuses.{reason_of};
@@ -12,9 +12,10 @@ use vcl_operands::short_text;
 use vcl_turns::Return;
 use vcl_values::Value;
 
-/// A word alone.
+/// A word alone, or none where the run ends as `fail`.
 pub fn plain(alloc: Global, word: ReturnWord) -> Result<Option<Return>, AllocError>
-    ensures { IfOk result (λ ending. ending ≡ plain word) }
+    requires { IsSome (plain word) }
+    ensures { IfOk result (λ ending. plain word ≡ Some ending) }
 {
     match word {
         ReturnWord::Hash => Ok(Some(Return::Hash)),
@@ -28,7 +29,8 @@ pub fn plain(alloc: Global, word: ReturnWord) -> Result<Option<Return>, AllocErr
         ReturnWord::Retry => Ok(Some(Return::Retry)),
         ReturnWord::Ok => Ok(Some(Return::Ok)),
         ReturnWord::Error => Ok(erred(503, reason_of(alloc, 503)?)),
-        ReturnWord::Synth | ReturnWord::Fail => Ok(None),
+        ReturnWord::Fail => Ok(None),
+        ReturnWord::Synth => unreachable!(),
     }
 }
 
@@ -38,7 +40,8 @@ pub fn with_one(
     word: ReturnWord,
     value: &Value,
 ) -> Result<Option<Return>, AllocError>
-    ensures { IfOk result (λ ending. ending ≡ with_one word value.now) }
+    requires { IsSome (with_one word value.now) }
+    ensures { IfOk result (λ ending. with_one word value.now ≡ Some ending) }
 {
     match (word, value) {
         (ReturnWord::Synth, Value::Int(status)) => {
@@ -46,7 +49,7 @@ pub fn with_one(
         }
         (ReturnWord::Error, Value::Int(status)) => Ok(erred(*status, reason_of(alloc, *status)?)),
         (ReturnWord::Pass, Value::Duration(time)) => Ok(Some(Return::PassFor(*time))),
-        _ => Ok(None),
+        _ => unreachable!(),
     }
 }
 
@@ -57,7 +60,8 @@ pub fn with_two(
     status: &Value,
     reason: &Value,
 ) -> Result<Option<Return>, AllocError>
-    ensures { IfOk result (λ ending. ending ≡ with_two word status.now reason.now) }
+    requires { IsSome (with_two word status.now reason.now) }
+    ensures { IfOk result (λ ending. with_two word status.now reason.now ≡ Some ending) }
 {
     match (word, status) {
         (ReturnWord::Synth, Value::Int(status)) => match short_text(alloc, reason)? {
@@ -68,7 +72,7 @@ pub fn with_two(
             Some(reason) => Ok(erred(*status, reason)),
             None => Ok(None),
         },
-        _ => Ok(None),
+        _ => unreachable!(),
     }
 }
 

@@ -1,10 +1,10 @@
 // What statements set.
-ghost use Rattle.std.specs.Prelude.{◌≡◌, IfOk};
-ghost use Rattle.vcl_context.specs.Kinds.{kind_of_variable, accepts};
+ghost use Rattle.std.specs.Prelude.{◌≡◌, IfOk, IsSome};
+ghost use Rattle.vcl_context.specs.Kinds.{kind_of_variable};
 ghost use Rattle.vcl_context.specs.Outcomes.{Sets};
-ghost use Rattle.vcl_eval.specs.Statements.{set_fitted, set_to, field_to, appended, append_to, append_field, key_given, body_given};
+ghost use Rattle.vcl_eval.specs.Statements.{set_fitted, set_to, field_to, appended, append_to, append_field, key_given, body_given, SetsDue};
 
-use crate::kinds::{accepts, kind_of_variable};
+use crate::kinds::kind_of_variable;
 use std::alloc::{AllocError, Global};
 use units::Text;
 use vcl_context::{Context, Message, Setting, Variable};
@@ -18,7 +18,8 @@ pub fn set_to(
     variable: Variable,
     value: &Value,
 ) -> Result<Setting, AllocError>
-    ensures { Sets result context.old context.new (set_to variable value.now context.old) }
+    requires { IsSome (set_to variable value.now context.old) }
+    ensures { SetsDue result context.old context.new (set_to variable value.now context.old) }
 {
     match fitted(alloc, kind_of_variable(variable), value)? {
         Some(value) => set_fitted(alloc, context, variable, &value),
@@ -32,13 +33,10 @@ fn set_fitted(
     variable: Variable,
     value: &Value,
 ) -> Result<Setting, AllocError>
-    ensures { Sets result context.old context.new (set_fitted variable context.old value.now) }
+    requires { IsSome (set_fitted variable context.old value.now) }
+    ensures { SetsDue result context.old context.new (set_fitted variable context.old value.now) }
 {
-    if accepts(variable, value.kind()) {
-        context.set(alloc, variable, value)
-    } else {
-        Ok(Setting::Refused)
-    }
+    context.set(alloc, variable, value)
 }
 
 /// Sets a field to a value's text.
@@ -49,7 +47,7 @@ pub fn field_to(
     name: &Text,
     value: &Value,
 ) -> Result<Setting, AllocError>
-    ensures { Sets result context.old context.new (field_to message name.now value.now context.old) }
+    ensures { SetsDue result context.old context.new (field_to message name.now value.now context.old) }
 {
     match fitted(alloc, Kind::String, value)? {
         Some(value) => context.set_field(alloc, message, name, &value),
@@ -76,7 +74,8 @@ pub fn append_to(
     variable: Variable,
     value: &Value,
 ) -> Result<Setting, AllocError>
-    ensures { Sets result context.old context.new (append_to variable value.now context.old) }
+    requires { IsSome (append_to variable value.now context.old) }
+    ensures { SetsDue result context.old context.new (append_to variable value.now context.old) }
 {
     let old = context.read(alloc, variable)?;
     match appended(alloc, &old, value)? {
@@ -93,7 +92,7 @@ pub fn append_field(
     name: &Text,
     value: &Value,
 ) -> Result<Setting, AllocError>
-    ensures { Sets result context.old context.new (append_field message name.now value.now context.old) }
+    ensures { SetsDue result context.old context.new (append_field message name.now value.now context.old) }
 {
     let old = context.read_field(message, name.bytes())?;
     match appended(alloc, &old, value)? {

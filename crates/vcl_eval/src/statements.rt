@@ -2,7 +2,7 @@
 ghost use Rattle.std.specs.Prelude.{◌≡◌, ◌<◌, ◌≤◌, ◌+◌, List, IfOk, length, slice_get, option_copied};
 ghost use Rattle.vmod_host.specs.declared.signature.Stored.{Stored};
 ghost use Rattle.vcl_turns.specs.declared.turn.Answer.{Answer};
-ghost use Rattle.vcl_operands.specs.Outs.{and_then};
+ghost use Rattle.vcl_operands.specs.Outs.{and_then, IsSure};
 ghost use Rattle.vcl_eval.specs.Lives.{state_of, behind, rest_of, ended, told};
 ghost use Rattle.vcl_eval.specs.Weights.{weight, run_weight, plan_weight, choice_weight, most_weight, IsStep};
 ghost use Rattle.vcl_eval.specs.Runs.{planned, choice_at, block_at};
@@ -31,6 +31,7 @@ impl Live {
         alloc: Global,
         program: &Compiled,
     ) -> Result<Task, AllocError>
+        requires { (stored : List Stored) × ((answers : List Answer) → IsSure (rest_of program.now.code stored Task.Run self.old answers)) }
         ensures value { (stored : List Stored) → IfOk result (λ task. (answers : List Answer) → rest_of program.now.code stored Task.Run self.old answers
             ≡ rest_of program.now.code stored task self.new answers) }
         ensures smaller { IfOk result (λ task. weight program.now.code task self.new < weight program.now.code Task.Run self.old) }
@@ -48,6 +49,7 @@ impl Live {
         program: &Compiled,
         number: usize,
     ) -> Result<Task, AllocError>
+        requires { (stored : List Stored) × ((answers : List Answer) → IsSure (and_then (block_at program.now.code stored number (state_of self.old answers)) (behind program.now.code stored self.old.ahead))) }
         ensures value { (stored : List Stored) → IfOk result (λ task. (answers : List Answer)
             → and_then (block_at program.now.code stored number (state_of self.old answers)) (behind program.now.code stored self.old.ahead)
             ≡ rest_of program.now.code stored task self.new answers) }
@@ -55,7 +57,7 @@ impl Live {
         ensures step { IfOk result IsStep }
     {
         match block_at(program, number) {
-            None => Ok(Task::End(Return::Fail)),
+            None => unreachable!(),
             Some(Block::End) => Ok(Task::Run),
             Some(Block::Then(action, next)) => {
                 if self.statements >= MOST_STATEMENTS {
@@ -70,6 +72,7 @@ impl Live {
 
     // A statement begins.
     fn begun(&mut self, alloc: Global, program: &Compiled, plan: Plan) -> Result<Task, AllocError>
+        requires { (stored : List Stored) × ((answers : List Answer) → IsSure (and_then (planned program.now.code stored (block_at program.now.code stored) plan (state_of self.old answers)) (behind program.now.code stored self.old.ahead))) }
         ensures value { (stored : List Stored) → IfOk result (λ task. (answers : List Answer)
             → and_then (planned program.now.code stored (block_at program.now.code stored) plan (state_of self.old answers)) (behind program.now.code stored self.old.ahead)
             ≡ rest_of program.now.code stored task self.new answers) }
@@ -79,28 +82,28 @@ impl Live {
     {
         match plan {
             Plan::Evaluate(e, what) => Ok(Task::Evaluate(e, what)),
-            Plan::Unset(message, number) => match text_at(program, number) {
-                Some(name) => {
-                    self.context.unset_field(message, name.bytes());
-                    Ok(Task::Run)
-                }
-                None => Ok(Task::End(Return::Fail)),
-            },
-            Plan::Call(number) => match custom_at(program, number) {
-                Some(block) => {
-                    self.ahead.push(block)?;
-                    Ok(Task::Run)
-                }
-                None => Ok(Task::End(Return::Fail)),
-            },
+            Plan::Unset(message, number) => {
+                let Some(name) = text_at(program, number) else {
+                    unreachable!();
+                };
+                self.context.unset_field(message, name.bytes());
+                Ok(Task::Run)
+            }
+            Plan::Call(number) => {
+                let Some(block) = custom_at(program, number) else {
+                    unreachable!();
+                };
+                self.ahead.push(block)?;
+                Ok(Task::Run)
+            }
             Plan::Choose(choice) => self.chosen(program, choice),
             Plan::Return(word) => Ok(ended(plain(alloc, word)?)),
-            Plan::Fail => Ok(Task::End(Return::Fail)),
         }
     }
 
     // What is taken where no condition before it held.
     fn chosen(&mut self, program: &Compiled, choice: Choice) -> Result<Task, AllocError>
+        requires { (stored : List Stored) × ((answers : List Answer) → IsSure (and_then (choice_at program.now.code stored (block_at program.now.code stored) choice (state_of self.old answers)) (behind program.now.code stored self.old.ahead))) }
         ensures value { (stored : List Stored) → IfOk result (λ task. (answers : List Answer)
             → and_then (choice_at program.now.code stored (block_at program.now.code stored) choice (state_of self.old answers)) (behind program.now.code stored self.old.ahead)
             ≡ rest_of program.now.code stored task self.new answers) }
@@ -118,7 +121,7 @@ impl Live {
             }
             Choice::Branch(number) => match branch_at(program, number) {
                 Some(branch) => Ok(Task::Evaluate(branch.condition, Finish::Choose(number))),
-                None => Ok(Task::End(Return::Fail)),
+                None => unreachable!(),
             },
         }
     }
@@ -131,6 +134,7 @@ impl Live {
         what: Finish,
         value: Value,
     ) -> Result<Task, AllocError>
+        requires { (stored : List Stored) × ((answers : List Answer) → IsSure (rest_of program.now.code stored (Task.Finish what value) self.old answers)) }
         ensures value { (stored : List Stored) → IfOk result (λ task. (answers : List Answer) → rest_of program.now.code stored (Task.Finish what value) self.old answers
             ≡ rest_of program.now.code stored task self.new answers) }
         ensures smaller { IfOk result (λ task. run_weight task self.new < run_weight (Task.Finish what value) self.old) }
@@ -174,16 +178,17 @@ impl Live {
         number: usize,
         value: &Value,
     ) -> Result<Task, AllocError>
+        requires { (stored : List Stored) × ((answers : List Answer) → IsSure (rest_of program.now.code stored (Task.Finish (Finish.AssignField message number) value.now) self.old answers)) }
         ensures value { (stored : List Stored) → IfOk result (λ task. (answers : List Answer) → rest_of program.now.code stored (Task.Finish (Finish.AssignField message number) value.now) self.old answers
             ≡ rest_of program.now.code stored task self.new answers) }
         ensures smaller { IfOk result (λ task. run_weight task self.new < run_weight (Task.Finish (Finish.AssignField message number) value.now) self.old) }
         ensures step { IfOk result IsStep }
         ensures statements { IfOk result (λ task. self.new.statements ≡ self.old.statements) }
     {
-        match text_at(program, number) {
-            Some(name) => Ok(told(field_to(alloc, &mut self.context, message, name, value)?)),
-            None => Ok(Task::End(Return::Fail)),
-        }
+        let Some(name) = text_at(program, number) else {
+            unreachable!();
+        };
+        Ok(told(field_to(alloc, &mut self.context, message, name, value)?))
     }
 
     fn appended(
@@ -194,16 +199,17 @@ impl Live {
         number: usize,
         value: &Value,
     ) -> Result<Task, AllocError>
+        requires { (stored : List Stored) × ((answers : List Answer) → IsSure (rest_of program.now.code stored (Task.Finish (Finish.AppendField message number) value.now) self.old answers)) }
         ensures value { (stored : List Stored) → IfOk result (λ task. (answers : List Answer) → rest_of program.now.code stored (Task.Finish (Finish.AppendField message number) value.now) self.old answers
             ≡ rest_of program.now.code stored task self.new answers) }
         ensures smaller { IfOk result (λ task. run_weight task self.new < run_weight (Task.Finish (Finish.AppendField message number) value.now) self.old) }
         ensures step { IfOk result IsStep }
         ensures statements { IfOk result (λ task. self.new.statements ≡ self.old.statements) }
     {
-        match text_at(program, number) {
-            Some(name) => Ok(told(append_field(alloc, &mut self.context, message, name, value)?)),
-            None => Ok(Task::End(Return::Fail)),
-        }
+        let Some(name) = text_at(program, number) else {
+            unreachable!();
+        };
+        Ok(told(append_field(alloc, &mut self.context, message, name, value)?))
     }
 
     // A branch by its condition's value.
@@ -213,6 +219,7 @@ impl Live {
         number: usize,
         value: &Value,
     ) -> Result<Task, AllocError>
+        requires { (stored : List Stored) × ((answers : List Answer) → IsSure (rest_of program.now.code stored (Task.Finish (Finish.Choose number) value.now) self.old answers)) }
         ensures value { (stored : List Stored) → IfOk result (λ task. (answers : List Answer) → rest_of program.now.code stored (Task.Finish (Finish.Choose number) value.now) self.old answers
             ≡ rest_of program.now.code stored task self.new answers) }
         ensures smaller { IfOk result (λ task. run_weight task self.new < run_weight (Task.Finish (Finish.Choose number) value.now) self.old) }
@@ -221,10 +228,10 @@ impl Live {
     {
         compiled_falls(program);
         let Some(branch) = branch_at(program, number) else {
-            return Ok(Task::End(Return::Fail));
+            unreachable!();
         };
         match value.truth() {
-            None => Ok(Task::End(Return::Fail)),
+            None => unreachable!(),
             Some(true) => {
                 self.ahead.push(branch.block)?;
                 Ok(Task::Run)

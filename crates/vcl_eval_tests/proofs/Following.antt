@@ -14,6 +14,13 @@ next-suits (Ok (turn.Need (command.Xkey keys soft))) m a h e = subst (λ (x : An
 next-suits (Ok (turn.End word c)) m a h e = absurd e
 next-suits (Err z) m a h e = absurd e
 
+-- what is known behind a turn that there is
+pub known-next : {E F : Type 0} (P : Type 0) (r : Result Turn E) (q : Result (Option Answer) F) → IfOk r (λ t. P) → IfOk q (FollowsTurned r) → IfOk q (λ next. P)
+known-next P (Ok t) (Ok next) h k = h
+known-next P (Ok t) (Err z) h k = tt
+known-next P (Err e) (Ok next) h k = absurd k
+known-next P (Err e) (Err z) h k = tt
+
 pub next-suit : {E F : Type 0} (r : Result Turn E) (q : Result (Option Answer) F) (m : Machine) → IfOk r (λ t. SuitsBehind t m) → IfOk q (FollowsTurned r) → IfOk q (λ next. IfSome next (λ a. Suits a m))
 next-suit r (Ok (Some a)) m h k = next-suits r m a h k
 next-suit r (Ok None) m h k = tt

@@ -1,10 +1,16 @@
 // Texts around the statements of a row.
+ghost use Rattle.std.specs.Prelude.{◌≡◌, false, IfOk, IfSome};
+ghost use Rattle.vcl_language.specs.Scopes.{has};
+ghost use Rattle.vcl_language.specs.declared.scope.Scope.TheVariants.{Init};
+ghost use Rattle.vcl_soundness.specs.Laws.{AreMeant};
+ghost use Rattle.vcl_eval_tests.specs.Runnable.{IsRunnable};
+
 use std::alloc::{AllocError, Global};
 use units::Text;
-use vcl_check::check;
 use vcl_language::Subroutine;
-use vcl_parse::parse;
 use vcl_program::Compiled;
+use vcl_soundness::program_never_strays;
+use vcl_store::program_of;
 use vmod_host::VmodTable;
 
 /// The subroutine that a row is about.
@@ -30,7 +36,9 @@ impl Subject {
         }
     }
 
-    pub fn subroutine(self) -> Subroutine {
+    pub fn subroutine(self) -> Subroutine
+        ensures { has Init result ≡ false }
+    {
         match self {
             Subject::Recv => Subroutine::Recv,
             Subject::Hash => Subroutine::Hash,
@@ -67,13 +75,27 @@ pub fn program(
     functions: &VmodTable,
     subject: Subject,
     statements: &str,
-) -> Result<Option<Box<Compiled>>, AllocError> {
-    let text = text_of(alloc, subject, statements)?;
-    let Ok(tree) = parse(alloc, &text) else {
-        return Ok(None);
-    };
-    match check(alloc, tree, functions) {
-        Ok(program) => Ok(Some(Box::new(alloc, Compiled::of(alloc, program)?)?)),
+) -> Result<Option<Box<Compiled>>, AllocError>
+    requires { AreMeant functions.now.stored }
+    ensures { IfOk result (λ made. IfSome made (λ program. IsRunnable functions.now.stored program.value)) }
+{
+    program_in(alloc, functions, &text_of(alloc, subject, statements)?)
+}
+
+/// The program of a text; None where it isn't sound.
+pub fn program_in(
+    alloc: Global,
+    functions: &VmodTable,
+    text: &Text,
+) -> Result<Option<Box<Compiled>>, AllocError>
+    requires { AreMeant functions.now.stored }
+    ensures { IfOk result (λ made. IfSome made (λ program. IsRunnable functions.now.stored program.value)) }
+{
+    match program_of(alloc, text, functions) {
+        Ok(program) => {
+            program_never_strays(&program);
+            Ok(Some(Box::new(alloc, program)?))
+        }
         Err(_) => Ok(None),
     }
 }

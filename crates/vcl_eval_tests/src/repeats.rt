@@ -1,5 +1,9 @@
 // Reads and runs again and again, for the script that takes their time.
-use crate::programs::Subject;
+ghost use Rattle.std.specs.Prelude.{IfOk, IfSome};
+ghost use Rattle.vcl_soundness.specs.Laws.{AreMeant};
+ghost use Rattle.vcl_eval_tests.specs.Runnable.{IsRunnable};
+
+use crate::programs::{Subject, program_in};
 use crate::runs::{push_bytes, push_run};
 use http_heads::{RequestHead, read_request};
 use plain_context::context;
@@ -8,7 +12,6 @@ use std::mem;
 use units::Text;
 use vcl_context::Context;
 use vcl_program::Compiled;
-use vcl_store::program_of;
 use vmod_host::VmodTable;
 
 const REQUEST: &str = "GET /A HTTP/1.1\r\nHost: h\r\nUser-Agent: x\r\nAccept: */*\r\n\r\n";
@@ -21,7 +24,9 @@ pub fn repeated(
     what: &str,
     times: u32,
     statements: &str,
-) -> Result<String, AllocError> {
+) -> Result<String, AllocError>
+    requires { AreMeant functions.now.stored }
+{
     match what {
         "reads" => reads(alloc, times),
         "contexts" => contexts(alloc, times),
@@ -53,7 +58,9 @@ fn runs(
     functions: &VmodTable,
     times: u32,
     statements: &str,
-) -> Result<String, AllocError> {
+) -> Result<String, AllocError>
+    requires { AreMeant functions.now.stored }
+{
     match program(alloc, functions, statements)? {
         Some(program) => runs_of(alloc, functions, &program, times),
         None => format!(in alloc; "no program"),
@@ -65,7 +72,9 @@ fn runs_of(
     functions: &VmodTable,
     program: &Compiled,
     times: u32,
-) -> Result<String, AllocError> {
+) -> Result<String, AllocError>
+    requires { IsRunnable functions.now.stored program.now }
+{
     let mut shown = String::new(alloc);
     for _ in 0..times {
         shown.clear();
@@ -85,14 +94,14 @@ fn program(
     alloc: Global,
     functions: &VmodTable,
     statements: &str,
-) -> Result<Option<Box<Compiled>>, AllocError> {
+) -> Result<Option<Box<Compiled>>, AllocError>
+    requires { AreMeant functions.now.stored }
+    ensures { IfOk result (λ made. IfSome made (λ program. IsRunnable functions.now.stored program.value)) }
+{
     let text = format!(in alloc;
         "vcl 4.1; import std; backend b none; sub vcl_recv {{ {statements} }}"
     )?;
-    match program_of(alloc, &Text::of(alloc, text.as_bytes())?, functions) {
-        Ok(program) => Ok(Some(Box::new(alloc, program)?)),
-        Err(_) => Ok(None),
-    }
+    program_in(alloc, functions, &Text::of(alloc, text.as_bytes())?)
 }
 
 fn asked(alloc: Global) -> Result<Box<Context>, AllocError> {

@@ -1,6 +1,8 @@
 // Runs, and what is shown of them.
 ghost use Rattle.std.specs.Prelude.{IfOk, IfSome};
-ghost use Rattle.vcl_eval.specs.Turns.{Suits};
+ghost use Rattle.vcl_eval.specs.Turns.{Suits, IsSureAt};
+ghost use Rattle.vcl_soundness.specs.Laws.{AreMeant};
+ghost use Rattle.vcl_eval_tests.specs.Runnable.{IsRunnable};
 ghost use Rattle.vcl_eval_tests.specs.Following.{Follows, FollowsTurned};
 ghost use Rattle.vcl_turns.specs.declared.turn.Answer.TheVariants.{Begin};
 
@@ -11,6 +13,7 @@ use std::alloc::{AllocError, Global};
 use units::Text;
 use vcl_context::{Context, FetchResponse};
 use vcl_eval::Machine;
+use vcl_meaning::numbers_run;
 use vcl_program::Compiled;
 use vcl_turns::{Answer, Command, Return, Turn};
 use vmod_host::VmodTable;
@@ -22,7 +25,9 @@ pub fn shown(
     subject: Subject,
     counted: u32,
     statements: &str,
-) -> Result<String, AllocError> {
+) -> Result<String, AllocError>
+    requires { AreMeant functions.now.stored }
+{
     let mut shown = String::new(alloc);
     match program(alloc, functions, subject, statements)? {
         Some(program) => {
@@ -43,19 +48,25 @@ pub fn push_run(
     subject: Subject,
     context: Box<Context>,
     shown: &mut String,
-) -> Result<(), AllocError> {
-    let mut machine = machine(alloc, program, subject, context)?;
+) -> Result<(), AllocError>
+    requires { IsRunnable functions.now.stored program.now }
+{
+    let mut machine = machine(alloc, functions, program, subject, context)?;
     push_turns(alloc, functions, program, subject, &mut machine, shown)
 }
 
 fn machine(
     alloc: Global,
+    functions: &VmodTable,
     program: &Compiled,
     subject: Subject,
     context: Box<Context>,
 ) -> Result<Box<Machine>, AllocError>
-    ensures { IfOk result (λ machine. Suits Begin machine.value) }
+    requires { IsRunnable functions.now.stored program.now }
+    ensures suits { IfOk result (λ machine. Suits Begin machine.value) }
+    ensures sure { IfOk result (λ machine. IsSureAt program.now.code functions.now.stored machine.value) }
 {
+    numbers_run(program);
     let context = Box::into_inner(context);
     let machine = Machine::start(alloc, program, subject.subroutine(), context)?;
     Ok(Box::new(alloc, machine)?)
@@ -70,7 +81,8 @@ fn push_turns(
     machine: &mut Machine,
     shown: &mut String,
 ) -> Result<(), AllocError>
-    requires { Suits Begin machine.old }
+    requires suits { Suits Begin machine.old }
+    requires sure { IsSureAt program.now.code functions.now.stored machine.old }
 {
     let mut answer = Answer::Begin;
     'turns: for _ in 0..9 {
@@ -92,8 +104,10 @@ fn push_next(
     answer: Answer,
     shown: &mut String,
 ) -> Result<Option<Answer>, AllocError>
-    requires { Suits answer machine.old }
-    ensures { IfOk result (λ next. IfSome next (λ a. Suits a machine.new)) }
+    requires suits { Suits answer machine.old }
+    requires sure { IsSureAt program.now.code functions.now.stored machine.old }
+    ensures suits { IfOk result (λ next. IfSome next (λ a. Suits a machine.new)) }
+    ensures sure { IfOk result (λ next. IsSureAt program.now.code functions.now.stored machine.new) }
 {
     let turned = machine.resume(alloc, program, functions, answer);
     let next = push_turned(shown, subject, &turned);

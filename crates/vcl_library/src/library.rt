@@ -3,11 +3,15 @@ ghost use Rattle.std.specs.Prelude.{◌≡◌, IfOk, IfSome};
 ghost use Rattle.vcl_library.specs.Functions.{std_functions};
 ghost use Rattle.vcl_library.specs.Programs.{IsProgramOf};
 
+use crate::backends::backend_of;
 use cache_law::Shared;
+use http_heads::Backend;
 use indexmap::IndexMap;
+use round_lead::Programs;
 use std::alloc::{AllocError, Global};
 use units::Text;
-use vcl_runner::Executable;
+use vcl_runner::{Executable, Run};
+use vcl_soundness::{backends_are_there, program_never_strays, standard_are_meant};
 use vcl_store::program_of;
 use vmod_host::VmodTable;
 
@@ -50,20 +54,31 @@ impl Library {
         ensures { IfOk result (λ made. IsProgramOf text.now made.compiled.program.tree made.compiled.program.stored) }
     {
         match program_of(alloc, text, &self.functions) {
-            Ok(compiled) => Ok(Executable::of(compiled, self.functions.copy()?)),
+            Ok(compiled) => {
+                program_never_strays(&compiled);
+                backends_are_there(&compiled);
+                standard_are_meant();
+                Ok(Executable::of(compiled, self.functions.copy()?))
+            }
             Err(_) => Err(AllocError),
         }
     }
+}
 
-    /// The program of the VCL of this number, which has this text.
-    pub fn program(
+impl Programs<Run> for Library {
+    ghost use Rattle.vcl_library.specs.Backends.{server_at};
+    ghost use Rattle.vcl_library.specs.Programs.{IsProgramOf};
+
+    ghost of_text = { λ text program. IsProgramOf text program.compiled.program.tree program.compiled.program.stored };
+
+    ghost backends = { λ program name. server_at program.compiled.program.tree.items name };
+
+    fn program(
         &mut self,
         alloc: Global,
         vcl: u32,
         text: &Text,
-    ) -> Result<Shared<Executable>, AllocError>
-        ensures { IfOk result (λ program. IsProgramOf text.now program.compiled.program.tree program.compiled.program.stored) }
-    {
+    ) -> Result<Shared<Executable>, AllocError> {
         if let Some(kept) = self.find(vcl, text) {
             return kept.program.copy();
         }
@@ -74,5 +89,9 @@ impl Library {
         };
         self.kept.insert(vcl, kept)?;
         Ok(program)
+    }
+
+    fn backend(alloc: Global, program: &Executable, name: &Text) -> Result<Backend, AllocError> {
+        backend_of(alloc, program, name)
     }
 }

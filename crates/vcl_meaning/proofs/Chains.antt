@@ -17,18 +17,18 @@ use Rattle.vcl_code.specs.Statements.{Chosen, branch, with_chain, with_arms}
 use Rattle.vcl_program.specs.declared.code.Code.{Code}
 use Rattle.vcl_operands.specs.Falls.{ChoicesFall}
 use Rattle.vcl_operands.specs.Later.{Later}
-use Rattle.vcl_operands.specs.Outs.{Out, On, Ends, Asks, and_then, fail}
+use Rattle.vcl_operands.specs.Outs.{Out, On, Ends, Asks, Strays, and_then, fail}
 use Rattle.vcl_operands.proofs.Binds.{bind_bind}
 use Rattle.vcl_operands.proofs.Growing.{get-pushed, later-trans, later-block, later-branch}
 use Rattle.vcl_meaning.specs.Meaning.{either_by}
 use Rattle.vcl_eval.specs.States.{State, Doing, nothing, counted, most_statements}
-use Rattle.vcl_eval.specs.Runs.{with_operand, taken_by, choice_at, plan_of, planned, block_done, block_at}
+use Rattle.vcl_eval.specs.Runs.{with_operand, taken_by, choice_at, plan_of, begun_by, block_done, block_at}
 use Rattle.vcl_eval.proofs.Depths.{block-is, branch-is}
-use Rattle.vcl_eval.proofs.Rises.{Rises, rise-from, least-then, counted-rises, plan-rises, at-rises}
+use Rattle.vcl_eval.proofs.Rises.{Rises, rise-from, least-then, counted-rises, begun-rises, at-rises}
 
 abbrev pub acts_done : Code → List Stored → List Action → Doing
 acts_done code stored [] s = nothing s
-acts_done code stored (x ∷ xs) s = counted (λ t. and_then (planned code stored (block_at code stored) (plan_of x) t) (λ done. acts_done code stored xs)) s
+acts_done code stored (x ∷ xs) s = counted (λ t. and_then (begun_by code stored (block_at code stored) (plan_of x) t) (λ done. acts_done code stored xs)) s
 
 abbrev pub arms_done : Code → List Stored → List Arm → Doing → Doing
 arms_done code stored [] other s = other s
@@ -38,6 +38,7 @@ pub bind-nothing : (m : Out State (Unit {0})) → and_then m (λ done. nothing) 
 bind-nothing (On done s) = refl
 bind-nothing (Ends word s) = refl
 bind-nothing (Asks command) = refl
+bind-nothing Strays = refl
 
 if-bind : (b : Bool) (m : Out State (Unit {0})) (s : State) (f : Unit {0} → Doing) → and_then (if b then m else fail s) f ≡ (if b then and_then m f else fail s)
 if-bind true m s f = refl
@@ -61,23 +62,23 @@ chain-is code stored (x ∷ xs) next a later s =
     let before : Later rest.arena code.arena = later-trans rest.arena (with_chain (x ∷ xs) next a).arena code.arena (later-block (Then x rest.number) rest.arena) later in
     block-is code stored (length rest.arena.blocks) s
     ∙ ap (λ (o : Option Block). block_done code stored (block_at code stored) o s) (get-pushed rest.arena.blocks code.arena.blocks (Then x rest.number) later.blocks)
-    ∙ ap (λ (f : Doing). counted (λ t. and_then (planned code stored (block_at code stored) (plan_of x) t) (λ done. f)) s) (fun_ext (chain-is code stored xs next a before))
-    ∙ sym (counted-onward (planned code stored (block_at code stored) (plan_of x)) (acts_done code stored xs) (block_at code stored next) s)
+    ∙ ap (λ (f : Doing). counted (λ t. and_then (begun_by code stored (block_at code stored) (plan_of x) t) (λ done. f)) s) (fun_ext (chain-is code stored xs next a before))
+    ∙ sym (counted-onward (begun_by code stored (block_at code stored) (plan_of x)) (acts_done code stored xs) (block_at code stored next) s)
 
 -- one statement more
 pub acts-append : (code : Code) (stored : List Stored) (xs : List Action) (y : Action) (s : State)
-    → acts_done code stored (xs ++ y ∷ []) s ≡ and_then (acts_done code stored xs s) (λ done. counted (planned code stored (block_at code stored) (plan_of y)))
-acts-append code stored [] y s = ap (λ (d : Doing). counted d s) (fun_ext (λ t. bind-nothing (planned code stored (block_at code stored) (plan_of y) t)))
+    → acts_done code stored (xs ++ y ∷ []) s ≡ and_then (acts_done code stored xs s) (λ done. counted (begun_by code stored (block_at code stored) (plan_of y)))
+acts-append code stored [] y s = ap (λ (d : Doing). counted d s) (fun_ext (λ t. bind-nothing (begun_by code stored (block_at code stored) (plan_of y) t)))
 acts-append code stored (x ∷ xs) y s =
-    ap (λ (f : Doing). counted (λ t. and_then (planned code stored (block_at code stored) (plan_of x) t) (λ done. f)) s) (fun_ext (acts-append code stored xs y))
-    ∙ sym (counted-onward (planned code stored (block_at code stored) (plan_of x)) (acts_done code stored xs) (counted (planned code stored (block_at code stored) (plan_of y))) s)
+    ap (λ (f : Doing). counted (λ t. and_then (begun_by code stored (block_at code stored) (plan_of x) t) (λ done. f)) s) (fun_ext (acts-append code stored xs y))
+    ∙ sym (counted-onward (begun_by code stored (block_at code stored) (plan_of x)) (acts_done code stored xs) (counted (begun_by code stored (block_at code stored) (plan_of y))) s)
 
 pub acts-rise : (code : Code) (stored : List Stored) (xs : List Action) → Rises (acts_done code stored xs)
 acts-rise code stored [] s = le_refl s.statements
 acts-rise code stored (x ∷ xs) s =
-    counted-rises (λ t. and_then (planned code stored (block_at code stored) (plan_of x) t) (λ done. acts_done code stored xs)) (nat_lt s.statements most_statements) s
-    (λ t. least-then t.statements (planned code stored (block_at code stored) (plan_of x) t) (λ done. acts_done code stored xs)
-    (plan-rises code stored (block_at code stored) (plan_of x) (at-rises code stored) t) (λ done u h. rise-from (acts_done code stored xs) t.statements u (acts-rise code stored xs) h))
+    counted-rises (λ t. and_then (begun_by code stored (block_at code stored) (plan_of x) t) (λ done. acts_done code stored xs)) (nat_lt s.statements most_statements) s
+    (λ t. least-then t.statements (begun_by code stored (block_at code stored) (plan_of x) t) (λ done. acts_done code stored xs)
+    (begun-rises code stored (block_at code stored) (plan_of x) (at-rises code stored) t) (λ done u h. rise-from (acts_done code stored xs) t.statements u (acts-rise code stored xs) h))
 
 -- conditions that were put in
 taken-either : (go : ℕ → Doing) (other : Choice → Doing) (b : Branch) (truth : Option Bool) (s : State) → taken_by go other (Some b) truth s ≡ either_by truth (go b.block) (other b.otherwise) s

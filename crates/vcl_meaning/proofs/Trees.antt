@@ -29,7 +29,7 @@ use Rattle.vcl_program.specs.declared.code.Code.{Code}
 use Rattle.vcl_turns.specs.declared.turn.Answer.{Answer}
 use Rattle.vcl_operands.specs.Falls.{Falls, ChoicesFall}
 use Rattle.vcl_operands.specs.Later.{Later}
-use Rattle.vcl_operands.specs.Outs.{Out, On, Ends, Asks, and_then, fail}
+use Rattle.vcl_operands.specs.Outs.{Out, On, Ends, Asks, Strays, and_then}
 use Rattle.vcl_operands.specs.Meaning.{Scene, scene, Operand, value_of, operands_of}
 use Rattle.vcl_operands.specs.Meaning.{called as call_value}
 use Rattle.vcl_operands.specs.Nodes.{World, world, value_at}
@@ -37,8 +37,8 @@ use Rattle.vcl_operands.proofs.Growing.{get-pushed, later-trans, later-text}
 use Rattle.vcl_operands.proofs.Trees.{ArgumentsMean, expression-is, arguments-are, call-is}
 use Rattle.vcl_eval.specs.Returns.{with_two}
 use Rattle.vcl_eval.specs.Statements.{set_to, field_to, append_to, append_field, key_given, body_given}
-use Rattle.vcl_eval.specs.States.{State, Doing, in_state, nothing, set_on, ends_on, counted, banned, most_statements}
-use Rattle.vcl_eval.specs.Runs.{with_operand, block_on, choice_at, plan_of, planned, block_done, block_at}
+use Rattle.vcl_eval.specs.States.{State, Doing, in_state, nothing, set_on, set_due, ends_due, counted, banned, most_statements}
+use Rattle.vcl_eval.specs.Runs.{with_operand, block_on, choice_at, plan_of, begun_by, block_done, block_at}
 use Rattle.vcl_meaning.specs.Meaning.{Text, scene_in, then_with, with_value, with_only, set_target, append_target, unset_target, call_on, returned, performed, either_by, statement_of, branches_of, branch_of, block_of}
 use Rattle.vcl_eval.proofs.Depths.{then-same, in-state-same, counted-same, SameFrom, block-is, nothing-is, block-chosen}
 use Rattle.vcl_eval.proofs.Rises.{least-less}
@@ -58,7 +58,7 @@ abbrev pub go : Reading → ℕ → Doing
 go r = block_at r.code r.text.known.stored
 
 abbrev pub acts : Reading → Action → Doing
-acts r what = planned r.code r.text.known.stored (go r) (plan_of what)
+acts r what = begun_by r.code r.text.known.stored (go r) (plan_of what)
 
 abbrev pub world_in : Reading → State → World
 world_in r s = world r.code r.text.known.stored s.context
@@ -79,32 +79,32 @@ arguments-mean r e a s later =
 -- `set`, `+=` and `unset`
 set-is : (r : Reading) (target : Target) (e : Phrase) (a : Arena) → Later (set_acted target (numbered r.text.known e a)).arena r.code.arena → (s : State)
     → acts r (set_acted target (numbered r.text.known e a)).action s ≡ set_target r.text target e s
-set-is r (Plain variable) e a later s = operand-is r e a later (λ v s. set_on (set_to variable v s.context) s) s
+set-is r (Plain variable) e a later s = operand-is r e a later (λ v s. set_due (set_to variable v s.context) s) s
 set-is r (Field message name) e a later s =
     let n : Numbered = numbered r.text.known e a in
-    ap (λ (o : Option (List ℕ)). with_operand r.code r.text.known.stored n.number (λ v t. set_on (option_and_then (λ name. field_to message name v t.context) o) t) s)
+    ap (λ (o : Option (List ℕ)). with_operand r.code r.text.known.stored n.number (λ v t. set_due (option_and_then (λ name. field_to message name v t.context) o) t) s)
     (get-pushed n.arena.texts r.code.arena.texts name later.texts)
-    ∙ operand-is r e a (later-trans n.arena (with_text name n.arena).arena r.code.arena (later-text name n.arena) later) (λ v s. set_on (field_to message name v s.context) s) s
+    ∙ operand-is r e a (later-trans n.arena (with_text name n.arena).arena r.code.arena (later-text name n.arena) later) (λ v s. set_due (field_to message name v s.context) s) s
 set-is r NoTarget e a later s = refl
 
 append-is : (r : Reading) (target : Target) (e : Phrase) (a : Arena) → Later (append_acted target (numbered r.text.known e a)).arena r.code.arena → (s : State)
     → acts r (append_acted target (numbered r.text.known e a)).action s ≡ append_target r.text target e s
-append-is r (Plain variable) e a later s = operand-is r e a later (λ v s. set_on (append_to variable v s.context) s) s
+append-is r (Plain variable) e a later s = operand-is r e a later (λ v s. set_due (append_to variable v s.context) s) s
 append-is r (Field message name) e a later s =
     let n : Numbered = numbered r.text.known e a in
-    ap (λ (o : Option (List ℕ)). with_operand r.code r.text.known.stored n.number (λ v t. set_on (option_and_then (λ name. append_field message name v t.context) o) t) s)
+    ap (λ (o : Option (List ℕ)). with_operand r.code r.text.known.stored n.number (λ v t. set_due (option_and_then (λ name. append_field message name v t.context) o) t) s)
     (get-pushed n.arena.texts r.code.arena.texts name later.texts)
-    ∙ operand-is r e a (later-trans n.arena (with_text name n.arena).arena r.code.arena (later-text name n.arena) later) (λ v s. set_on (append_field message name v s.context) s) s
+    ∙ operand-is r e a (later-trans n.arena (with_text name n.arena).arena r.code.arena (later-text name n.arena) later) (λ v s. set_due (append_field message name v s.context) s) s
 append-is r NoTarget e a later s = refl
 
 unset-is : (r : Reading) (target : Target) (a : Arena) → Later (unset_acted target a).arena r.code.arena → (s : State) → acts r (unset_acted target a).action s ≡ unset_target target s
 unset-is r (Plain variable) a later s = refl
 unset-is r (Field message name) a later s =
-    ap (λ (o : Option (List ℕ)). set_on (option_map (λ name. field_unset message name s.context) o) s) (get-pushed a.texts r.code.arena.texts name later.texts)
+    ap (λ (o : Option (List ℕ)). set_due (option_map (λ name. Some (field_unset message name s.context)) o) s) (get-pushed a.texts r.code.arena.texts name later.texts)
 unset-is r NoTarget a later s = refl
 
 -- return
-many-returned : (word : ReturnWord) (ops : List Operand) (s : State) → 3 < length ops → fail s ≡ returned (Some word) ops s
+many-returned : (word : ReturnWord) (ops : List Operand) (s : State) → 3 < length ops → Strays ≡ returned (Some word) ops s
 many-returned word [] s h = absurd (omega arith)
 many-returned word (x ∷ []) s h = absurd (omega arith)
 many-returned word (x ∷ y ∷ []) s h = absurd (omega arith)
@@ -115,6 +115,7 @@ second-kept : (r : Reading) (y : ℕ) (next : Value → Value → Doing) (s : St
 second-kept r y next s (On v answers) = refl
 second-kept r y next s (Ends word answers) = refl
 second-kept r y next s (Asks command) = refl
+second-kept r y next s Strays = refl
 
 returned-is : (r : Reading) (word : Option ReturnWord) (g : Given) (args : Arguments) (ops : List Operand) (s : State) → g.arguments ≡ args → ArgumentsMean (world_in r s) args ops
     → acts r (return_acted word g).action s ≡ returned word ops s
@@ -125,12 +126,12 @@ returned-is r (Some word) g args ops s e h = ap (λ (x : Arguments). acts r (act
     by-arguments Zero h = sym (ap (λ (l : List Operand). returned (Some word) l s) h)
     by-arguments (One x) h = sym (ap (λ (l : List Operand). returned (Some word) l s) h)
     by-arguments (Two x y) h =
-        second-kept r y (λ v w. ends_on (with_two word v w)) s (value_at (world_in r s) x s.answers) ∙ sym (ap (λ (l : List Operand). returned (Some word) l s) h)
+        second-kept r y (λ v w. ends_due (with_two word v w)) s (value_at (world_in r s) x s.answers) ∙ sym (ap (λ (l : List Operand). returned (Some word) l s) h)
     by-arguments (Three x y z) h = sym (ap (λ (l : List Operand). returned (Some word) l s) h)
     by-arguments TooMany h = many-returned word ops s h
 
 -- functions
-many-only : (ops : List Operand) (next : Value → Doing) (s : State) → 3 < length ops → fail s ≡ with_only ops next s
+many-only : (ops : List Operand) (next : Value → Doing) (s : State) → 3 < length ops → Strays ≡ with_only ops next s
 many-only [] next s h = absurd (omega arith)
 many-only (x ∷ []) next s h = absurd (omega arith)
 many-only (x ∷ y ∷ more) next s h = refl

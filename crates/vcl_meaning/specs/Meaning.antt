@@ -1,6 +1,6 @@
 -- What runs of subroutines do (the Varnish Reference Manual, VCL; docs/VCL.md), on a text with its names and with the answers
--- that they are given. What no sound text has ends the run as `fail`.
-use Rattle.std.specs.Prelude.{ℕ, zero, suc, ◌==◌, Bool, true, false, List, [], ◌∷◌, Option, Some, None, slice_get, if◌then◌else◌}
+-- that they are given. What no sound text has strays.
+use Rattle.std.specs.Prelude.{◌≡◌, ℕ, zero, suc, ◌==◌, Bool, true, false, List, [], ◌∷◌, Option, Some, None, slice_get, if◌then◌else◌}
 use Rattle.vcl_tree.specs.Phrase as phrase
 use Rattle.vcl_tree.specs.Phrase.{Phrase, Node, Named, More, Bound, Called, Set, Append, Unset, Jump, Return, If, ElseIf, Else}
 use Rattle.vcl_tree.specs.declared.item.Item.{Item}
@@ -9,7 +9,8 @@ use Rattle.vcl_values.specs.declared.value.Value.{Value}
 use Rattle.vcl_values.specs.Values.{truth_of}
 use Rattle.vmod_host.specs.declared.signature.Stored.{Stored}
 use Rattle.vcl_language.specs.Names.{is_reserved, subroutine_named}
-use Rattle.vcl_language.specs.Scopes.{subroutine_number}
+use Rattle.vcl_language.specs.Scopes.{has, subroutine_number}
+use Rattle.vcl_language.specs.declared.scope.Scope.TheVariants.{Init}
 use Rattle.vcl_language.specs.declared.scope.Subroutine.{Subroutine}
 use Rattle.vcl_context.specs.declared.context.Context.{Context}
 use Rattle.vcl_context.specs.Fields.{field_unset}
@@ -23,12 +24,12 @@ use Rattle.vcl_program.specs.declared.declarations.Declarations.{Declarations}
 use Rattle.vcl_program.specs.Declarations.{nothing as undeclared, with_items}
 use Rattle.vcl_program.specs.Codes.{known_of}
 use Rattle.vcl_turns.specs.declared.turn.Answer.{Answer}
-use Rattle.vcl_operands.specs.Outs.{Out, and_then, fail}
+use Rattle.vcl_operands.specs.Outs.{Out, Strays, and_then, fail, IsSure}
 use Rattle.vcl_operands.specs.Meaning.{Scene, Operand, value_of, operands_of}
 use Rattle.vcl_operands.specs.Meaning.{called as call_value}
 use Rattle.vcl_eval.specs.Returns.{plain, with_one, with_two}
 use Rattle.vcl_eval.specs.Statements.{set_to, field_to, append_to, append_field, key_given, body_given}
-use Rattle.vcl_eval.specs.States.{State, state, Doing, in_state, nothing, set_on, ends_on, counted, banned, most_statements}
+use Rattle.vcl_eval.specs.States.{State, state, Doing, in_state, nothing, set_on, set_due, ends_due, counted, banned, most_statements}
 
 -- what the names of a text stand for, what it declares, and the bodies of its own subroutines, in its order
 pub record Text : Type 0 where
@@ -72,34 +73,34 @@ with_value t e next s = then_with (value_of t.known (scene_in t s.context) e) ne
 
 abbrev pub with_only : List Operand → (Value → Doing) → Doing
 with_only (x ∷ []) next s = then_with x next s
-with_only _ next s = fail s
+with_only _ next s = Strays
 
 -- `set` and `+=` of a variable or a field, and `unset` of a field
 abbrev pub set_target : Text → Target → Phrase → Doing
-set_target t (Plain variable) e s = with_value t e (λ v s. set_on (set_to variable v s.context) s) s
-set_target t (Field message name) e s = with_value t e (λ v s. set_on (field_to message name v s.context) s) s
-set_target t NoTarget e s = fail s
+set_target t (Plain variable) e s = with_value t e (λ v s. set_due (set_to variable v s.context) s) s
+set_target t (Field message name) e s = with_value t e (λ v s. set_due (field_to message name v s.context) s) s
+set_target t NoTarget e s = Strays
 
 abbrev pub append_target : Text → Target → Phrase → Doing
-append_target t (Plain variable) e s = with_value t e (λ v s. set_on (append_to variable v s.context) s) s
-append_target t (Field message name) e s = with_value t e (λ v s. set_on (append_field message name v s.context) s) s
-append_target t NoTarget e s = fail s
+append_target t (Plain variable) e s = with_value t e (λ v s. set_due (append_to variable v s.context) s) s
+append_target t (Field message name) e s = with_value t e (λ v s. set_due (append_field message name v s.context) s) s
+append_target t NoTarget e s = Strays
 
 abbrev pub unset_target : Target → Doing
 unset_target (Field message name) s = set_on (Some (field_unset message name s.context)) s
-unset_target _ s = fail s
+unset_target _ s = Strays
 
 -- `call` of one of the text's own subroutines, by its place
 abbrev pub call_on : (ℕ → Doing) → Option ℕ → Doing
 call_on calls (Some k) s = calls k s
-call_on calls None s = fail s
+call_on calls None s = Strays
 
 -- `return` with a word and none, one or two values
 abbrev pub returned : Option ReturnWord → List Operand → Doing
-returned (Some word) [] s = ends_on (plain word) s
-returned (Some word) (x ∷ []) s = then_with x (λ v. ends_on (with_one word v)) s
-returned (Some word) (x ∷ y ∷ []) s = then_with x (λ v. then_with y (λ w. ends_on (with_two word v w))) s
-returned _ operands s = fail s
+returned (Some word) [] s = ends_due (plain word) s
+returned (Some word) (x ∷ []) s = then_with x (λ v. ends_due (with_one word v)) s
+returned (Some word) (x ∷ y ∷ []) s = then_with x (λ v. then_with y (λ w. ends_due (with_two word v w))) s
+returned _ operands s = Strays
 
 -- a function that is called as a statement; a value that it has is forgotten
 abbrev pub performed : Scene → Callee → Option (List ℕ) → List Operand → Doing
@@ -112,7 +113,7 @@ performed scene function second operands s = then_with (call_value scene functio
 abbrev pub either_by : Option Bool → Doing → Doing → Doing
 either_by (Some true) block other s = block s
 either_by (Some false) block other s = other s
-either_by None block other s = fail s
+either_by None block other s = Strays
 
 -- With what calls do. Each statement is counted before it runs, an `if` as one, and conditions aren't.
 unfoldable mutual
@@ -128,7 +129,7 @@ unfoldable mutual
   statement_of t calls (Node If sign first) s = branch_of t calls first nothing s
   statement_of t calls (Node ElseIf front last) s = branches_of t calls front (branch_of t calls last nothing) s
   statement_of t calls (Node Else front block) s = branches_of t calls front (block_of t calls block) s
-  statement_of t calls _ s = fail s
+  statement_of t calls _ s = Strays
 
   -- the conditions of an `if`, one after another, and what is done where none holds
   pub branches_of : Text → (ℕ → Doing) → Phrase → Doing → Doing
@@ -147,7 +148,7 @@ unfoldable mutual
 -- what a call does; no run nests calls deeper than it counts statements
 abbrev pub body_on : (Phrase → Doing) → Option Phrase → Doing
 body_on go (Some body) s = go body s
-body_on go None s = fail s
+body_on go None s = Strays
 
 unfoldable pub called_within : ℕ → Text → ℕ → Doing
 called_within zero t k s = fail s
@@ -165,3 +166,8 @@ bodies_done t (body ∷ more) s = and_then (block_of t (called t) body s) (λ do
 -- there is no answer.
 unfoldable pub run_of : List Item → List Stored → Subroutine → Context → List Answer → Out State (Unit {0})
 run_of items stored subroutine c answers = bodies_done (text_of items stored) (bodies_of subroutine items) (state c c.statements answers)
+
+-- no run of a subroutine but vcl_init strays
+abbrev pub NeverStrays : List Item → List Stored → Type 0
+NeverStrays items stored =
+    (subroutine : Subroutine) → has Init subroutine ≡ false → (context : Context) (answers : List Answer) → IsSure (run_of items stored subroutine context answers)

@@ -13,7 +13,7 @@ use Rattle.vcl_operands.specs.declared.frame.Frame.TheVariants as frame
 use Rattle.vcl_operands.specs.declared.frame.Plan.TheVariants as plan
 use Rattle.vcl_operands.specs.declared.frame.Unary.{Unary}
 use Rattle.vcl_operands.specs.declared.frame.Unary.TheVariants as unary
-use Rattle.vcl_operands.specs.Outs.{and_then, known_on, fail}
+use Rattle.vcl_operands.specs.Outs.{Strays, and_then, made_on}
 use Rattle.vcl_operands.specs.Meaning.{Operand, decides, purged}
 use Rattle.vcl_operands.specs.Falls.{arguments_reach, reach, Falls}
 use Rattle.vcl_operands.specs.Nodes.{World, with_none, with_rest, changed, combined, planned, node_value, known_value, value_within, value_at}
@@ -54,7 +54,7 @@ arguments-same w f g i k (Three x y z) given r h = three-rest w f g k x y z give
 arguments-same w f g i k More given r h = refl
 
 one-same : (w : World) (f g : ℕ → Operand) (x : ℕ) (what : Unary) → f x ≡ g x → planned w f (plan.First x (frame.One what)) ≡ planned w g (plan.First x (frame.One what))
-one-same w f g x what e = along1 (λ (p : Operand) (s : List Answer). and_then (p s) (λ v. known_on (changed w.code what v))) (f x) (g x) e
+one-same w f g x what e = along1 (λ (p : Operand) (s : List Answer). and_then (p s) (λ v. made_on (changed w.code what v))) (f x) (g x) e
 
 purge-same : (w : World) (f g : ℕ → Operand) (x : ℕ) (soft : Bool) → f x ≡ g x → planned w f (plan.First x (frame.Purge soft)) ≡ planned w g (plan.First x (frame.Purge soft))
 purge-same w f g x soft e = along1 (λ (p : Operand) (s : List Answer). and_then (p s) (purged soft)) (f x) (g x) e
@@ -62,7 +62,7 @@ purge-same w f g x soft e = along1 (λ (p : Operand) (s : List Answer). and_then
 left-same : (w : World) (f g : ℕ → Operand) (x y : ℕ) (what : Binary) → f x ≡ g x → f y ≡ g y
     → planned w f (plan.First x (frame.Left what y)) ≡ planned w g (plan.First x (frame.Left what y))
 left-same w f g x y what e d =
-    along2 (λ (p q : Operand) (s : List Answer). and_then (p s) (λ v s. and_then (q s) (λ u. known_on (combined w.code what v u)))) (f x) (g x) (f y) (g y) e d
+    along2 (λ (p q : Operand) (s : List Answer). and_then (p s) (λ v s. and_then (q s) (λ u. made_on (combined w.code what v u)))) (f x) (g x) (f y) (g y) e d
 
 decide-same : (w : World) (f g : ℕ → Operand) (x y : ℕ) (decided : Bool) → f x ≡ g x → f y ≡ g y
     → planned w f (plan.First x (frame.Decide decided y)) ≡ planned w g (plan.First x (frame.Decide decided y))
@@ -111,12 +111,12 @@ at-node w falls i n e s =
     let q : i < length w.code.arena.nodes = slice_get_within w.code.arena.nodes i n e in
     ap (λ (o : Operand). o s) (within-node w falls (length w.code.arena.nodes) i n e q q)
 
-within-none : (w : World) (d i : ℕ) (s : List Answer) → slice_get w.code.arena.nodes i ≡ None → value_within d w i s ≡ fail s
+within-none : (w : World) (d i : ℕ) (s : List Answer) → slice_get w.code.arena.nodes i ≡ None → value_within d w i s ≡ Strays
 unfolding value_within
 within-none w zero i s e = refl
 within-none w (suc d) i s e = ap (λ (o : Option Node). known_value w (value_within d w) o s) e
 
 -- a number without a node
-pub at-none : (w : World) (i : ℕ) (s : List Answer) → slice_get w.code.arena.nodes i ≡ None → value_at w i s ≡ fail s
+pub at-none : (w : World) (i : ℕ) (s : List Answer) → slice_get w.code.arena.nodes i ≡ None → value_at w i s ≡ Strays
 unfolding value_at
 at-none w i s e = within-none w (length w.code.arena.nodes) i s e

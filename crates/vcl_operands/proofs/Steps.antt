@@ -1,6 +1,9 @@
 -- A step of an evaluation changes nothing of what it comes to, and lessens its weight.
 use Rattle.std.proofs.Math.Nat.{le_refl}
-use Rattle.std.proofs.Common.{◌≡◌, ◌≤◌, ◌<◌, ◌+◌, ℕ, suc, Bool, List, [], ◌∷◌, ◌++◌, Option, Some, None, Result, Ok, Err, IfOk, refl, sym, ap, ◌∙◌, subst, arith, slice_get}
+use Rattle.std.proofs.Common.{◌≡◌, ◌≤◌, ◌<◌, ◌+◌, ℕ, suc, length, Bool, List, [], ◌∷◌, ◌++◌, Option, Some, None, Result, Ok, Err, IfOk, refl, sym, ap, ◌∙◌, subst, arith, slice_get}
+use Rattle.std.proofs.lemmas.Option.{slice_get_within}
+use Rattle.std.specs.Prelude.{IsSome}
+use Rattle.vcl_values.specs.Values.{truth_of}
 use Rattle.vcl_values.specs.declared.value.Value.{Value}
 use Rattle.vcl_code.specs.declared.node.Arguments.{Arguments}
 use Rattle.vcl_code.specs.declared.node.Node.{Node}
@@ -11,19 +14,24 @@ use Rattle.vcl_operands.specs.declared.frame.Frame.{Frame}
 use Rattle.vcl_operands.specs.declared.frame.Frame.TheVariants as frame
 use Rattle.vcl_operands.specs.declared.frame.Plan.{Plan}
 use Rattle.vcl_operands.specs.declared.frame.Plan.TheVariants as plan
-use Rattle.vcl_operands.specs.Outs.{Out, and_then, fail, known_on}
-use Rattle.vcl_operands.specs.Meaning.{Operand}
+use Rattle.vcl_operands.specs.Outs.{Out, On, Ends, Asks, Strays, and_then, made_on, IsSure}
+use Rattle.vcl_operands.specs.Meaning.{Operand, decided_by}
 use Rattle.vcl_operands.specs.Falls.{Falls, reach}
-use Rattle.vcl_operands.specs.Nodes.{World, onward, with_rest, value_at, left_of, rest_of, given_if, leaf, plan_of, planned}
+use Rattle.vcl_operands.specs.Nodes.{World, changed, combined, onward, with_rest, value_at, left_of, rest_of, given_if, leaf, plan_of, planned}
+use Rattle.vcl_operands.specs.Values.{applied}
+use Rattle.vcl_operands.specs.declared.frame.Binary.{Binary}
+use Rattle.vcl_operands.specs.declared.frame.Unary.{Unary}
+use Rattle.vcl_code.specs.declared.node.Arguments.TheVariants.{Zero, More}
+use Rattle.vmod_host.specs.declared.signature.Stored.{Stored}
 use Rattle.vcl_operands.specs.declared.evaluation.Outcome.{Outcome}
 use Rattle.vcl_operands.specs.declared.evaluation.Outcome.TheVariants as outcome
 use Rattle.vcl_operands.specs.Weights.{power, weight, frames_weight, frame_weight, arguments_weight, plan_weight, LeavesLess, IsBegun}
-use Rattle.vcl_operands.proofs.Binds.{bind_bind}
+use Rattle.vcl_operands.proofs.Binds.{bind_bind, sure-along, sure-not, made-sure}
 use Rattle.vcl_operands.proofs.Depths.{at-node, at-none}
 use Rattle.vcl_operands.proofs.Weights.{plan-light, none-light, power-below}
 
 -- a number without a node
-pub enter-none : (w : World) (i : ℕ) (fs : List Frame) (s : List Answer) → None ≡ slice_get w.code.arena.nodes i → and_then (value_at w i s) (left_of w fs) ≡ fail s
+pub enter-none : (w : World) (i : ℕ) (fs : List Frame) (s : List Answer) → None ≡ slice_get w.code.arena.nodes i → and_then (value_at w i s) (left_of w fs) ≡ Strays
 enter-none w i fs s e = ap (λ (o : Out (List Answer) Value). and_then o (left_of w fs)) (at-none w i s (sym e))
 
 -- a node by its plan
@@ -50,17 +58,91 @@ enter-calls w falls i n k rest given old new (Ok next) e q g h =
     λ s. enter-plan w falls i n (plan.Calls k rest) old s e q ∙ ap (λ (vs : List Value). and_then (with_rest w.stored (value_at w) k rest vs s) (left_of w old)) (sym g) ∙ h s
 enter-calls w falls i n k rest given old new (Err z) e q g h = tt
 
-known-given : (w : World) (o : Option Value) (fs : List Frame) (s : List Answer) → and_then (known_on o s) (left_of w fs) ≡ rest_of w (given_if o) fs s
+known-given : (w : World) (o : Option Value) (fs : List Frame) (s : List Answer) → and_then (made_on (Some o) s) (left_of w fs) ≡ rest_of w (given_if o) fs s
 known-given w (Some v) fs s = refl
 known-given w None fs s = refl
 
 -- a node without parts
 pub enter-leaf : (w : World) → Falls w.code.arena.nodes → (i : ℕ) (n m : Node) (fs : List Frame) (o : Option Value) (next : Doing) (s : List Answer)
-    → Some n ≡ slice_get w.code.arena.nodes i → plan.Leaf m ≡ plan_of n → o ≡ leaf w.code w.context m → next ≡ given_if o
+    → Some n ≡ slice_get w.code.arena.nodes i → plan.Leaf m ≡ plan_of n → leaf w.code w.context m ≡ Some o → next ≡ given_if o
     → and_then (value_at w i s) (left_of w fs) ≡ rest_of w next fs s
 enter-leaf w falls i n m fs o next s e q l d =
-    enter-plan w falls i n (plan.Leaf m) fs s e q ∙ ap (λ (x : Option Value). and_then (known_on x s) (left_of w fs)) (sym l) ∙ known-given w o fs s
+    enter-plan w falls i n (plan.Leaf m) fs s e q ∙ ap (λ (x : Option (Option Value)). and_then (made_on x s) (left_of w fs)) l ∙ known-given w o fs s
     ∙ sym (ap (λ (x : Doing). rest_of w x fs s) d)
+
+-- what doesn't stray has a node, and a leaf a value
+pub number-within : (w : World) (i : ℕ) → ((s : List Answer) → IsSure (value_at w i s)) → i < length w.code.arena.nodes
+number-within w i h = by-place (slice_get w.code.arena.nodes i) refl
+  where
+    by-place : (o : Option Node) → slice_get w.code.arena.nodes i ≡ o → i < length w.code.arena.nodes
+    by-place (Some n) e = slice_get_within w.code.arena.nodes i n e
+    by-place None e = absurd (sure-not (value_at w i []) (at-none w i [] e) (h []))
+
+pub calls-sure : (w : World) → Falls w.code.arena.nodes → (i : ℕ) (n : Node) (k : ℕ) (rest : Arguments) (given : List Value) (fs : List Frame) (s : List Answer)
+    → Some n ≡ slice_get w.code.arena.nodes i → plan.Calls k rest ≡ plan_of n → given ≡ [] → IsSure (and_then (value_at w i s) (left_of w fs))
+    → IsSure (and_then (with_rest w.stored (value_at w) k rest given s) (left_of w fs))
+calls-sure w falls i n k rest given fs s e q g h =
+    sure-along (and_then (value_at w i s) (left_of w fs)) (and_then (with_rest w.stored (value_at w) k rest given s) (left_of w fs))
+    (enter-plan w falls i n (plan.Calls k rest) fs s e q ∙ ap (λ (vs : List Value). and_then (with_rest w.stored (value_at w) k rest vs s) (left_of w fs)) (sym g)) h
+
+pub leaf-sure : (w : World) → Falls w.code.arena.nodes → (i : ℕ) (n m : Node) (fs : List Frame) → Some n ≡ slice_get w.code.arena.nodes i → plan.Leaf m ≡ plan_of n
+    → IsSure (and_then (value_at w i []) (left_of w fs)) → IsSome (leaf w.code w.context m)
+leaf-sure w falls i n m fs e q h =
+    made-sure (leaf w.code w.context m) (left_of w fs) []
+    (sure-along (and_then (value_at w i []) (left_of w fs)) (and_then (made_on (leaf w.code w.context m) []) (left_of w fs)) (enter-plan w falls i n (plan.Leaf m) fs [] e q) h)
+
+pub alone-sure : (w : World) (fs : List Frame) (o : Out (List Answer) Value) → fs ≡ [] → IsSure o → IsSure (and_then o (left_of w fs))
+alone-sure w fs o e h = let P : List Frame → Type 0 = λ l. IsSure (and_then o (left_of w l)) in subst P (sym e) (by-out o h)
+  where
+    by-out : (o : Out (List Answer) Value) → IsSure o → IsSure (and_then o (left_of w []))
+    by-out (On v s) h = tt
+    by-out (Ends word s) h = tt
+    by-out (Asks command) h = tt
+    by-out Strays h = absurd h
+
+-- what waits is made of the value
+pub one-sure : (w : World) (what : Unary) (v : Value) (f : Frame) (fs : List Frame) → f ≡ frame.One what → ((s : List Answer) → IsSure (left_of w (f ∷ fs) v s)) → IsSome (changed w.code what v)
+one-sure w what v f fs e h =
+    let P : Frame → Type 0 = λ g. IsSure (left_of w (g ∷ fs) v []) in made-sure (changed w.code what v) (left_of w fs) [] (subst P e (h []))
+
+pub right-sure : (w : World) (what : Binary) (u v : Value) (f : Frame) (fs : List Frame) → f ≡ frame.Right what u → ((s : List Answer) → IsSure (left_of w (f ∷ fs) v s))
+    → IsSome (combined w.code what u v)
+right-sure w what u v f fs e h =
+    let P : Frame → Type 0 = λ g. IsSure (left_of w (g ∷ fs) v []) in made-sure (combined w.code what u v) (left_of w fs) [] (subst P e (h []))
+
+pub decide-sure : (w : World) (decided : Bool) (x : ℕ) (v : Value) (f : Frame) (fs : List Frame) → f ≡ frame.Decide decided x → ((s : List Answer) → IsSure (left_of w (f ∷ fs) v s)) → (s : List Answer)
+    → IsSure (left_of w (frame.Decide decided x ∷ fs) v s)
+decide-sure w decided x v f fs e h s = let P : Frame → Type 0 = λ g. IsSure (left_of w (g ∷ fs) v s) in subst P e (h s)
+
+pub undecided : (w : World) (decided : Bool) (x : ℕ) (v : Value) (fs : List Frame) → truth_of v ≡ None → ((s : List Answer) → IsSure (left_of w (frame.Decide decided x ∷ fs) v s)) → ⊥
+undecided w decided x v fs e h =
+    sure-not (left_of w (frame.Decide decided x ∷ fs) v []) (ap (λ (o : Option Bool). and_then (decided_by decided (value_at w x) o []) (left_of w fs)) e) (h [])
+
+pub apply-sure : (w : World) (k : ℕ) (vs us : List Value) (v : Value) (rest : Arguments) (f : Frame) (fs : List Frame) → f ≡ frame.Apply k vs rest → us ≡ vs ++ v ∷ []
+    → ((s : List Answer) → IsSure (left_of w (f ∷ fs) v s)) → (s : List Answer) → IsSure (and_then (with_rest w.stored (value_at w) k rest us s) (left_of w fs))
+apply-sure w k vs us v rest f fs e q h s =
+    sure-along (left_of w (f ∷ fs) v s) (and_then (with_rest w.stored (value_at w) k rest us s) (left_of w fs))
+    (ap (λ (g : Frame). left_of w (g ∷ fs) v s) e ∙ ap (λ (l : List Value). and_then (with_rest w.stored (value_at w) k rest l s) (left_of w fs)) (sym q)) (h s)
+
+pub zero-sure : (w : World) (stored : List Stored) (k : ℕ) (vs : List Value) (rest : Arguments) (fs : List Frame) → w.stored ≡ stored → rest ≡ Zero
+    → ((s : List Answer) → IsSure (and_then (with_rest w.stored (value_at w) k rest vs s) (left_of w fs))) → IsSome (applied stored k vs)
+zero-sure w stored k vs rest fs e q h =
+    let P : Arguments → Type 0 = λ r. IsSure (and_then (with_rest w.stored (value_at w) k r vs []) (left_of w fs)) in
+    subst (λ (l : List Stored). IsSome (applied l k vs)) e (made-sure (applied w.stored k vs) (left_of w fs) [] (subst P q (h [])))
+
+pub more-strays : (w : World) (k : ℕ) (vs : List Value) (rest : Arguments) (fs : List Frame) → rest ≡ More
+    → ((s : List Answer) → IsSure (and_then (with_rest w.stored (value_at w) k rest vs s) (left_of w fs))) → ⊥
+more-strays w k vs rest fs q h = let P : Arguments → Type 0 = λ r. IsSure (and_then (with_rest w.stored (value_at w) k r vs []) (left_of w fs)) in subst P q (h [])
+
+-- a step of the loop
+pub enter-sure : (w : World) (first : Operand) (d : Doing) (i : ℕ) (fs : List Frame) → ((s : List Answer) → first s ≡ rest_of w d fs s) → d ≡ doing.Evaluate i → ((s : List Answer) → IsSure (first s))
+    → (s : List Answer) → IsSure (rest_of w (doing.Evaluate i) fs s)
+enter-sure w first d i fs same e h s = sure-along (first s) (rest_of w (doing.Evaluate i) fs s) (same s ∙ ap (λ (x : Doing). rest_of w x fs s) e) (h s)
+
+pub give-sure : (w : World) (first : Operand) (d : Doing) (v : Value) (f : Frame) (fs gs : List Frame) → ((s : List Answer) → first s ≡ rest_of w d fs s) → d ≡ doing.Give v → fs ≡ f ∷ gs
+    → ((s : List Answer) → IsSure (first s)) → (s : List Answer) → IsSure (left_of w (f ∷ gs) v s)
+give-sure w first d v f fs gs same e q h s =
+    sure-along (first s) (left_of w (f ∷ gs) v s) (same s ∙ ap (λ (x : Doing). rest_of w x fs s) e ∙ ap (λ (l : List Frame). left_of w l v s) q) (h s)
 
 -- weights
 plan-weighs : (i : ℕ) (n : Node) (p : Plan) → reach n ≤ i → p ≡ plan_of n → plan_weight p < power i

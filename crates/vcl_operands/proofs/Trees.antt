@@ -16,7 +16,7 @@ use Rattle.vcl_code.specs.Arenas.{Numbered, with_node, with_text, with_pattern, 
 use Rattle.vcl_code.specs.Names.{Known, Plain, Field, NoTarget, Read, OfTarget, Truth, Backend, NoRead, read_of, acl_of, callee_of}
 use Rattle.vcl_code.specs.Expressions.{text_node, numbered, numbered_arguments, absent, read_node, in_acl, searched, matched, ordered_as, asks_match, compared_with, Given, with_argument, second_string, substitution, xkey, director, called}
 use Rattle.vcl_turns.specs.declared.turn.Answer.{Answer}
-use Rattle.vcl_operands.specs.Outs.{On, and_then, known_on, fail}
+use Rattle.vcl_operands.specs.Outs.{On, Strays, and_then, known_on, made_on}
 use Rattle.vcl_operands.specs.Falls.{Falls}
 use Rattle.vcl_operands.specs.Later.{Later}
 use Rattle.vcl_operands.specs.Meaning.{Scene, scene, Operand, named_value, decides, sought_in, matched_in, comparison, values_of, all_values, value_of, operands_of}
@@ -39,7 +39,7 @@ scene_of w = scene w.code w.stored w.context
 pub node-is : (w : World) → Falls w.code.arena.nodes → (n : Made) (a : Arena) → Later (with_node n a).arena w.code.arena → value_at w (length a.nodes) ≡ node_value w (value_at w) n
 node-is w falls n a later = fun_ext (at-node w falls (length a.nodes) n (get-pushed a.nodes w.code.arena.nodes n later.nodes))
 
-absent-is : (w : World) → Falls w.code.arena.nodes → (a : Arena) → Later (absent a).arena w.code.arena → value_at w (length a.nodes) ≡ (λ s. fail s)
+absent-is : (w : World) → Falls w.code.arena.nodes → (a : Arena) → Later (absent a).arena w.code.arena → value_at w (length a.nodes) ≡ (λ s. Strays)
 absent-is w falls a later = node-is w falls node.Absent a later
 
 -- a node of one part, and of two
@@ -60,11 +60,11 @@ two-is w falls make F f second p q same later ih grows jh =
     node-is w falls (make f.number g.number) g.arena later ∙ same f.number g.number ∙ ap (λ (x : Operand). F x (value_at w g.number)) (ih front) ∙ ap (F p) (jh f.arena last)
 
 -- names that are read
-read-is : (w : World) → Falls w.code.arena.nodes → (r : Read) (a : Arena) → Later (read_node r a).arena w.code.arena → value_at w (read_node r a).number ≡ (λ s. known_on (named_value (scene_of w) r) s)
+read-is : (w : World) → Falls w.code.arena.nodes → (r : Read) (a : Arena) → Later (read_node r a).arena w.code.arena → value_at w (read_node r a).number ≡ (λ s. made_on (named_value (scene_of w) r) s)
 read-is w falls (OfTarget (Plain variable)) a later = node-is w falls (node.Read variable) a later
 read-is w falls (OfTarget (Field message name)) a later =
     node-is w falls (node.ReadField message (length a.texts)) (with_text name a).arena later
-    ∙ ap {B = Operand} (λ (o : Option (List ℕ)) (s : List Answer). known_on (option_map (λ t. field_value message t w.context) o) s) (get-pushed a.texts w.code.arena.texts name later.texts)
+    ∙ ap {B = Operand} (λ (o : Option (List ℕ)) (s : List Answer). made_on (option_map (λ t. Some (field_value message t w.context)) o) s) (get-pushed a.texts w.code.arena.texts name later.texts)
 read-is w falls (OfTarget NoTarget) a later = absent-is w falls a later
 read-is w falls (Truth truth) a later = node-is w falls (node.Truth truth) a later
 read-is w falls (Backend k) a later = node-is w falls (node.Backend k) a later
@@ -73,7 +73,7 @@ read-is w falls NoRead a later = absent-is w falls a later
 text-is : (w : World) → Falls w.code.arena.nodes → (t : List ℕ) (a : Arena) → Later (text_node t a).arena w.code.arena → value_at w (text_node t a).number ≡ (λ s. known_on (ok_of (text_value t)) s)
 text-is w falls t a later =
     node-is w falls (node.Text (length a.texts)) (with_text t a).arena later
-    ∙ ap {B = Operand} (λ (o : Option (List ℕ)) (s : List Answer). known_on (option_and_then (λ x. ok_of (text_value x)) o) s) (get-pushed a.texts w.code.arena.texts t later.texts)
+    ∙ ap {B = Operand} (λ (o : Option (List ℕ)) (s : List Answer). made_on (option_map (λ x. ok_of (text_value x)) o) s) (get-pushed a.texts w.code.arena.texts t later.texts)
 
 -- `~` and `!~`
 acl-is : (w : World) → Falls w.code.arena.nodes → (wanted : Bool) (f : Numbered) (acl : Option ℕ) (p : Operand) → Later (in_acl wanted f acl).arena w.code.arena
@@ -81,7 +81,7 @@ acl-is : (w : World) → Falls w.code.arena.nodes → (wanted : Bool) (f : Numbe
 acl-is w falls wanted f None p later ih = absent-is w falls f.arena later
 acl-is w falls wanted f (Some k) p later ih =
     node-is w falls (node.InAcl f.number k wanted) f.arena later
-    ∙ ap {B = Operand} (λ (x : Operand) (s : List Answer). and_then (x s) (λ v. known_on (option_and_then (λ entries. sought_value entries wanted v) (slice_get w.code.acls k))))
+    ∙ ap {B = Operand} (λ (x : Operand) (s : List Answer). and_then (x s) (λ v. made_on (option_and_then (λ entries. sought_value entries wanted v) (slice_get w.code.acls k))))
     (ih (later-trans f.arena _ w.code.arena (later-node (node.InAcl f.number k wanted) f.arena) later))
 
 searched-is : (w : World) → Falls w.code.arena.nodes → (wanted : Bool) (f : Numbered) (source : List ℕ) (p : Operand) → Later (searched wanted f source).arena w.code.arena
@@ -90,7 +90,7 @@ searched-is w falls wanted f source p later ih =
     let b : Arena = (with_pattern source f.arena).arena in
     let n : Made = node.Matches f.number (length f.arena.patterns) wanted in
     node-is w falls n b later
-    ∙ ap {B = Operand} (λ (o : Option (List ℕ)) (s : List Answer). and_then (value_at w f.number s) (λ v. known_on (option_and_then (λ pattern. match_value pattern wanted v) o)))
+    ∙ ap {B = Operand} (λ (o : Option (List ℕ)) (s : List Answer). and_then (value_at w f.number s) (λ v. made_on (option_map (λ pattern. match_value pattern wanted v) o)))
     (get-pushed f.arena.patterns w.code.arena.patterns source later.patterns)
     ∙ ap {B = Operand} (λ (x : Operand) (s : List Answer). and_then (x s) (λ v. known_on (match_value source wanted v)))
     (ih (later-trans f.arena b w.code.arena (later-pattern source f.arena) (later-trans b (with_node n b).arena w.code.arena (later-node n b) later)))
@@ -106,7 +106,7 @@ compared-is : (w : World) → Falls w.code.arena.nodes → (known : Known) (want
     → ((a : Arena) → Later (second a).arena w.code.arena → value_at w (second a).number ≡ q)
     → value_at w (compared_with known wanted how f right second).number ≡ comparison known (scene_of w) wanted how p right q
 compared-is w falls known wanted (Some how) f right second p q later ih grows jh =
-    two-is w falls (node.Compare how) (λ (x y : Operand) (s : List Answer). and_then (x s) (λ v s. and_then (y s) (λ u. known_on (ordered how v u)))) f second p q (λ x y. refl) later ih grows jh
+    two-is w falls (node.Compare how) (λ (x y : Operand) (s : List Answer). and_then (x s) (λ v s. and_then (y s) (λ u. made_on (ordered how v u)))) f second p q (λ x y. refl) later ih grows jh
 compared-is w falls known wanted None f right second p q later ih grows jh = matched-is w falls known wanted f right p later ih
 
 -- arguments by their numbers
@@ -134,36 +134,36 @@ values-cons p ops next s =
     bind_bind (p s) (λ v s. and_then (values_of ops s) (λ vs. On (v ∷ vs))) next ∙ and-then-same (p s) (λ v t. bind_bind (values_of ops t) (λ vs. On (v ∷ vs)) next)
 
 rest-is : (w : World) (k : ℕ) (args : Arguments) (ops : List Operand) (s : List Answer) → ArgumentsMean w args ops
-    → with_rest w.stored (value_at w) k args [] s ≡ and_then (all_values ops s) (λ values. known_on (applied w.stored k values))
-rest-is w k Zero ops s h = sym (ap (λ (l : List Operand). and_then (all_values l s) (λ values. known_on (applied w.stored k values))) h)
+    → with_rest w.stored (value_at w) k args [] s ≡ and_then (all_values ops s) (λ values. made_on (applied w.stored k values))
+rest-is w k Zero ops s h = sym (ap (λ (l : List Operand). and_then (all_values l s) (λ values. made_on (applied w.stored k values))) h)
 rest-is w k (One x) ops s h =
-    sym (ap (λ (l : List Operand). and_then (all_values l s) (λ values. known_on (applied w.stored k values))) h
-    ∙ values-cons (value_at w x) [] (λ values. known_on (applied w.stored k values)) s)
+    sym (ap (λ (l : List Operand). and_then (all_values l s) (λ values. made_on (applied w.stored k values))) h
+    ∙ values-cons (value_at w x) [] (λ values. made_on (applied w.stored k values)) s)
 rest-is w k (Two x y) ops s h =
-    sym (ap (λ (l : List Operand). and_then (all_values l s) (λ values. known_on (applied w.stored k values))) h
-    ∙ values-cons (value_at w x) (value_at w y ∷ []) (λ values. known_on (applied w.stored k values)) s
-    ∙ and-then-same (value_at w x s) (λ v t. values-cons (value_at w y) [] (λ values. known_on (applied w.stored k (v ∷ values))) t))
+    sym (ap (λ (l : List Operand). and_then (all_values l s) (λ values. made_on (applied w.stored k values))) h
+    ∙ values-cons (value_at w x) (value_at w y ∷ []) (λ values. made_on (applied w.stored k values)) s
+    ∙ and-then-same (value_at w x s) (λ v t. values-cons (value_at w y) [] (λ values. made_on (applied w.stored k (v ∷ values))) t))
 rest-is w k (Three x y z) ops s h =
-    sym (ap (λ (l : List Operand). and_then (all_values l s) (λ values. known_on (applied w.stored k values))) h
-    ∙ values-cons (value_at w x) (value_at w y ∷ value_at w z ∷ []) (λ values. known_on (applied w.stored k values)) s
-    ∙ and-then-same (value_at w x s) (λ v t. values-cons (value_at w y) (value_at w z ∷ []) (λ values. known_on (applied w.stored k (v ∷ values))) t
-    ∙ and-then-same (value_at w y t) (λ u r. values-cons (value_at w z) [] (λ values. known_on (applied w.stored k (v ∷ u ∷ values))) r)))
-rest-is w k TooMany ops s h = sym (ap (λ (b : Bool). and_then (if b then fail s else values_of ops s) (λ values. known_on (applied w.stored k values))) (lt-test 3 (length ops) h))
+    sym (ap (λ (l : List Operand). and_then (all_values l s) (λ values. made_on (applied w.stored k values))) h
+    ∙ values-cons (value_at w x) (value_at w y ∷ value_at w z ∷ []) (λ values. made_on (applied w.stored k values)) s
+    ∙ and-then-same (value_at w x s) (λ v t. values-cons (value_at w y) (value_at w z ∷ []) (λ values. made_on (applied w.stored k (v ∷ values))) t
+    ∙ and-then-same (value_at w y t) (λ u r. values-cons (value_at w z) [] (λ values. made_on (applied w.stored k (v ∷ u ∷ values))) r)))
+rest-is w k TooMany ops s h = sym (ap (λ (b : Bool). and_then (if b then Strays else values_of ops s) (λ values. made_on (applied w.stored k values))) (lt-test 3 (length ops) h))
 
 -- more arguments than any function takes
-many-substituted : (sc : Scene) (all : Bool) (source : List ℕ) (ops : List Operand) → 3 < length ops → call_value sc (callee.Builtin (builtin.Substitute all)) (Some source) ops ≡ (λ s. fail s)
+many-substituted : (sc : Scene) (all : Bool) (source : List ℕ) (ops : List Operand) → 3 < length ops → call_value sc (callee.Builtin (builtin.Substitute all)) (Some source) ops ≡ (λ s. Strays)
 many-substituted sc all source [] h = absurd (omega arith)
 many-substituted sc all source (a ∷ []) h = absurd (omega arith)
 many-substituted sc all source (a ∷ b ∷ []) h = absurd (omega arith)
 many-substituted sc all source (a ∷ b ∷ c ∷ []) h = absurd (omega arith)
 many-substituted sc all source (a ∷ b ∷ c ∷ d ∷ rest) h = refl
 
-many-purged : (sc : Scene) (soft : Bool) (second : Option (List ℕ)) (ops : List Operand) → 3 < length ops → call_value sc (callee.Builtin (builtin.Xkey soft)) second ops ≡ (λ s. fail s)
+many-purged : (sc : Scene) (soft : Bool) (second : Option (List ℕ)) (ops : List Operand) → 3 < length ops → call_value sc (callee.Builtin (builtin.Xkey soft)) second ops ≡ (λ s. Strays)
 many-purged sc soft second [] h = absurd (omega arith)
 many-purged sc soft second (a ∷ []) h = absurd (omega arith)
 many-purged sc soft second (a ∷ b ∷ rest) h = refl
 
-many-directed : (sc : Scene) (k : ℕ) (second : Option (List ℕ)) (ops : List Operand) → 3 < length ops → call_value sc (callee.Director k) second ops ≡ (λ s. fail s)
+many-directed : (sc : Scene) (k : ℕ) (second : Option (List ℕ)) (ops : List Operand) → 3 < length ops → call_value sc (callee.Director k) second ops ≡ (λ s. Strays)
 many-directed sc k second [] h = absurd (omega arith)
 many-directed sc k second (a ∷ []) h = absurd (omega arith)
 many-directed sc k second (a ∷ b ∷ rest) h = refl
@@ -173,7 +173,7 @@ substitution-is : (w : World) → Falls w.code.arena.nodes → (all : Bool) (sec
     → value_at w (substitution all second args a).number ≡ call_value (scene_of w) (callee.Builtin (builtin.Substitute all)) second ops
 substitution-is w falls all (Some source) (Three x y z) a ops h later =
     node-is w falls (node.Substitute all x (length a.patterns) z) (with_pattern source a).arena later
-    ∙ ap {B = Operand} (λ (o : Option (List ℕ)) (s : List Answer). and_then (value_at w x s) (λ v s. and_then (value_at w z s) (λ u. known_on (option_and_then (λ pattern. substituted pattern all v u) o))))
+    ∙ ap {B = Operand} (λ (o : Option (List ℕ)) (s : List Answer). and_then (value_at w x s) (λ v s. and_then (value_at w z s) (λ u. made_on (option_map (λ pattern. substituted pattern all v u) o))))
     (get-pushed a.patterns w.code.arena.patterns source later.patterns)
     ∙ sym (ap (λ (l : List Operand). call_value (scene_of w) (callee.Builtin (builtin.Substitute all)) (Some source) l) h)
 substitution-is w falls all (Some source) Zero a ops h later =
@@ -229,15 +229,15 @@ mutual
       two-is w falls node.Both (λ (x y : Operand) (s : List Answer). and_then (x s) (decides false y)) (numbered known left a) (numbered known right) (value_of known (scene_of w) left)
       (value_of known (scene_of w) right) (λ x y. refl) later (expression-is w falls known left a) (expression-later known right) (expression-is w falls known right)
   expression-is w falls known (Node Not sign e) a later =
-      one-is w falls node.Not (λ (x : Operand) (s : List Answer). and_then (x s) (λ v. known_on (opposite v))) (numbered known e a) (value_of known (scene_of w) e) (λ x. refl) later
+      one-is w falls node.Not (λ (x : Operand) (s : List Answer). and_then (x s) (λ v. made_on (opposite v))) (numbered known e a) (value_of known (scene_of w) e) (λ x. refl) later
       (expression-is w falls known e a)
   expression-is w falls known (Node Group sign e) a later = expression-is w falls known e a later
   expression-is w falls known (Node Added left right) a later =
-      two-is w falls node.Sum (λ (x y : Operand) (s : List Answer). and_then (x s) (λ v s. and_then (y s) (λ u. known_on (summed v u)))) (numbered known left a) (numbered known right)
+      two-is w falls node.Sum (λ (x y : Operand) (s : List Answer). and_then (x s) (λ v s. and_then (y s) (λ u. made_on (summed v u)))) (numbered known left a) (numbered known right)
       (value_of known (scene_of w) left) (value_of known (scene_of w) right) (λ x y. refl) later (expression-is w falls known left a) (expression-later known right)
       (expression-is w falls known right)
   expression-is w falls known (Node Subtracted left right) a later =
-      two-is w falls node.Difference (λ (x y : Operand) (s : List Answer). and_then (x s) (λ v s. and_then (y s) (λ u. known_on (lessened v u)))) (numbered known left a) (numbered known right)
+      two-is w falls node.Difference (λ (x y : Operand) (s : List Answer). and_then (x s) (λ v s. and_then (y s) (λ u. made_on (lessened v u)))) (numbered known left a) (numbered known right)
       (value_of known (scene_of w) left) (value_of known (scene_of w) right) (λ x y. refl) later (expression-is w falls known left a) (expression-later known right)
       (expression-is w falls known right)
   expression-is w falls known (Node (Compared how) left right) a later =

@@ -1,5 +1,5 @@
 -- What expressions in numbers are worth, and what is left of one whose evaluation is under way.
-use Rattle.std.specs.Prelude.{ℕ, zero, suc, true, false, List, [], ◌∷◌, ◌++◌, length, Option, Some, None, option_and_then, slice_get}
+use Rattle.std.specs.Prelude.{ℕ, zero, suc, true, false, List, [], ◌∷◌, ◌++◌, length, Option, Some, None, option_map, option_and_then, slice_get}
 use Rattle.vcl_values.specs.declared.value.Value.{Value}
 use Rattle.vcl_values.specs.declared.value.Value.TheVariants as value
 use Rattle.vcl_context.specs.Reading.{value_of as variable_value}
@@ -24,27 +24,27 @@ use Rattle.vcl_operands.specs.declared.evaluation.Outcome.{Outcome}
 use Rattle.vcl_operands.specs.declared.evaluation.Outcome.TheVariants as outcome
 use Rattle.vcl_turns.specs.declared.turn.Answer.{Answer}
 use Rattle.vcl_turns.specs.declared.turn.Command.TheVariants.{Xkey}
-use Rattle.vcl_operands.specs.Outs.{On, and_then, fail, known_on, ask, number_of}
+use Rattle.vcl_operands.specs.Outs.{On, Strays, and_then, fail, made_on, ask, number_of}
 use Rattle.vcl_operands.specs.Meaning.{Operand, decides, purged}
 use Rattle.vcl_operands.specs.Values.{literal, named_field, truth_value, opposite, matched, sought, ordered, summed, lessened, substituted, backend_at, director_at, asked, applied}
 
 -- what is done with one value, and with two
-abbrev pub changed : Code → Unary → Value → Option Value
+abbrev pub changed : Code → Unary → Value → Option (Option Value)
 changed code unary.Truth v = truth_value v
 changed code unary.Not v = opposite v
-changed code (unary.Match k wanted) v = option_and_then (λ pattern. matched pattern wanted v) (slice_get code.arena.patterns k)
+changed code (unary.Match k wanted) v = option_map (λ pattern. matched pattern wanted v) (slice_get code.arena.patterns k)
 changed code (unary.Seek k wanted) v = option_and_then (λ entries. sought entries wanted v) (slice_get code.acls k)
 changed code (unary.Direct k) v = asked code.directors k v
 
-abbrev pub combined : Code → Binary → Value → Value → Option Value
+abbrev pub combined : Code → Binary → Value → Value → Option (Option Value)
 combined code (binary.Compare how) v w = ordered how v w
 combined code binary.Add v w = summed v w
 combined code binary.Subtract v w = lessened v w
-combined code (binary.Substitute all k) v w = option_and_then (λ pattern. substituted pattern all v w) (slice_get code.arena.patterns k)
+combined code (binary.Substitute all k) v w = option_map (λ pattern. substituted pattern all v w) (slice_get code.arena.patterns k)
 
 -- a stored function with some of its arguments, and the nodes of those behind them
 abbrev pub with_none : List Stored → ℕ → List Value → Operand
-with_none stored k given s = known_on (applied stored k given) s
+with_none stored k given s = made_on (applied stored k given) s
 
 abbrev pub with_one : List Stored → (ℕ → Operand) → ℕ → ℕ → List Value → Operand
 with_one stored at k x given s = and_then (at x s) (λ v. with_none stored k (given ++ v ∷ []))
@@ -60,7 +60,7 @@ with_rest stored at k Zero given s = with_none stored k given s
 with_rest stored at k (One x) given s = with_one stored at k x given s
 with_rest stored at k (Two x y) given s = with_two stored at k x y given s
 with_rest stored at k (Three x y z) given s = with_three stored at k x y z given s
-with_rest stored at k More given s = fail s
+with_rest stored at k More given s = Strays
 
 -- a text in numbers, the stored functions, and the values of variables
 pub record World : Type 0 where
@@ -73,21 +73,21 @@ world code stored context = record { code = code; stored = stored; context = con
 
 -- what waits for a value, with what the nodes are worth
 abbrev pub onward : World → (ℕ → Operand) → Frame → Value → Operand
-onward w at (frame.One what) v s = known_on (changed w.code what v) s
-onward w at (frame.Left what right) v s = and_then (at right s) (λ u. known_on (combined w.code what v u))
-onward w at (frame.Right what v) u s = known_on (combined w.code what v u) s
+onward w at (frame.One what) v s = made_on (changed w.code what v) s
+onward w at (frame.Left what right) v s = and_then (at right s) (λ u. made_on (combined w.code what v u))
+onward w at (frame.Right what v) u s = made_on (combined w.code what v u) s
 onward w at (frame.Decide decided right) v s = decides decided (at right) v s
 onward w at (frame.Purge soft) v s = purged soft v s
 onward w at (frame.Apply k given rest) v s = with_rest w.stored at k rest (given ++ v ∷ []) s
 
 -- a node without parts
-abbrev pub leaf : Code → Context → Node → Option Value
+abbrev pub leaf : Code → Context → Node → Option (Option Value)
 leaf code context (node.Text k) = literal code.arena.texts k
-leaf code context (node.Int n) = Some (value.Int n)
-leaf code context (node.Duration time) = Some (value.Duration time)
-leaf code context (node.Truth truth) = Some (value.Bool truth)
+leaf code context (node.Int n) = Some (Some (value.Int n))
+leaf code context (node.Duration time) = Some (Some (value.Duration time))
+leaf code context (node.Truth truth) = Some (Some (value.Bool truth))
 leaf code context (node.Backend k) = backend_at code.backends k
-leaf code context (node.Read variable) = Some (variable_value variable context)
+leaf code context (node.Read variable) = Some (Some (variable_value variable context))
 leaf code context (node.ReadField message k) = named_field context code.arena.texts message k
 leaf code context (node.Director k) = director_at code.directors k
 leaf code context _ = None
@@ -111,18 +111,18 @@ plan_of n = plan.Leaf n
 abbrev pub planned : World → (ℕ → Operand) → Plan → Operand
 planned w at (plan.First x waiting) s = and_then (at x s) (onward w at waiting)
 planned w at (plan.Calls k arguments) s = with_rest w.stored at k arguments [] s
-planned w at (plan.Leaf n) s = known_on (leaf w.code w.context n) s
+planned w at (plan.Leaf n) s = made_on (leaf w.code w.context n) s
 
 abbrev pub node_value : World → (ℕ → Operand) → Node → Operand
 node_value w at n s = planned w at (plan_of n) s
 
 -- a number by its node, where parts lie at most so deep
 abbrev pub known_value : World → (ℕ → Operand) → Option Node → Operand
-known_value w at None s = fail s
+known_value w at None s = Strays
 known_value w at (Some n) s = node_value w at n s
 
 unfoldable pub value_within : ℕ → World → ℕ → Operand
-value_within zero w i s = fail s
+value_within zero w i s = Strays
 value_within (suc depth) w i s = known_value w (value_within depth w) (slice_get w.code.arena.nodes i) s
 
 -- what the node of this number is worth: parts have smaller numbers

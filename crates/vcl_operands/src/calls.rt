@@ -1,5 +1,5 @@
 // Stored functions.
-ghost use Rattle.std.specs.Prelude.{◌≡◌, IfOk};
+ghost use Rattle.std.specs.Prelude.{◌≡◌, IfOk, IsSome, Some};
 ghost use Rattle.vcl_operands.specs.Values.{fitted, all_fitted, answered, applied};
 ghost use Rattle.vmod_host.specs.Stored.{entry_of};
 
@@ -9,20 +9,17 @@ use units::Sequence;
 use vcl_values::{Kind, Value};
 use vmod_host::{Vmod, VmodTable};
 
-/// A stored function of these arguments, by its number.
+/// A stored function of these arguments, by its number, or none where a text passes its limit.
 pub(crate) fn applied(
     alloc: Global,
     functions: &VmodTable,
     number: usize,
     arguments: &[Value],
 ) -> Result<Option<Value>, AllocError>
-    ensures { IfOk result (λ value. value ≡ applied functions.now.stored number arguments.now) }
+    requires { IsSome (applied functions.now.stored number arguments.now) }
+    ensures { IfOk result (λ value. applied functions.now.stored number arguments.now ≡ Some value) }
 {
-    if number < functions.stored.as_slice().len() {
-        answered(alloc, functions.at(number), arguments)
-    } else {
-        Ok(None)
-    }
+    answered(alloc, functions.at(number), arguments)
 }
 
 fn answered(
@@ -30,7 +27,8 @@ fn answered(
     function: &Vmod,
     arguments: &[Value],
 ) -> Result<Option<Value>, AllocError>
-    ensures { IfOk result (λ value. value ≡ answered (entry_of function.now.tag function.now.signature) arguments.now) }
+    requires { IsSome (answered (entry_of function.now.tag function.now.signature) arguments.now) }
+    ensures { IfOk result (λ value. answered (entry_of function.now.tag function.now.signature) arguments.now ≡ Some value) }
 {
     match all_fitted(alloc, function.signature.takes.as_slice(), arguments)? {
         Some(fits) => Ok(Some(function.answer(alloc, fits.as_slice())?)),
@@ -44,14 +42,15 @@ fn all_fitted(
     kinds: &[Kind],
     arguments: &[Value],
 ) -> Result<Option<Sequence<Value>>, AllocError>
-    ensures { IfOk result (λ made. made ≡ all_fitted kinds.now arguments.now) }
+    requires { IsSome (all_fitted kinds.now arguments.now) }
+    ensures { IfOk result (λ made. all_fitted kinds.now arguments.now ≡ Some made) }
 {
     let mut fits = Sequence::new(alloc);
     let mut wanted = kinds;
     let mut given = arguments;
     'arguments: while let Some((value, others)) = given.split_first() {
         let Some((kind, more)) = wanted.split_first() else {
-            return Ok(None);
+            unreachable!();
         };
         let Some(made) = fitted(alloc, *kind, value)? else {
             return Ok(None);
@@ -60,16 +59,14 @@ fn all_fitted(
         given = others;
         wanted = more;
     }
-    if wanted.is_empty() {
-        Ok(Some(fits))
-    } else {
-        Ok(None)
-    }
+    Ok(Some(fits))
 }
 
-/// A value where one of this type is wanted: of any type where a text is, whose text stands for it.
+/// A value where one of this type is wanted: of any type where a text is, whose text stands for it. None where that passes its
+/// limit.
 pub fn fitted(alloc: Global, wanted: Kind, value: &Value) -> Result<Option<Value>, AllocError>
-    ensures { IfOk result (λ made. made ≡ fitted wanted value.now) }
+    requires { IsSome (fitted wanted value.now) }
+    ensures { IfOk result (λ made. fitted wanted value.now ≡ Some made) }
 {
     match (wanted, value) {
         (Kind::String, Value::String(_)) => Ok(Some(value.copy()?)),
@@ -77,12 +74,6 @@ pub fn fitted(alloc: Global, wanted: Kind, value: &Value) -> Result<Option<Value
             Some(text) => Ok(Some(Value::String(Some(text)))),
             None => Ok(None),
         },
-        _ => {
-            if value.kind() == wanted {
-                Ok(Some(value.copy()?))
-            } else {
-                Ok(None)
-            }
-        }
+        _ => Ok(Some(value.copy()?)),
     }
 }

@@ -1,7 +1,7 @@
 // The evaluation of an expression, which stops where a purge by keys is wanted.
 ghost use Rattle.std.specs.Prelude.{◌≡◌, ◌<◌, ◌≤◌, ◌+◌, ◌∷◌, [], List, IfOk, length, slice_get};
 ghost use Rattle.vcl_turns.specs.declared.turn.Answer.{Answer};
-ghost use Rattle.vcl_operands.specs.Outs.{and_then};
+ghost use Rattle.vcl_operands.specs.Outs.{and_then, IsSure};
 ghost use Rattle.vcl_operands.specs.Nodes.{World, world, value_at, left_of, rest_of, came_to, given_number, given_if, with_rest};
 ghost use Rattle.vcl_operands.specs.Weights.{power, weight, frames_weight, arguments_weight, LeavesLess, IsBegun};
 ghost use Rattle.vcl_context.specs.declared.context.Context.{Context as ContextHere};
@@ -56,7 +56,7 @@ impl Evaluation {
         }
     }
 
-    /// Evaluates a node. What waits behind a purge that is wanted weighs less than any node.
+    /// Evaluates a node that doesn't stray. What waits behind a purge that is wanted weighs less than any node.
     pub fn evaluate(
         &mut self,
         alloc: Global,
@@ -65,14 +65,12 @@ impl Evaluation {
         context: &Context,
         number: usize,
     ) -> Result<Outcome, AllocError>
-        requires { self.old ≡ [] }
+        requires fresh { self.old ≡ [] }
+        requires sure { (s : List Answer) → IsSure (value_at (world program.now.code functions.now.stored context.now) number s) }
         ensures value { IfOk result (λ outcome. (s : List Answer) → value_at (world program.now.code functions.now.stored context.now) number s
             ≡ came_to (world program.now.code functions.now.stored context.now) outcome self.new s) }
         ensures less { IfOk result (λ outcome. LeavesLess (power (length program.now.code.arena.nodes)) outcome self.new) }
     {
-        if number >= program.code.arena.nodes.as_slice().len() {
-            return Ok(Outcome::Fail);
-        }
         self.run(alloc, program, functions, context, Doing::Evaluate(number))
     }
 
@@ -85,6 +83,7 @@ impl Evaluation {
         context: &Context,
         count: i64,
     ) -> Result<Outcome, AllocError>
+        requires { (s : List Answer) → IsSure (given_number (world program.now.code functions.now.stored context.now) self.old (Answer.Number count) s) }
         ensures value { IfOk result (λ outcome. (s : List Answer) → given_number (world program.now.code functions.now.stored context.now) self.old (Answer.Number count) s
             ≡ came_to (world program.now.code functions.now.stored context.now) outcome self.new s) }
         ensures less { IfOk result (λ outcome. LeavesLess (frames_weight self.old) outcome self.new) }
@@ -106,6 +105,7 @@ impl Evaluation {
         context: &Context,
         first: Doing,
     ) -> Result<Outcome, AllocError>
+        requires { (s : List Answer) → IsSure (rest_of (world program.now.code functions.now.stored context.now) first self.old s) }
         ensures value { IfOk result (λ outcome. (s : List Answer) → rest_of (world program.now.code functions.now.stored context.now) first self.old s
             ≡ came_to (world program.now.code functions.now.stored context.now) outcome self.new s) }
         ensures less { IsBegun first → IfOk result (λ outcome. LeavesLess (weight first self.old) outcome self.new) }
@@ -135,13 +135,14 @@ impl Evaluation {
         context: &Context,
         number: usize,
     ) -> Result<Doing, AllocError>
+        requires { (s : List Answer) → IsSure (rest_of (world program.now.code functions.now.stored context.now) (Doing.Evaluate number) self.old s) }
         ensures value { IfOk result (λ next. (s : List Answer) → rest_of (world program.now.code functions.now.stored context.now) (Doing.Evaluate number) self.old s
             ≡ rest_of (world program.now.code functions.now.stored context.now) next self.new s) }
         ensures smaller { IfOk result (λ next. weight next self.new < weight (Doing.Evaluate number) self.old) }
     {
         compiled_falls(program);
         let Some(node) = node_at(program.code.arena.nodes.as_slice(), number) else {
-            return Ok(Doing::Fail);
+            unreachable!();
         };
         match plan_of(node) {
             Plan::First(part, frame) => self.first(part, frame),
@@ -169,6 +170,7 @@ impl Evaluation {
         frame: Frame,
         value: Value,
     ) -> Result<Doing, AllocError>
+        requires { (context : ContextHere) × ((s : List Answer) → IsSure (left_of (world program.now.code functions.now.stored context) (frame ∷ self.old) value s)) }
         ensures value { (context : ContextHere) → IfOk result (λ next. (s : List Answer) → left_of (world program.now.code functions.now.stored context) (frame ∷ self.old) value s
             ≡ rest_of (world program.now.code functions.now.stored context) next self.new s) }
         ensures smaller { IfOk result (λ next. weight next self.new < frames_weight (frame ∷ self.old)) }
@@ -193,11 +195,12 @@ impl Evaluation {
 
     // The right side, unless the left one decides.
     fn decided(&mut self, decided: bool, right: usize, left: &Value) -> Result<Doing, AllocError>
+        requires { (w : World) × ((s : List Answer) → IsSure (left_of w (Frame.Decide decided right ∷ self.old) left.now s)) }
         ensures value { (w : World) → IfOk result (λ next. (s : List Answer) → left_of w (Frame.Decide decided right ∷ self.old) left.now s ≡ rest_of w next self.new s) }
         ensures smaller { IfOk result (λ next. weight next self.new < frames_weight (Frame.Decide decided right ∷ self.old)) }
     {
         match left.truth() {
-            None => Ok(Doing::Fail),
+            None => unreachable!(),
             Some(truth) => {
                 if truth == decided {
                     Ok(Doing::Give(Value::Bool(decided)))
@@ -217,6 +220,7 @@ impl Evaluation {
         values: Sequence<Value>,
         rest: Arguments,
     ) -> Result<Doing, AllocError>
+        requires { (w : World) × (w.stored ≡ functions.now.stored) × ((s : List Answer) → IsSure (and_then (with_rest w.stored (value_at w) function rest values s) (left_of w self.old))) }
         ensures value { (w : World) → w.stored ≡ functions.now.stored
             → IfOk result (λ next. (s : List Answer) → and_then (with_rest w.stored (value_at w) function rest values s) (left_of w self.old) ≡ rest_of w next self.new s) }
         ensures smaller { IfOk result (λ next. weight next self.new ≤ arguments_weight rest + frames_weight self.old) }
@@ -235,7 +239,7 @@ impl Evaluation {
             Arguments::Three(x, y, z) => {
                 self.first(x, Frame::Apply(function, values, Arguments::Two(y, z)))
             }
-            Arguments::More => Ok(Doing::Fail),
+            Arguments::More => unreachable!(),
         }
     }
 }

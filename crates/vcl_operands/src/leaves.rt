@@ -1,5 +1,5 @@
 // Values of nodes without parts.
-ghost use Rattle.std.specs.Prelude.{◌≡◌, IfOk};
+ghost use Rattle.std.specs.Prelude.{◌≡◌, IfOk, IsSome, Some};
 ghost use Rattle.vcl_operands.specs.Nodes.{leaf};
 ghost use Rattle.vcl_operands.specs.Values.{backend_at, director_at, director_value, literal, named_field};
 
@@ -10,44 +10,46 @@ use vcl_context::{Context, Message};
 use vcl_program::{Compiled, Director};
 use vcl_values::{Backend, MOST_TEXT, Value};
 
-/// What a node without parts is worth.
+/// What a node without parts is worth, or none where a limit is passed.
 pub(crate) fn leaf(
     alloc: Global,
     program: &Compiled,
     context: &Context,
     node: Node,
 ) -> Result<Option<Value>, AllocError>
-    ensures { IfOk result (λ value. value ≡ leaf program.now.code context.now node) }
+    requires { IsSome (leaf program.now.code context.now node) }
+    ensures { IfOk result (λ value. leaf program.now.code context.now node ≡ Some value) }
 {
     match node {
         Node::Text(number) => literal(program.code.arena.texts.as_slice(), number),
         Node::Int(number) => Ok(Some(Value::Int(number))),
         Node::Duration(time) => Ok(Some(Value::Duration(time))),
         Node::Truth(truth) => Ok(Some(Value::Bool(truth))),
-        Node::Backend(number) => backend_at(program.code.backends.as_slice(), number),
+        Node::Backend(number) => { Ok(Some(backend_at(program.code.backends.as_slice(), number)?)) }
         Node::Read(variable) => Ok(Some(context.read(alloc, variable)?)),
         Node::ReadField(message, number) => {
-            field(
-                context,
-                program.code.arena.texts.as_slice(),
-                message,
-                number,
-            )
+            let texts = program.code.arena.texts.as_slice();
+            Ok(Some(field(context, texts, message, number)?))
         }
-        Node::Director(number) => director_at(program.code.directors.as_slice(), number),
-        _ => Ok(None),
+        Node::Director(number) => {
+            Ok(Some(director_at(program.code.directors.as_slice(), number)?))
+        }
+        _ => unreachable!(),
     }
 }
 
 // A string of the text, or none where it has over 65,536 bytes.
 fn literal(texts: &[Text], number: usize) -> Result<Option<Value>, AllocError>
-    ensures { IfOk result (λ value. value ≡ literal texts.now number) }
+    requires { IsSome (literal texts.now number) }
+    ensures { IfOk result (λ value. literal texts.now number ≡ Some value) }
 {
-    match texts.get(number) {
-        Some(text) if text.bytes().len() <= MOST_TEXT => {
-            Ok(Some(Value::String(Some(text.copy()?))))
-        }
-        _ => Ok(None),
+    let Some(text) = texts.get(number) else {
+        unreachable!();
+    };
+    if text.bytes().len() <= MOST_TEXT {
+        Ok(Some(Value::String(Some(text.copy()?))))
+    } else {
+        Ok(None)
     }
 }
 
@@ -56,31 +58,34 @@ fn field(
     texts: &[Text],
     message: Message,
     number: usize,
-) -> Result<Option<Value>, AllocError>
-    ensures { IfOk result (λ value. value ≡ named_field context.now texts.now message number) }
+) -> Result<Value, AllocError>
+    requires { IsSome (named_field context.now texts.now message number) }
+    ensures { IfOk result (λ value. named_field context.now texts.now message number ≡ Some (Some value)) }
 {
-    match texts.get(number) {
-        Some(name) => Ok(Some(context.read_field(message, name.bytes())?)),
-        None => Ok(None),
-    }
+    let Some(name) = texts.get(number) else {
+        unreachable!();
+    };
+    context.read_field(message, name.bytes())
 }
 
-fn backend_at(backends: &[Backend], number: usize) -> Result<Option<Value>, AllocError>
-    ensures { IfOk result (λ value. value ≡ backend_at backends.now number) }
+fn backend_at(backends: &[Backend], number: usize) -> Result<Value, AllocError>
+    requires { IsSome (backend_at backends.now number) }
+    ensures { IfOk result (λ value. backend_at backends.now number ≡ Some (Some value)) }
 {
-    match backends.get(number) {
-        Some(backend) => Ok(Some(Value::Backend(Some(backend.copy()?)))),
-        None => Ok(None),
-    }
+    let Some(backend) = backends.get(number) else {
+        unreachable!();
+    };
+    Ok(Value::Backend(Some(backend.copy()?)))
 }
 
-fn director_at(directors: &[Director], number: usize) -> Result<Option<Value>, AllocError>
-    ensures { IfOk result (λ value. value ≡ director_at directors.now number) }
+fn director_at(directors: &[Director], number: usize) -> Result<Value, AllocError>
+    requires { IsSome (director_at directors.now number) }
+    ensures { IfOk result (λ value. director_at directors.now number ≡ Some (Some value)) }
 {
-    match directors.get(number) {
-        Some(director) => Ok(Some(director_value(director, None)?)),
-        None => Ok(None),
-    }
+    let Some(director) = directors.get(number) else {
+        unreachable!();
+    };
+    director_value(director, None)
 }
 
 /// A director as a value, with the text that it is asked with.

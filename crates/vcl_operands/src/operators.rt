@@ -1,8 +1,8 @@
 // What is made of one value, and of two.
-ghost use Rattle.std.specs.Prelude.{◌≡◌, IfOk, option_copied, slice_get};
+ghost use Rattle.std.specs.Prelude.{◌≡◌, IfOk, IsSome, Some, slice_get};
 ghost use Rattle.vcl_operands.specs.Lists.{takes};
 ghost use Rattle.vcl_operands.specs.Nodes.{changed, combined};
-ghost use Rattle.vcl_operands.specs.Values.{as_text, truth_value, opposite, matched, sought, ordered, summed, lessened, substituted, replaced_in, asked};
+ghost use Rattle.vcl_operands.specs.Values.{as_text, truth_value, opposite, matched, sought, ordered, summed, lessened, substituted, replaced_in, asked_with, asked};
 
 use crate::frame::{Binary, Unary};
 use crate::leaves::director_value;
@@ -24,65 +24,56 @@ pub fn short_text(alloc: Global, value: &Value) -> Result<Option<Text>, AllocErr
     }
 }
 
-/// What is made of one value.
+/// What is made of one value, or none where a limit is passed.
 pub(crate) fn changed(
     alloc: Global,
     program: &Compiled,
     what: Unary,
     value: &Value,
 ) -> Result<Option<Value>, AllocError>
-    ensures { IfOk result (λ made. made ≡ changed program.now.code what value.now) }
+    requires { IsSome (changed program.now.code what value.now) }
+    ensures { IfOk result (λ made. changed program.now.code what value.now ≡ Some made) }
 {
     match what {
-        Unary::Truth => Ok(truth(value)),
-        Unary::Not => Ok(opposite(value)),
-        Unary::Match(number, wanted) => match pattern_at(program, number) {
-            Some(pattern) => matched(alloc, pattern, wanted, value),
-            None => Ok(None),
-        },
-        Unary::Seek(number, wanted) => match acl_at(program, number) {
-            Some(acl) => Ok(sought(acl, wanted, value)),
-            None => Ok(None),
-        },
+        Unary::Truth => Ok(Some(truth(value))),
+        Unary::Not => Ok(Some(opposite(value))),
+        Unary::Match(number, wanted) => matched(alloc, pattern_at(program, number), wanted, value),
+        Unary::Seek(number, wanted) => Ok(Some(sought(acl_at(program, number), wanted, value))),
         Unary::Direct(number) => asked(alloc, program.code.directors.as_slice(), number, value),
     }
 }
 
-fn pattern_at(program: &Compiled, number: usize) -> Option<&Pattern>
-    ensures { option_copied result ≡ slice_get program.now.code.arena.patterns number }
+fn pattern_at(program: &Compiled, number: usize) -> &Pattern
+    requires { IsSome (slice_get program.now.code.arena.patterns number) }
+    ensures { slice_get program.now.code.arena.patterns number ≡ Some result.now }
 {
-    if number < program.code.arena.patterns.as_slice().len() {
-        Some(program.pattern(number))
-    } else {
-        None
-    }
+    program.pattern(number)
 }
 
-fn acl_at(program: &Compiled, number: usize) -> Option<&Acl>
-    ensures { option_copied result ≡ slice_get program.now.code.acls number }
+fn acl_at(program: &Compiled, number: usize) -> &Acl
+    requires { IsSome (slice_get program.now.code.acls number) }
+    ensures { slice_get program.now.code.acls number ≡ Some result.now }
 {
-    if number < program.code.acls.as_slice().len() {
-        Some(program.acl(number))
-    } else {
-        None
-    }
+    program.acl(number)
 }
 
-fn truth(value: &Value) -> Option<Value>
-    ensures { result ≡ truth_value value.now }
+fn truth(value: &Value) -> Value
+    requires { IsSome (truth_value value.now) }
+    ensures { truth_value value.now ≡ Some (Some result) }
 {
     match value.truth() {
-        Some(truth) => Some(Value::Bool(truth)),
-        None => None,
+        Some(truth) => Value::Bool(truth),
+        None => unreachable!(),
     }
 }
 
-fn opposite(value: &Value) -> Option<Value>
-    ensures { result ≡ opposite value.now }
+fn opposite(value: &Value) -> Value
+    requires { IsSome (opposite value.now) }
+    ensures { opposite value.now ≡ Some (Some result) }
 {
     match value.truth() {
-        Some(truth) => Some(Value::Bool(!truth)),
-        None => None,
+        Some(truth) => Value::Bool(!truth),
+        None => unreachable!(),
     }
 }
 
@@ -103,12 +94,13 @@ fn matched(
     }
 }
 
-fn sought(acl: &Acl, wanted: bool, value: &Value) -> Option<Value>
-    ensures { result ≡ sought acl.now wanted value.now }
+fn sought(acl: &Acl, wanted: bool, value: &Value) -> Value
+    requires { IsSome (sought acl.now wanted value.now) }
+    ensures { sought acl.now wanted value.now ≡ Some (Some result) }
 {
     match value {
-        Value::Ip(address) => Some(Value::Bool(is_taken(acl, *address) == wanted)),
-        _ => None,
+        Value::Ip(address) => Value::Bool(is_taken(acl, *address) == wanted),
+        _ => unreachable!(),
     }
 }
 
@@ -125,18 +117,29 @@ fn asked(
     number: usize,
     value: &Value,
 ) -> Result<Option<Value>, AllocError>
-    ensures { IfOk result (λ made. made ≡ asked directors.now number value.now) }
+    requires { IsSome (asked directors.now number value.now) }
+    ensures { IfOk result (λ made. asked directors.now number value.now ≡ Some made) }
 {
-    let Some(key) = short_text(alloc, value)? else {
-        return Ok(None);
+    let Some(director) = directors.get(number) else {
+        unreachable!();
     };
-    match directors.get(number) {
-        Some(director) => Ok(Some(director_value(director, Some(key))?)),
+    asked_with(alloc, director, value)
+}
+
+fn asked_with(
+    alloc: Global,
+    director: &Director,
+    value: &Value,
+) -> Result<Option<Value>, AllocError>
+    ensures { IfOk result (λ made. made ≡ asked_with value.now director.now) }
+{
+    match short_text(alloc, value)? {
+        Some(key) => Ok(Some(director_value(director, Some(key))?)),
         None => Ok(None),
     }
 }
 
-/// What is made of two values.
+/// What is made of two values, or none where a range or a limit is passed.
 pub(crate) fn combined(
     alloc: Global,
     program: &Compiled,
@@ -144,44 +147,49 @@ pub(crate) fn combined(
     left: &Value,
     right: &Value,
 ) -> Result<Option<Value>, AllocError>
-    ensures { IfOk result (λ made. made ≡ combined program.now.code what left.now right.now) }
+    requires { IsSome (combined program.now.code what left.now right.now) }
+    ensures { IfOk result (λ made. combined program.now.code what left.now right.now ≡ Some made) }
 {
     match what {
-        Binary::Compare(how) => Ok(ordered(how, left, right)),
+        Binary::Compare(how) => Ok(Some(ordered(how, left, right))),
         Binary::Add => summed(alloc, left, right),
         Binary::Subtract => Ok(lessened(left, right)),
-        Binary::Substitute(all, number) => match pattern_at(program, number) {
-            Some(pattern) => substituted(alloc, pattern, all, left, right),
-            None => Ok(None),
-        },
+        Binary::Substitute(all, number) => {
+            substituted(alloc, pattern_at(program, number), all, left, right)
+        }
     }
 }
 
-fn ordered(how: Comparison, left: &Value, right: &Value) -> Option<Value>
-    ensures { result ≡ ordered how left.now right.now }
+fn ordered(how: Comparison, left: &Value, right: &Value) -> Value
+    requires { IsSome (ordered how left.now right.now) }
+    ensures { ordered how left.now right.now ≡ Some (Some result) }
 {
     match compare(how, left, right) {
-        Some(truth) => Some(Value::Bool(truth)),
-        None => None,
+        Some(truth) => Value::Bool(truth),
+        None => unreachable!(),
     }
 }
 
 fn summed(alloc: Global, left: &Value, right: &Value) -> Result<Option<Value>, AllocError>
-    ensures { IfOk result (λ made. made ≡ summed left.now right.now) }
+    requires { IsSome (summed left.now right.now) }
+    ensures { IfOk result (λ made. summed left.now right.now ≡ Some made) }
 {
     match sum(alloc, left, right) {
         Ok(value) => Ok(Some(value)),
         Err(ValueError::NoMemory) => Err(AllocError),
-        Err(_) => Ok(None),
+        Err(ValueError::Range | ValueError::TooLong) => Ok(None),
+        Err(ValueError::Kind) => unreachable!(),
     }
 }
 
 fn lessened(left: &Value, right: &Value) -> Option<Value>
-    ensures { result ≡ lessened left.now right.now }
+    requires { IsSome (lessened left.now right.now) }
+    ensures { lessened left.now right.now ≡ Some result }
 {
     match difference(left, right) {
         Ok(value) => Some(value),
-        Err(_) => None,
+        Err(ValueError::NoMemory | ValueError::Range | ValueError::TooLong) => None,
+        Err(ValueError::Kind) => unreachable!(),
     }
 }
 

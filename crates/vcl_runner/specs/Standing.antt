@@ -4,9 +4,10 @@ use Rattle.std.proofs.Common.{sym, ◌∙◌}
 use Rattle.vcl_tree.specs.declared.item.Item.{Item}
 use Rattle.vmod_host.specs.declared.signature.Stored.{Stored}
 use Rattle.vcl_program.specs.declared.code.Code.{Code}
+use Rattle.vcl_turns.specs.declared.turn.Answer.{Answer}
 use Rattle.vcl_turns.specs.declared.turn.Turn.{Turn}
 use Rattle.vcl_turns.specs.declared.turn.Turn.TheVariants as turn
-use Rattle.vcl_operands.specs.Outs.{Out, On, Ends, Asks}
+use Rattle.vcl_operands.specs.Outs.{Out, On, Ends, Asks, Strays, IsSure}
 use Rattle.vcl_eval.specs.declared.machine.Machine.{Machine}
 use Rattle.vcl_eval.specs.declared.machine.Waiting.{Waiting}
 use Rattle.vcl_eval.specs.States.{State}
@@ -24,6 +25,7 @@ abbrev pub ComesTo : Out State (Unit {0}) → Turn → Type 0
 ComesTo (Asks wanted) t = t ≡ turn.Need wanted
 ComesTo (Ends word s) t = t ≡ turn.End word (closed s)
 ComesTo (On done s) t = ⊥
+ComesTo Strays t = ⊥
 
 abbrev pub IsTurnOf : List Item → List Stored → Ran → Turn → Type 0
 IsTurnOf items stored ran t = ComesTo (run_of items stored ran.subroutine ran.context ran.answers) t
@@ -33,11 +35,12 @@ pub one_turn : (o : Out State (Unit {0})) (t u : Turn) → ComesTo o t → Comes
 one_turn (Asks wanted) t u h k = k ∙ sym h
 one_turn (Ends word s) t u h k = k ∙ sym h
 one_turn (On done s) t u h k = absurd h
+one_turn Strays t u h k = absurd h
 
--- a machine that waits has this left; one that has ended stands everywhere
+-- a machine that waits has this left, which doesn't stray; one that has ended stands everywhere
 abbrev pub StandsWaiting : Code → List Stored → Left → Option Waiting → Type 0
 StandsWaiting code stored left None = Unit {0}
 StandsWaiting code stored left (Some w) = WaitsAt code stored left (Some w)
 
 abbrev pub StandsAt : Code → List Stored → Left → Machine → Type 0
-StandsAt code stored left machine = StandsWaiting code stored left machine.waiting × IsTidyAt code machine
+StandsAt code stored left machine = StandsWaiting code stored left machine.waiting × IsTidyAt code machine × ((answers : List Answer) → IsSure (left answers))

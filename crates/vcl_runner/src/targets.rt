@@ -1,5 +1,5 @@
 // What a text takes a backend or a director for.
-ghost use Rattle.std.specs.Prelude.{◌≡◌, [], IfOk, OnOk, position};
+ghost use Rattle.std.specs.Prelude.{◌≡◌, ◌<◌, All, [], IfOk, IfSome, OnOk, Some, length, position};
 ghost use Rattle.std.specs.Str.{bytes_eq};
 ghost use Rattle.vcl_runner.specs.Targets.{member, one_more, with_members, members_of, director_at, single, backend_at, director_named, backend_named, backend_or, target_named, default_target};
 
@@ -16,30 +16,26 @@ pub(crate) fn target_named(
     code: &Code,
     name: &[u8],
 ) -> Result<Option<Target>, AllocError>
+    requires { All (λ member. member.backend < length code.now.backends) code.now.members }
     ensures { IfOk result (λ target. target ≡ target_named code.now name.now) }
 {
     match director_named(code.directors.as_slice(), name) {
-        Some(number) => director_at(alloc, code, number),
+        Some(number) => Ok(Some(director_at(alloc, code, number)?)),
         None => backend_or(alloc, code, backend_named(code.backends.as_slice(), name)),
     }
 }
 
 /// What is used where nothing was chosen.
 pub(crate) fn default_target(alloc: Global, code: &Code) -> Result<Target, AllocError>
+    requires { code.now.default_backend < length code.now.backends }
     ensures { IfOk result (λ target. target ≡ default_target code.now) }
 {
-    match backend_at(alloc, code, code.default_backend)? {
-        Some(target) => Ok(target),
-        None => Ok(Target {
-            kind: DirectorKind::One,
-            name: Text::of(alloc, b"")?,
-            members: Sequence::new(alloc),
-        }),
-    }
+    backend_at(alloc, code, code.default_backend)
 }
 
 fn director_named(directors: &[Director], name: &[u8]) -> Option<usize>
-    ensures { result ≡ position (director_named name.now) directors.now }
+    ensures place { result ≡ position (director_named name.now) directors.now }
+    ensures within { IfSome result (λ number. number < length directors.now) }
 {
     directors
         .iter()
@@ -47,24 +43,27 @@ fn director_named(directors: &[Director], name: &[u8]) -> Option<usize>
 }
 
 fn backend_named(backends: &[Backend], name: &[u8]) -> Option<usize>
-    ensures { result ≡ position (backend_named name.now) backends.now }
+    ensures place { result ≡ position (backend_named name.now) backends.now }
+    ensures within { IfSome result (λ number. number < length backends.now) }
 {
     backends
         .iter()
         .position(|backend| backend.name.bytes() == name)
 }
 
-fn director_at(alloc: Global, code: &Code, number: usize) -> Result<Option<Target>, AllocError>
-    ensures { IfOk result (λ target. target ≡ director_at code.now number) }
+fn director_at(alloc: Global, code: &Code, number: usize) -> Result<Target, AllocError>
+    requires within { number < length code.now.directors }
+    requires members { All (λ member. member.backend < length code.now.backends) code.now.members }
+    ensures { IfOk result (λ target. director_at code.now number ≡ Some target) }
 {
-    match code.directors.as_slice().get(number) {
-        Some(director) => Ok(Some(Target {
-            kind: director.kind,
-            name: director.name.copy()?,
-            members: members_of(alloc, code, number)?,
-        })),
-        None => Ok(None),
-    }
+    let Some(director) = code.directors.as_slice().get(number) else {
+        unreachable!();
+    };
+    Ok(Target {
+        kind: director.kind,
+        name: director.name.copy()?,
+        members: members_of(alloc, code, number)?,
+    })
 }
 
 fn backend_or(
@@ -72,21 +71,23 @@ fn backend_or(
     code: &Code,
     number: Option<usize>,
 ) -> Result<Option<Target>, AllocError>
+    requires { IfSome number (λ k. k < length code.now.backends) }
     ensures { IfOk result (λ target. target ≡ backend_or code.now number) }
 {
     match number {
-        Some(number) => backend_at(alloc, code, number),
+        Some(number) => Ok(Some(backend_at(alloc, code, number)?)),
         None => Ok(None),
     }
 }
 
-fn backend_at(alloc: Global, code: &Code, number: usize) -> Result<Option<Target>, AllocError>
-    ensures { IfOk result (λ target. target ≡ backend_at code.now number) }
+fn backend_at(alloc: Global, code: &Code, number: usize) -> Result<Target, AllocError>
+    requires { number < length code.now.backends }
+    ensures { IfOk result (λ target. backend_at code.now number ≡ Some target) }
 {
-    match code.backends.as_slice().get(number) {
-        Some(backend) => Ok(Some(single(alloc, backend)?)),
-        None => Ok(None),
-    }
+    let Some(backend) = code.backends.as_slice().get(number) else {
+        unreachable!();
+    };
+    single(alloc, backend)
 }
 
 // A backend is its own one member.
@@ -103,6 +104,7 @@ fn single(alloc: Global, backend: &Backend) -> Result<Target, AllocError>
 }
 
 fn members_of(alloc: Global, code: &Code, number: usize) -> Result<Sequence<Member>, AllocError>
+    requires { All (λ member. member.backend < length code.now.backends) code.now.members }
     ensures { IfOk result (λ members. members ≡ members_of code.now number) }
 {
     with_members(
@@ -120,6 +122,7 @@ fn with_members(
     number: usize,
     placed: &[Placed],
 ) -> Result<Sequence<Member>, AllocError>
+    requires { All (λ member. member.backend < length backends.now) placed.now }
     ensures { IfOk result (λ members. members ≡ with_members backends.now number [] placed.now) }
 {
     let mut out = Sequence::new(alloc);
@@ -135,14 +138,16 @@ fn one_more(
     number: usize,
     placed: &Placed,
 ) -> Result<(), AllocError>
+    requires { placed.now.backend < length backends.now }
     ensures { OnOk result (out.new ≡ one_more backends.now number out.old placed.now) }
 {
     if placed.director != number {
         return Ok(());
     }
-    if let Some(backend) = backends.get(placed.backend) {
-        out.push(member(backend, placed.weight)?)?;
-    }
+    let Some(backend) = backends.get(placed.backend) else {
+        unreachable!();
+    };
+    out.push(member(backend, placed.weight)?)?;
     Ok(())
 }
 

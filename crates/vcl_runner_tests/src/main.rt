@@ -2,6 +2,8 @@
 //! The program prints the rows that go otherwise, and how many rows there are.
 #![tactic(auto)]
 
+ghost use Rattle.std.specs.Prelude.{◌≡◌, []};
+
 mod rows;
 mod targets;
 
@@ -16,7 +18,9 @@ fn main(rt: HostRuntime) -> io::Result<()> {
     }
 }
 
-fn read_rows(rt: &HostRuntime, functions: &Shared<VmodTable>) -> io::Result<()> {
+fn read_rows(rt: &HostRuntime, functions: &Shared<VmodTable>) -> io::Result<()>
+    requires { functions.now.stored ≡ [] }
+{
     let mut count: u64 = 0;
     for line in rt.lines(rt.alloc()) {
         let line = line?;

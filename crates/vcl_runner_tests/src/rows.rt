@@ -1,4 +1,6 @@
 // What a row wants, and what its declarations take its name for.
+ghost use Rattle.std.specs.Prelude.{◌≡◌, []};
+
 use crate::targets::shown;
 use cache_law::Shared;
 use std::alloc::{AllocError, Global};
@@ -15,7 +17,9 @@ pub fn otherwise(
     alloc: Global,
     functions: &Shared<VmodTable>,
     line: &str,
-) -> Result<Option<String>, AllocError> {
+) -> Result<Option<String>, AllocError>
+    requires { functions.now.stored ≡ [] }
+{
     let (name, rest) = line.split_once(' ').unwrap_or((line, ""));
     let (declarations, wanted) = rest.split_once(" => ").unwrap_or((rest, ""));
     let shown = shown(alloc, functions, name, declarations)?;

@@ -1,13 +1,14 @@
 // What declarations take a name for.
+ghost use Rattle.std.specs.Prelude.{◌≡◌, []};
+
 use cache_law::{Shared, Target};
 use directors::DirectorKind;
 use std::alloc::{AllocError, Global};
 use units::Text;
-use vcl_check::check;
-use vcl_parse::parse;
-use vcl_program::Compiled;
 use vcl_runner::{Executable, Run};
 use vcl_runs::Runner;
+use vcl_soundness::{backends_are_there, program_never_strays};
+use vcl_store::program_of;
 use vcl_values::Backend;
 use vmod_host::VmodTable;
 
@@ -17,7 +18,9 @@ pub fn shown(
     functions: &Shared<VmodTable>,
     name: &str,
     declarations: &str,
-) -> Result<String, AllocError> {
+) -> Result<String, AllocError>
+    requires { functions.now.stored ≡ [] }
+{
     let mut shown = String::new(alloc);
     match program(alloc, functions, declarations)? {
         Some(program) => match target::<Run>(alloc, &program, name)? {
@@ -50,14 +53,14 @@ fn program(
     alloc: Global,
     functions: &Shared<VmodTable>,
     declarations: &str,
-) -> Result<Option<Box<Executable>>, AllocError> {
-    let Ok(tree) = parse(alloc, &text_of(alloc, declarations)?) else {
-        return Ok(None);
-    };
+) -> Result<Option<Box<Executable>>, AllocError>
+    requires { functions.now.stored ≡ [] }
+{
     let table = functions.copy()?;
-    match check(alloc, tree, functions) {
-        Ok(program) => {
-            let compiled = Compiled::of(alloc, program)?;
+    match program_of(alloc, &text_of(alloc, declarations)?, functions) {
+        Ok(compiled) => {
+            program_never_strays(&compiled);
+            backends_are_there(&compiled);
             Ok(Some(Box::new(alloc, Executable::of(compiled, table))?))
         }
         Err(_) => Ok(None),

@@ -1,5 +1,7 @@
 // A run of a subroutine that stops where it wants something done.
-ghost use Rattle.std.specs.Prelude.{◌≡◌, ℕ, Option, IfOk, OnOk};
+ghost use Rattle.std.specs.Prelude.{◌≡◌, ℕ, Option, IfOk, OnOk, false};
+ghost use Rattle.vcl_language.specs.Scopes.{has};
+ghost use Rattle.vcl_language.specs.declared.scope.Scope.TheVariants.{Init};
 ghost use Rattle.vcl_turns.specs.declared.turn.Answer.{Answer as Told};
 ghost use Rattle.vcl_turns.specs.declared.turn.Turn.{Turn as Turned};
 ghost use Rattle.vcl_values.specs.declared.value.Backend.{Backend as Named};
@@ -36,13 +38,14 @@ pub trait Runner: Drop + Sized {
     /// How much is left to do on this program, at most.
     ghost left: { Self → Self.Program → ℕ };
 
-    /// A run that may be answered `Begin`.
+    /// A run that may be answered `Begin`. No run is one of vcl_init.
     fn start(
         alloc: Global,
         program: &Self::Program,
         subroutine: Subroutine,
         context: Context,
     ) -> Result<Self, AllocError>
+        requires { has Init subroutine ≡ false }
         ensures stands { IfOk result (λ run. stands run program.now (begun subroutine context)) }
         ensures fits { IfOk result (λ run. fits run Answer.Begin) };
 

@@ -1,5 +1,5 @@
 -- What a set of a variable comes to, with a value that the variable takes.
-use Rattle.std.proofs.Common.{◌≡◌, refl, sym, subst, ℤ, Bool, true, false, not, Option, Some, None, option_map, option_and_then, if◌then◌else◌}
+use Rattle.std.proofs.Common.{◌≡◌, refl, sym, subst, ℕ, ℤ, List, Bool, true, false, not, Option, Some, None, option_map, if◌then◌else◌}
 use Rattle.std.proofs.lemmas.Option.{none-some}
 use Rattle.vcl_values.specs.declared.value.Kind.{Kind}
 use Rattle.vcl_values.specs.declared.value.Kind.TheVariants as kind
@@ -28,18 +28,14 @@ use Rattle.vcl_context.specs.declared.variable.ResponseVariable.TheVariants as r
 use Rattle.vcl_context.specs.Reading.{value_of as variable_value}
 use Rattle.vcl_check.specs.declared.seen.Sort.TheVariants as sort
 use Rattle.vcl_check.specs.Kinds.{accepts as takes_sort}
-use Rattle.vcl_turns.specs.declared.turn.Return.{Return}
-use Rattle.vcl_operands.specs.Outs.{and_then, known_on}
 use Rattle.vcl_operands.specs.Values.{fitted}
-use Rattle.vcl_eval.specs.States.{State, set_on}
-use Rattle.vcl_eval.specs.Statements as plain
-use Rattle.vcl_eval.specs.Statements.{set_if, set_to, appended, append_to}
+use Rattle.vcl_eval.specs.Statements.{then_due, set_if, set_fitted, set_to, field_to, appended, append_to, append_field}
+use Rattle.vcl_context.specs.Fields.{field_value, field_set as set_field}
+use Rattle.vcl_context.specs.declared.variable.Message.{Message}
 use Rattle.vcl_store.proofs.Rows.{false-true}
-use Rattle.vcl_soundness.specs.Operands.{fitted_on}
-use Rattle.vcl_soundness.specs.Runs as strayed
-use Rattle.vcl_soundness.specs.Runs.{is_refused, changed_on}
-use Rattle.vcl_soundness.proofs.Same.{Same, IsOf, Done, bind-same, same-along, known-same}
-use Rattle.vcl_soundness.proofs.Values.{int-is, duration-is, text-of, fitted-same}
+use Rattle.vcl_soundness.specs.Laws.{is_refused}
+use Rattle.vcl_soundness.proofs.Holds.{IsOf, IsDue, Makes, known-makes}
+use Rattle.vcl_soundness.proofs.Values.{int-is, duration-is, text-of, string-fitted, fitted-makes}
 
 -- values by their types
 by-int : (P : Value → Type 0) (v : Value) → kind_of v ≡ kind.Int → ((n : ℤ) → P (value.Int n)) → P v
@@ -166,41 +162,37 @@ accepts-own w k e s =
     let fit : fits (kind_of_variable w) k ≡ true = subst (λ (x : Kind). fits (kind_of_variable w) x ≡ true) (sym e) (fits-itself (kind_of_variable w)) in
     rw (s) fit
 
-module _ (stray : Return) where
-  changed-same : (refused : Bool) (o : Option Context) (s : State) → (o ≡ None → refused ≡ true) → Same Done (changed_on stray refused o s) (set_on o s)
-  changed-same refused (Some c) s h = record { same = refl; holds = tt }
-  changed-same true None s h = record { same = refl; holds = tt }
-  changed-same false None s h = absurd (false-true (h refl))
+-- where a variable takes a value of its type, only the value is refused
+pub refused-alone : (w : Variable) (v : Value) (c : Context) → is_set w ≡ true → kind_of v ≡ kind_of_variable w → variable_set w v c ≡ None → is_refused w v ≡ true
+refused-alone w v c s k e = variable-refused w v c k s e
 
-  fitted-set : (w : Variable) → is_set w ≡ true → (v : Value) → kind_of v ≡ kind_of_variable w → (s : State)
-      → Same Done (strayed.set_fitted stray w v s) (set_on (plain.set_fitted w s.context v) s)
-  fitted-set w h v k s =
-      let c = s.context in
-      let P : Bool → Bool → Type 0 = λ x y. Same Done (changed_on stray (is_refused w v) (set_if x w v c) s) (set_on (set_if y w v c) s) in
-      subst (λ (x : Bool). P x (accepts w (kind_of v))) (sym h) (subst (λ (y : Bool). P true y) (sym (accepts-own w (kind_of v) k h))
-      (changed-same (is_refused w v) (variable_set w v c) s (λ e. variable-refused w v c k h e)))
+fitted-set : (w : Variable) → is_set w ≡ true → (v : Value) → kind_of v ≡ kind_of_variable w → (c : Context) → IsDue (set_fitted w c v)
+fitted-set w h v k c = subst (λ (b : Bool). IsDue (set_if b w v c)) (sym (accepts-own w (kind_of v) k h)) tt
 
-  -- a part that may end the run, and what is set then
-  set-bind : (o : Option Value) (f : Context → Value → Option Context) (s : State) → and_then (known_on o s) (λ v z. set_on (f z.context v) z) ≡ set_on (option_and_then (f s.context) o) s
-  set-bind (Some v) f s = refl
-  set-bind None f s = refl
+-- what is made of a value, and what is set then
+then-there : (P : Value → Type 0) (f : Value → Option (Option Context)) (o : Option (Option Value)) → Makes P o → ((v : Value) → P v → IsDue (f v)) → IsDue (then_due f o)
+then-there P f (Some (Some v)) h k = k v h
+then-there P f (Some None) h k = tt
+then-there P f None h k = h
 
-  pub variable-set : (w : Variable) → is_set w ≡ true → (k : Kind) → takes_sort (kind_of_variable w) (sort.Value k) ≡ true → (v : Value) → IsOf k v → (s : State)
-      → Same Done (strayed.set_on_variable stray w v s) (set_on (set_to w v s.context) s)
-  variable-set w h k a v e s =
-      same-along Done (strayed.set_on_variable stray w v s) (and_then (known_on (fitted (kind_of_variable w) v) s) (λ x z. set_on (plain.set_fitted w z.context x) z))
-      (set_on (set_to w v s.context) s) (set-bind (fitted (kind_of_variable w) v) (plain.set_fitted w) s)
-      (bind-same (IsOf (kind_of_variable w)) Done (fitted_on stray (kind_of_variable w) v s) (known_on (fitted (kind_of_variable w) v) s) (strayed.set_fitted stray w)
-      (λ x z. set_on (plain.set_fitted w z.context x) z) (fitted-same stray (kind_of_variable w) k v e a s) (λ x p z. fitted-set w h x p z))
+pub variable-set : (w : Variable) → is_set w ≡ true → (k : Kind) → takes_sort (kind_of_variable w) (sort.Value k) ≡ true → (v : Value) → IsOf k v → (c : Context) → IsDue (set_to w v c)
+variable-set w h k a v e c =
+    then-there (IsOf (kind_of_variable w)) (set_fitted w c) (fitted (kind_of_variable w) v) (fitted-makes (kind_of_variable w) k v e a) (λ x p. fitted-set w h x p c)
 
-  text-accepted : (k : Kind) → k ≡ kind.String → takes_sort k (sort.Value kind.String) ≡ true
-  text-accepted k e = subst (λ (x : Kind). takes_sort x (sort.Value kind.String) ≡ true) (sym e) refl
+text-accepted : (k : Kind) → k ≡ kind.String → takes_sort k (sort.Value kind.String) ≡ true
+text-accepted k e = subst (λ (x : Kind). takes_sort x (sort.Value kind.String) ≡ true) (sym e) refl
 
-  pub variable-appended : (w : Variable) → is_set w ≡ true → kind_of_variable w ≡ kind.String → (v : Value) (s : State)
-      → Same Done (strayed.append_on_variable stray w v s) (set_on (append_to w v s.context) s)
-  variable-appended w h t v s =
-      let due = appended (variable_value w s.context) v in
-      same-along Done (strayed.append_on_variable stray w v s) (and_then (known_on due s) (λ x z. set_on (set_to w x z.context) z)) (set_on (append_to w v s.context) s)
-      (set-bind due (λ c x. set_to w x c) s)
-      (bind-same (IsOf kind.String) Done (known_on due s) (known_on due s) (strayed.set_on_variable stray w) (λ x z. set_on (set_to w x z.context) z)
-      (known-same (IsOf kind.String) due (λ x e. text-of _ x e) s) (λ x p z. variable-set w h kind.String (text-accepted (kind_of_variable w) t) x p z))
+pub variable-appended : (w : Variable) → is_set w ≡ true → kind_of_variable w ≡ kind.String → (v : Value) (c : Context) → IsDue (append_to w v c)
+variable-appended w h t v c =
+    let due = appended (variable_value w c) v in
+    then-there (IsOf kind.String) (λ x. set_to w x c) (Some due) (known-makes (IsOf kind.String) due (λ x e. text-of _ x e))
+    (λ x p. variable-set w h kind.String (text-accepted (kind_of_variable w) t) x p c)
+
+-- a field takes each value
+pub field-set : (message : Message) (name : List ℕ) (v : Value) (c : Context) → IsDue (field_to message name v c)
+field-set message name v c = then-there (IsOf kind.String) (λ w. Some (set_field message name w c)) (fitted kind.String v) (string-fitted v) (λ w p. tt)
+
+pub field-appended : (message : Message) (name : List ℕ) (v : Value) (c : Context) → IsDue (append_field message name v c)
+field-appended message name v c =
+    let due = appended (field_value message name c) v in
+    then-there (IsOf kind.String) (λ w. field_to message name w c) (Some due) (known-makes (IsOf kind.String) due (λ x e. text-of _ x e)) (λ w p. field-set message name w c)

@@ -1,4 +1,4 @@
--- By the grammar, an expression without a fault comes to the same whatever word the run ends with where a part has no meaning.
+-- By the grammar, an expression without a fault comes to a value of its type, and doesn't stray.
 use Rattle.std.proofs.Common.{◌≡◌, ℕ, Bool, true, not, ◌||◌, List, [], ◌∷◌, refl, sym, ap, ◌∙◌, subst, Option, Some, None, slice_get, ◌<◌, length, slice_index_or}
 use Rattle.std.specs.List.{list_all}
 use Rattle.std.specs.Prelude.{Contains}
@@ -42,18 +42,16 @@ use Rattle.vcl_code.specs.declared.names.Callee.{Callee}
 use Rattle.vcl_code.specs.declared.names.Callee.TheVariants as callee
 use Rattle.vcl_code.specs.Names.{Known, callee_of}
 use Rattle.vcl_code.specs.Expressions.{string_of, second_string}
-use Rattle.vcl_turns.specs.declared.turn.Return.{Return}
 use Rattle.vcl_program.specs.declared.code.Director.{Director}
 use Rattle.vcl_operands.specs.Meaning.{Scene, Operand, value_of, operands_of}
 use Rattle.vcl_store.proofs.Rows.{false-true, takes_of, gives_of, passes}
 use Rattle.vcl_store.proofs.Clean.{Clean, left-clean, right-clean, fits, written, known-name, used-name}
 use Rattle.vcl_store.proofs.Expressions.{not-none, too-many, four-are-more}
 use Rattle.vcl_store.proofs.Values.{unless-none, both-fits, or-none, weight-no-string}
-use Rattle.vcl_soundness.specs.Operands.{value_with, operands_with}
 use Rattle.vcl_soundness.proofs.Names as names
 use Rattle.vcl_soundness.proofs.Names.{Stands, AclNamed, ReadsAs, name-reads, Does, function-does}
 use Rattle.vcl_soundness.proofs.Typed as typed
-use Rattle.vcl_soundness.proofs.Typed.{AllGiven, Given, Typed, CallAgrees, Sought, stored-agrees, xkey-agrees, substitute-agrees, director-agrees, hash-agrees, string-typed, integer-typed, duration-typed, named-typed, group-typed, either-typed, both-typed, not-typed, equal-typed, unequal-typed, less-typed, less-or-equal-typed, greater-typed, greater-or-equal-typed, sum-typed, difference-typed, match-typed, mismatch-typed, called-typed}
+use Rattle.vcl_soundness.proofs.Typed.{AllGiven, Given, Typed, CallWorth, Sought, stored-worth, xkey-worth, substitute-worth, director-worth, hash-worth, string-typed, integer-typed, duration-typed, named-typed, group-typed, either-typed, both-typed, not-typed, equal-typed, unequal-typed, less-typed, less-or-equal-typed, greater-typed, greater-or-equal-typed, sum-typed, difference-typed, match-typed, mismatch-typed, called-typed}
 
 -- the text of a string
 string-text : (known : check.Known) (e : Phrase) → is_string (view_of known Value e).literal ≡ true → (place : ℕ) × (text : List ℕ) × (e ≡ String place text)
@@ -145,11 +143,11 @@ Gives _ = Unit {0}
 pub all-contained : (p : Subroutine → Bool) (xs : List Subroutine) (s : Subroutine) → list_all p xs ≡ true → (k : ℕ) → k < length xs → slice_index_or xs k s ≡ s → p s ≡ true
 all-contained p xs s all k low e = passes p xs k s all (slice_get-get_or xs k s low ∙ ap (λ (x : Subroutine). Some x) e)
 
-module _ (stray : Return) (known : check.Known) (numbers : Known) (scene : Scene) (stands : Stands known numbers scene) (roots : List Subroutine) (root : Subroutine)
+module _ (known : check.Known) (numbers : Known) (scene : Scene) (stands : Stands known numbers scene) (roots : List Subroutine) (root : Subroutine)
     (reached : Contains roots root) where
   -- a value is one of its type; what is no value may be none
   abbrev Good : Sort → Phrase → Type 0
-  Good (sort.Value k) e = Typed stray scene numbers k e
+  Good (sort.Value k) e = Typed scene numbers k e
   Good sort.Unknown e = ⊥
   Good _ e = Unit {0}
 
@@ -165,7 +163,7 @@ module _ (stray : Return) (known : check.Known) (numbers : Known) (scene : Scene
 
   -- a value, by its type
   abbrev pub Valued : Sort → Phrase → Type 0
-  Valued s e = (k : Kind) × (s ≡ sort.Value k) × Typed stray scene numbers k e
+  Valued s e = (k : Kind) × (s ≡ sort.Value k) × Typed scene numbers k e
 
   pub valued : (s : Sort) (e : Phrase) → is_value s ≡ true → Good s e → Valued s e
   valued (sort.Value k) e h g = (k, refl, g)
@@ -212,7 +210,7 @@ module _ (stray : Return) (known : check.Known) (numbers : Known) (scene : Scene
 
   -- a value in a condition
   abbrev pub Conditional : Sort → Phrase → Type 0
-  Conditional s e = (k : Kind) × (is_condition (sort.Value k) ≡ true) × Typed stray scene numbers k e
+  Conditional s e = (k : Kind) × (is_condition (sort.Value k) ≡ true) × Typed scene numbers k e
 
   pub conditional : (s : Sort) (e : Phrase) → is_condition s ≡ true → Good s e → Conditional s e
   conditional s e h g =
@@ -220,7 +218,7 @@ module _ (stray : Return) (known : check.Known) (numbers : Known) (scene : Scene
       (v.0, subst (λ (x : Sort). is_condition x ≡ true) v.1 h, v.2)
 
   -- a value that is taken where one of a type is wanted
-  pub accepted : (wanted : Kind) (s : Sort) (e : Phrase) → accepts wanted s ≡ true → Good s e → (k : Kind) × (accepts wanted (sort.Value k) ≡ true) × Typed stray scene numbers k e
+  pub accepted : (wanted : Kind) (s : Sort) (e : Phrase) → accepts wanted s ≡ true → Good s e → (k : Kind) × (accepts wanted (sort.Value k) ≡ true) × Typed scene numbers k e
   accepted wanted s e h g =
       let v = valued s e (accepts-value wanted s h) g in
       (v.0, subst (λ (x : Sort). accepts wanted x ≡ true) v.1 h, v.2)
@@ -230,17 +228,17 @@ module _ (stray : Return) (known : check.Known) (numbers : Known) (scene : Scene
   Listed l = (view_of known Arguments l).arguments
 
   abbrev Taken : List Kind → Phrase → Type 0
-  Taken ks l = AllGiven ks (operands_with stray numbers scene l) (operands_of numbers scene l)
+  Taken ks l = AllGiven ks (operands_of numbers scene l)
 
   abbrev Seen : Phrase → Argument
   Seen e = argument_of (view_of known Value e)
 
   argument-given : (wanted : Kind) (e : Phrase) → mistyped (Some (parameter.Value wanted)) (Seen e) ≡ None → Good (SortOf e) e
-      → (k : Kind) × (accepts wanted (sort.Value k) ≡ true) × Typed stray scene numbers k e
+      → (k : Kind) × (accepts wanted (sort.Value k) ≡ true) × Typed scene numbers k e
   argument-given wanted e m g = accepted wanted (SortOf e) e (unless-none (accepts wanted (SortOf e)) (view_of known Value e).first m) g
 
   zero-given : {l : Phrase} → AreFine l → (at : ℕ) → ill_called takes.Nothing (Listed l) at ≡ None → Taken [] l
-  unfolding operands_with operands_of
+  unfolding operands_of
   zero-given none at i = tt
   zero-given (more none f) at i = absurd (not-none at i)
   zero-given (more (more none f) g) at i = absurd (not-none at i)
@@ -250,7 +248,7 @@ module _ (stray : Return) (known : check.Known) (numbers : Known) (scene : Scene
       absurd (too-many takes.Nothing at (subst P (four-are-more (Listed l) (Seen w) (Seen x) (Seen y) (Seen z)) i))
 
   pub one-given : (a : Kind) {l : Phrase} → AreFine l → Clean known roots Arguments l → (at : ℕ) → ill_called (takes.One (parameter.Value a)) (Listed l) at ≡ None → Taken (a ∷ []) l
-  unfolding operands_with operands_of
+  unfolding operands_of
   one-given a none c at i = absurd (not-none at i)
   one-given a (more {e = x} none f) c at i = (argument-given a x i (f (right-clean known roots Arguments More Nothing x c)), tt)
   one-given a (more (more none f) g) c at i = absurd (not-none at i)
@@ -261,7 +259,7 @@ module _ (stray : Return) (known : check.Known) (numbers : Known) (scene : Scene
 
   pub two-given : (a b : Kind) {l : Phrase} → AreFine l → Clean known roots Arguments l → (at : ℕ) → ill_called (takes.Two (parameter.Value a) (parameter.Value b)) (Listed l) at ≡ None
       → Taken (a ∷ b ∷ []) l
-  unfolding operands_with operands_of
+  unfolding operands_of
   two-given a b none c at i = absurd (not-none at i)
   two-given a b (more none f) c at i = absurd (not-none at i)
   two-given a b (more {e = y} (more {e = x} none f) g) c at i =
@@ -278,7 +276,7 @@ module _ (stray : Return) (known : check.Known) (numbers : Known) (scene : Scene
 
   three-given : (a b e : Kind) {l : Phrase} → AreFine l → Clean known roots Arguments l → (at : ℕ)
       → ill_called (takes.Three (parameter.Value a) (parameter.Value b) (parameter.Value e)) (Listed l) at ≡ None → Taken (a ∷ b ∷ e ∷ []) l
-  unfolding operands_with operands_of
+  unfolding operands_of
   three-given a b e none c at i = absurd (not-none at i)
   three-given a b e (more none f) c at i = absurd (not-none at i)
   three-given a b e (more (more none f) g) c at i = absurd (not-none at i)
@@ -317,12 +315,12 @@ module _ (stray : Return) (known : check.Known) (numbers : Known) (scene : Scene
       by-count (a ∷ b ∷ d ∷ f ∷ rest) e = absurd (none-some t e)
 
   abbrev Agrees : Kind → Callee → Phrase → Type 0
-  Agrees k c l = CallAgrees stray scene k c (second_string l) (operands_with stray numbers scene l) (operands_of numbers scene l)
+  Agrees k c l = CallWorth scene k c (second_string l) (operands_of numbers scene l)
 
   substituted : (all : Bool) {l : Phrase} → AreFine l → Clean known roots Arguments l → (at : ℕ)
       → ill_called (takes_of (builtin.Substitute all)) (Listed l) at ≡ None → leftmost_unwritten (takes_of (builtin.Substitute all)) (Listed l) ≡ None
       → Agrees kind.String (callee.Builtin (builtin.Substitute all)) l
-  unfolding operands_with operands_of
+  unfolding operands_of
   substituted all none c at i u = absurd (not-none at i)
   substituted all (more none f) c at i u = absurd (not-none at i)
   substituted all (more (more none f) g) c at i u = absurd (not-none at i)
@@ -340,10 +338,9 @@ module _ (stray : Return) (known : check.Known) (numbers : Known) (scene : Scene
       let text = string-text known y (unless-none (is_string (view_of known Value y).literal) (view_of known Value y).first w.0) in
       let left = argument-given kind.String x m.0 (f (right-clean known roots Arguments More Nothing x first)) in
       let right = argument-given kind.String z n.1 (h (right-clean known roots Arguments More two z c)) in
-      let with : Phrase → Operand = λ p. value_with stray numbers scene p in
       let by : Phrase → Operand = λ p. value_of numbers scene p in
-      let C : Option (List ℕ) → Type 0 = λ q. CallAgrees stray scene kind.String (callee.Builtin (builtin.Substitute all)) q (operands_with stray numbers scene l) (operands_of numbers scene l) in
-      subst C (sym (ap string_of text.2)) (substitute-agrees stray scene all left.0 right.0 text.1 (with x) (with y) (with z) (by x) (by y) (by z) left.2 right.2)
+      let C : Option (List ℕ) → Type 0 = λ q. CallWorth scene kind.String (callee.Builtin (builtin.Substitute all)) q (operands_of numbers scene l) in
+      subst C (sym (ap string_of text.2)) (substitute-worth scene all left.0 right.0 text.1 (by x) (by y) (by z) left.2 right.2)
   substituted all (more {e = z} (more {e = y} (more {e = x} (more {l = l} {e = w} m d) f) g) h) c at i u =
       let T : Takes = takes_of (builtin.Substitute all) in
       let P : Seens → Type 0 = λ s. ill_called T s at ≡ None in
@@ -351,11 +348,11 @@ module _ (stray : Return) (known : check.Known) (numbers : Known) (scene : Scene
 
   directed : (k : ℕ) (d : Director) → slice_get scene.directors k ≡ Some d → (way : DirectorKind) {l : Phrase} → AreFine l → Clean known roots Arguments l → (at : ℕ)
       → ill_called (method_of way method.Backend).takes (Listed l) at ≡ None → Agrees kind.Backend (callee.Director k) l
-  directed k d e director.One {l} g c at i = director-agrees stray scene k d e (second_string l) (operands_with stray numbers scene l) (operands_of numbers scene l) (zero-given g at i)
-  directed k d e director.RoundRobin {l} g c at i = director-agrees stray scene k d e (second_string l) (operands_with stray numbers scene l) (operands_of numbers scene l) (zero-given g at i)
-  directed k d e director.Fallback {l} g c at i = director-agrees stray scene k d e (second_string l) (operands_with stray numbers scene l) (operands_of numbers scene l) (zero-given g at i)
-  directed k d e director.Random {l} g c at i = director-agrees stray scene k d e (second_string l) (operands_with stray numbers scene l) (operands_of numbers scene l) (zero-given g at i)
-  directed k d e director.Hash {l} g c at i = hash-agrees stray scene k d e kind.String (second_string l) (operands_with stray numbers scene l) (operands_of numbers scene l) (one-given kind.String g c at i)
+  directed k d e director.One {l} g c at i = director-worth scene k d e (second_string l) (operands_of numbers scene l) (zero-given g at i)
+  directed k d e director.RoundRobin {l} g c at i = director-worth scene k d e (second_string l) (operands_of numbers scene l) (zero-given g at i)
+  directed k d e director.Fallback {l} g c at i = director-worth scene k d e (second_string l) (operands_of numbers scene l) (zero-given g at i)
+  directed k d e director.Random {l} g c at i = director-worth scene k d e (second_string l) (operands_of numbers scene l) (zero-given g at i)
+  directed k d e director.Hash {l} g c at i = hash-worth scene k d e kind.String (second_string l) (operands_of numbers scene l) (one-given kind.String g c at i)
 
   -- What a call of a function does: something by the text of one value, or it gives a value.
   pub data Call (f : Function) (name : List ℕ) (l : Phrase) : Type 0 where
@@ -367,7 +364,7 @@ module _ (stray : Return) (known : check.Known) (numbers : Known) (scene : Scene
       → ill_called (takes_of b) (Listed l) at ≡ None → leftmost_unwritten (takes_of b) (Listed l) ≡ None → Call f name l
   built (builtin.Substitute all) f name g c at e v i u = yields kind.String (callee.Builtin (builtin.Substitute all)) e tt v (substituted all g c at i u)
   built (builtin.Xkey soft) f name {l} g c at e v i u =
-      yields kind.Int (callee.Builtin (builtin.Xkey soft)) e tt v (xkey-agrees stray scene soft kind.String (second_string l) (operands_with stray numbers scene l) (operands_of numbers scene l) (one-given kind.String g c at i))
+      yields kind.Int (callee.Builtin (builtin.Xkey soft)) e tt v (xkey-worth scene soft kind.String (second_string l) (operands_of numbers scene l) (one-given kind.String g c at i))
   built builtin.HashData f name g c at e v i u = does (callee.Builtin builtin.HashData) e tt v (one-given kind.String g c at i)
   built builtin.Synthetic f name g c at e v i u = does (callee.Builtin builtin.Synthetic) e tt v (one-given kind.String g c at i)
   built builtin.Ban f name g c at e v i u = does (callee.Builtin builtin.Ban) e tt v (one-given kind.String g c at i)
@@ -385,7 +382,7 @@ module _ (stray : Return) (known : check.Known) (numbers : Known) (scene : Scene
       let m = stands.meant k entry there in
       let found = ap (λ (xs : List Stored). slice_get xs k) stands.stored ∙ there in
       let taken = values-given entry.signature.takes x.0 x.1 g c at (subst (λ (t : Takes). ill_called t (Listed l) at ≡ None) x.2 i) in
-      yields entry.signature.gives (callee.Stored k) e tt x.3 (stored-agrees stray scene k entry found m.1 m.0 (second_string l) (operands_with stray numbers scene l) (operands_of numbers scene l) taken)
+      yields entry.signature.gives (callee.Stored k) e tt x.3 (stored-worth scene k entry found m.1 m.0 (second_string l) (operands_of numbers scene l) taken)
 
   pub calls : (f : Function) (name : List ℕ) {l : Phrase} → Does known numbers scene stands name f → AreFine l → Clean known roots Arguments l → (at : ℕ)
       → ill_called f.takes (Listed l) at ≡ None → leftmost_unwritten f.takes (Listed l) ≡ None → Call f name l
@@ -400,7 +397,7 @@ module _ (stray : Return) (known : check.Known) (numbers : Known) (scene : Scene
   call-good : (f : Function) (place : ℕ) (name : List ℕ) (l : Phrase) → Call f name l → Good (given_sort f.gives) (Node Called (Named place name) l)
   call-good f place name l (does c e p n t) = subst (λ (o : Option Kind). Good (given_sort o) (Node Called (Named place name) l)) (sym n) tt
   call-good f place name l (yields k c e p n t) =
-      subst (λ (o : Option Kind). Good (given_sort o) (Node Called (Named place name) l)) (sym n) (called-typed stray scene numbers k place name l c e t)
+      subst (λ (o : Option Kind). Good (given_sort o) (Node Called (Named place name) l)) (sym n) (called-typed scene numbers k place name l c e t)
   call-good f place name l (enrols way same) = subst (λ (x : Function). Good (given_sort x.gives) (Node Called (Named place name) l)) (sym same) tt
 
   called-fine : (place : ℕ) (name : List ℕ) {l : Phrase} → AreFine l → Fine (Node Called (Named place name) l)
@@ -416,7 +413,7 @@ module _ (stray : Return) (known : check.Known) (numbers : Known) (scene : Scene
 
   -- a name that is read
   named-good : (s : Sort) (place : ℕ) (name : List ℕ) → ReadsAs numbers scene name s → Good s (Named place name)
-  named-good (sort.Value k) place name h = named-typed stray scene numbers k place name h
+  named-good (sort.Value k) place name h = named-typed scene numbers k place name h
   named-good sort.Acl place name h = tt
   named-good sort.Weight place name h = absurd h
   named-good sort.Nothing place name h = absurd h
@@ -439,7 +436,7 @@ module _ (stray : Return) (known : check.Known) (numbers : Known) (scene : Scene
   acl-named sort.Nothing name r h = absurd (false-true h)
   acl-named sort.Unknown name r h = absurd (false-true h)
 
-  acl-sought : (e : Phrase) → is_acl (SortOf e) ≡ true → Clean known roots Value e → Sought stray scene numbers kind.Ip e
+  acl-sought : (e : Phrase) → is_acl (SortOf e) ≡ true → Clean known roots Value e → Sought scene numbers kind.Ip e
   acl-sought (Named place name) h c = typed.acl_named place name refl (acl-named (sort_of (meaning_of known use'.Read name)) name (reads place name c) h)
   acl-sought (String place text) h c = absurd (false-true h)
   acl-sought (Integer place n) h c = absurd (false-true h)
@@ -453,11 +450,11 @@ module _ (stray : Return) (known : check.Known) (numbers : Known) (scene : Scene
   acl-sought (Node Called a b) h c = absurd (call-no-acl (view_of known (Name use'.Function) a).meaning h)
   acl-sought (Node _ a b) h c = absurd (false-true h)
 
-  string-sought : (k : Kind) (e : Phrase) → is_string (view_of known Value e).literal ≡ true → Sought stray scene numbers k e
-  string-sought k e w = let t = string-text known e w in subst (λ (x : Phrase). Sought stray scene numbers k x) (sym t.2) (typed.pattern_of t.0 t.1)
+  string-sought : (k : Kind) (e : Phrase) → is_string (view_of known Value e).literal ≡ true → Sought scene numbers k e
+  string-sought k e w = let t = string-text known e w in subst (λ (x : Phrase). Sought scene numbers k x) (sym t.2) (typed.pattern_of t.0 t.1)
 
   right-sought : (k : Kind) (e : Phrase) → (not (is_ip (sort.Value k)) || is_acl (SortOf e)) ≡ true → (not (is_searched (sort.Value k)) || is_string (view_of known Value e).literal) ≡ true
-      → Clean known roots Value e → Sought stray scene numbers k e
+      → Clean known roots Value e → Sought scene numbers k e
   right-sought kind.Ip e a w c = acl-sought e a c
   right-sought kind.String e a w c = string-sought kind.String e w
   right-sought kind.Int e a w c = string-sought kind.Int e w
@@ -473,7 +470,7 @@ module _ (stray : Return) (known : check.Known) (numbers : Known) (scene : Scene
       (conditional (SortOf d) d x.0 f, conditional (SortOf e) e x.1 g)
 
   abbrev Two : (Kind → Kind → Type 0) → Phrase → Phrase → Type 0
-  Two P d e = (k : Kind) × (l : Kind) × P k l × Typed stray scene numbers k d × Typed stray scene numbers l e
+  Two P d e = (k : Kind) × (l : Kind) × P k l × Typed scene numbers k d × Typed scene numbers l e
 
   abbrev SameKinds : Kind → Kind → Type 0
   SameKinds k l = same_kind k l ≡ true
@@ -482,7 +479,7 @@ module _ (stray : Return) (known : check.Known) (numbers : Known) (scene : Scene
   Ordered k l = (is_ordered (sort.Value k) ≡ true) × (same_kind k l ≡ true)
 
   two-alike : (d e : Phrase) → is_value (SortOf d) ≡ true → alike (SortOf d) (SortOf e) ≡ true → Good (SortOf d) d → Good (SortOf e) e
-      → (k : Kind) × (l : Kind) × (SortOf d ≡ sort.Value k) × (SortOf e ≡ sort.Value l) × SameKinds k l × Typed stray scene numbers k d × Typed stray scene numbers l e
+      → (k : Kind) × (l : Kind) × (SortOf d ≡ sort.Value k) × (SortOf e ≡ sort.Value l) × SameKinds k l × Typed scene numbers k d × Typed scene numbers l e
   two-alike d e v a f g =
       let x = valued (SortOf d) d v f in
       let b : alike (sort.Value x.0) (SortOf e) ≡ true = subst (λ (s : Sort). alike s (SortOf e) ≡ true) x.1 a in
@@ -506,7 +503,7 @@ module _ (stray : Return) (known : check.Known) (numbers : Known) (scene : Scene
   -- a match
   matches : (d e : Phrase) → both_fit (is_value (SortOf d)) (not (is_ip (SortOf d)) || is_acl (SortOf e)) (view_of known Value d) (view_of known Value e) ≡ None
       → (not (is_searched (SortOf d)) || is_string (view_of known Value e).literal) ≡ true → Good (SortOf d) d → Clean known roots Value e
-      → (k : Kind) × Typed stray scene numbers k d × Sought stray scene numbers k e
+      → (k : Kind) × Typed scene numbers k d × Sought scene numbers k e
   matches d e m w f c =
       let x = both-fits (is_value (SortOf d)) (not (is_ip (SortOf d)) || is_acl (SortOf e)) (view_of known Value d) (view_of known Value e) m in
       let v = valued (SortOf d) d x.0 f in
@@ -515,45 +512,45 @@ module _ (stray : Return) (known : check.Known) (numbers : Known) (scene : Scene
       (v.0, v.2, right-sought v.0 e a b c)
 
   compared-good : (how : Asked) (d e : Phrase) → Clean known roots Value (Node (Compared how) d e) → Good (SortOf d) d → Good (SortOf e) e
-      → Typed stray scene numbers kind.Bool (Node (Compared how) d e)
-  compared-good asked.Equal d e c f g = let t = equals d e (fits known roots Value (Compared asked.Equal) d e c) f g in equal-typed stray scene numbers t.0 t.1 d e t.2 t.3 t.4
-  compared-good asked.NotEqual d e c f g = let t = equals d e (fits known roots Value (Compared asked.NotEqual) d e c) f g in unequal-typed stray scene numbers t.0 t.1 d e t.2 t.3 t.4
-  compared-good asked.Less d e c f g = let t = orders d e (fits known roots Value (Compared asked.Less) d e c) f g in less-typed stray scene numbers t.0 t.1 d e t.2 t.3 t.4
+      → Typed scene numbers kind.Bool (Node (Compared how) d e)
+  compared-good asked.Equal d e c f g = let t = equals d e (fits known roots Value (Compared asked.Equal) d e c) f g in equal-typed scene numbers t.0 t.1 d e t.2 t.3 t.4
+  compared-good asked.NotEqual d e c f g = let t = equals d e (fits known roots Value (Compared asked.NotEqual) d e c) f g in unequal-typed scene numbers t.0 t.1 d e t.2 t.3 t.4
+  compared-good asked.Less d e c f g = let t = orders d e (fits known roots Value (Compared asked.Less) d e c) f g in less-typed scene numbers t.0 t.1 d e t.2 t.3 t.4
   compared-good asked.LessOrEqual d e c f g =
-      let t = orders d e (fits known roots Value (Compared asked.LessOrEqual) d e c) f g in less-or-equal-typed stray scene numbers t.0 t.1 d e t.2 t.3 t.4
-  compared-good asked.Greater d e c f g = let t = orders d e (fits known roots Value (Compared asked.Greater) d e c) f g in greater-typed stray scene numbers t.0 t.1 d e t.2 t.3 t.4
+      let t = orders d e (fits known roots Value (Compared asked.LessOrEqual) d e c) f g in less-or-equal-typed scene numbers t.0 t.1 d e t.2 t.3 t.4
+  compared-good asked.Greater d e c f g = let t = orders d e (fits known roots Value (Compared asked.Greater) d e c) f g in greater-typed scene numbers t.0 t.1 d e t.2 t.3 t.4
   compared-good asked.GreaterOrEqual d e c f g =
-      let t = orders d e (fits known roots Value (Compared asked.GreaterOrEqual) d e c) f g in greater-or-equal-typed stray scene numbers t.0 t.1 d e t.2 t.3 t.4
+      let t = orders d e (fits known roots Value (Compared asked.GreaterOrEqual) d e c) f g in greater-or-equal-typed scene numbers t.0 t.1 d e t.2 t.3 t.4
   compared-good asked.Match d e c f g =
       let w = unless-none (not (is_searched (SortOf d)) || is_string (view_of known Value e).literal) (view_of known Value e).first (written known roots Value (Compared asked.Match) d e c) in
       let t = matches d e (fits known roots Value (Compared asked.Match) d e c) w f (right-clean known roots Value (Compared asked.Match) d e c) in
-      match-typed stray scene numbers t.0 d e t.1 t.2
+      match-typed scene numbers t.0 d e t.1 t.2
   compared-good asked.NotMatch d e c f g =
       let w = unless-none (not (is_searched (SortOf d)) || is_string (view_of known Value e).literal) (view_of known Value e).first (written known roots Value (Compared asked.NotMatch) d e c) in
       let t = matches d e (fits known roots Value (Compared asked.NotMatch) d e c) w f (right-clean known roots Value (Compared asked.NotMatch) d e c) in
-      mismatch-typed stray scene numbers t.0 d e t.1 t.2
+      mismatch-typed scene numbers t.0 d e t.1 t.2
 
   either-fine : {d e : Phrase} → Fine d → Fine e → Fine (Node Either d e)
   either-fine {d} {e} f g c =
       let x = two-conditions d e (fits known roots Value Either d e c) (f (left-clean known roots Value Either d e c)) (g (right-clean known roots Value Either d e c)) in
-      either-typed stray scene numbers x.0.0 x.1.0 d e x.0.1 x.1.1 x.0.2 x.1.2
+      either-typed scene numbers x.0.0 x.1.0 d e x.0.1 x.1.1 x.0.2 x.1.2
 
   both-fine : {d e : Phrase} → Fine d → Fine e → Fine (Node Both d e)
   both-fine {d} {e} f g c =
       let x = two-conditions d e (fits known roots Value Both d e c) (f (left-clean known roots Value Both d e c)) (g (right-clean known roots Value Both d e c)) in
-      both-typed stray scene numbers x.0.0 x.1.0 d e x.0.1 x.1.1 x.0.2 x.1.2
+      both-typed scene numbers x.0.0 x.1.0 d e x.0.1 x.1.1 x.0.2 x.1.2
 
   not-fine : (place : ℕ) {e : Phrase} → Fine e → Fine (Node Not (At place) e)
   not-fine place {e} g c =
       let x = unless-none (is_condition (SortOf e)) (view_of known Value e).first (fits known roots Value Not (At place) e c) in
       let v = conditional (SortOf e) e x (g (right-clean known roots Value Not (At place) e c)) in
-      not-typed stray scene numbers v.0 (At place) e v.1 v.2
+      not-typed scene numbers v.0 (At place) e v.1 v.2
 
   compared-fine : {d e : Phrase} (how : Asked) → Fine d → Fine e → Fine (Node (Compared how) d e)
   compared-fine {d} {e} how f g c = compared-good how d e c (f (left-clean known roots Value (Compared how) d e c)) (g (right-clean known roots Value (Compared how) d e c))
 
   -- sums and differences
-  sum-good : (k l : Kind) (e : Phrase) → adds k l ≡ true → ((m : Kind) → sum_kind k l ≡ sort.Value m → Typed stray scene numbers m e) → Good (sum_kind k l) e
+  sum-good : (k l : Kind) (e : Phrase) → adds k l ≡ true → ((m : Kind) → sum_kind k l ≡ sort.Value m → Typed scene numbers m e) → Good (sum_kind k l) e
   sum-good kind.String l e h g = g kind.String refl
   sum-good kind.Int kind.String e h g = g kind.String refl
   sum-good kind.Int kind.Int e h g = g kind.Int refl
@@ -577,10 +574,10 @@ module _ (stray : Return) (known : check.Known) (numbers : Known) (scene : Scene
       let b : adds v.0 w.0 ≡ true = subst (λ (s : Sort). may_add (sort.Value v.0) s ≡ true) w.1 a in
       let G : Sort → Sort → Type 0 = λ s t. Good (sum_sort s t) (Node Added d e) in
       subst (λ (s : Sort). G s (SortOf e)) (sym v.1) (subst (λ (t : Sort). G (sort.Value v.0) t) (sym w.1)
-      (sum-good v.0 w.0 (Node Added d e) b (λ m z. sum-typed stray scene numbers v.0 w.0 m d e b z v.2 w.2)))
+      (sum-good v.0 w.0 (Node Added d e) b (λ m z. sum-typed scene numbers v.0 w.0 m d e b z v.2 w.2)))
 
   difference-good : (k l : Kind) (e : Phrase) → is_ordered (sort.Value k) ≡ true → same_kind k l ≡ true
-      → ((m : Kind) → difference_kind k l ≡ sort.Value m → Typed stray scene numbers m e) → Good (difference_kind k l) e
+      → ((m : Kind) → difference_kind k l ≡ sort.Value m → Typed scene numbers m e) → Good (difference_kind k l) e
   difference-good kind.Int kind.Int e o h g = g kind.Int refl
   difference-good kind.Int _ e o h g = absurd (false-true h)
   difference-good kind.Duration kind.Duration e o h g = g kind.Duration refl
@@ -597,13 +594,13 @@ module _ (stray : Return) (known : check.Known) (numbers : Known) (scene : Scene
       let o = subst (λ (s : Sort). is_ordered s ≡ true) t.2 x.0 in
       let G : Sort → Sort → Type 0 = λ s u. Good (difference_sort s u) (Node Subtracted d e) in
       subst (λ (s : Sort). G s (SortOf e)) (sym t.2) (subst (λ (u : Sort). G (sort.Value t.0) u) (sym t.3)
-      (difference-good t.0 t.1 (Node Subtracted d e) o t.4 (λ m z. difference-typed stray scene numbers t.0 t.1 m d e o t.4 z t.5 t.6)))
+      (difference-good t.0 t.1 (Node Subtracted d e) o t.4 (λ m z. difference-typed scene numbers t.0 t.1 m d e o t.4 z t.5 t.6)))
 
   group-fine : (place : ℕ) {e : Phrase} → Fine e → Fine (Node Group (At place) e)
   group-fine place {e} g c =
       let x = unless-none (is_value (SortOf e)) (view_of known Value e).first (fits known roots Value Group (At place) e c) in
       let v = valued (SortOf e) e x (g (right-clean known roots Value Group (At place) e c)) in
-      subst (λ (s : Sort). Good (grouped_sort s) (Node Group (At place) e)) (sym v.1) (group-typed stray scene numbers v.0 (At place) e v.2)
+      subst (λ (s : Sort). Good (grouped_sort s) (Node Group (At place) e)) (sym v.1) (group-typed scene numbers v.0 (At place) e v.2)
 
   named-fine : {e : Phrase} {x : Token} → IsName e x → Fine e
   named-fine (plain_name {p} {t}) = name-fine p t
@@ -638,11 +635,11 @@ module _ (stray : Return) (known : check.Known) (numbers : Known) (scene : Scene
 
     term-fine : {e : Phrase} {ts rest : List Token} → IsTerm e ts rest → Fine e
     term-fine (grammar.group {p = p} h) = group-fine p (expression-fine h)
-    term-fine (grammar.string_term {p = p} {t = t}) = λ c. string-typed stray scene numbers p t
-    term-fine (grammar.integer_term {p = p} {n = n}) = λ c. integer-typed stray scene numbers p n
-    term-fine (grammar.duration_term {p = p} {n = n}) = λ c. duration-typed stray scene numbers p n
-    term-fine (grammar.minus_integer {p = p}) = λ c. integer-typed stray scene numbers p _
-    term-fine (grammar.minus_duration {p = p}) = λ c. duration-typed stray scene numbers p _
+    term-fine (grammar.string_term {p = p} {t = t}) = λ c. string-typed scene numbers p t
+    term-fine (grammar.integer_term {p = p} {n = n}) = λ c. integer-typed scene numbers p n
+    term-fine (grammar.duration_term {p = p} {n = n}) = λ c. duration-typed scene numbers p n
+    term-fine (grammar.minus_integer {p = p}) = λ c. integer-typed scene numbers p _
+    term-fine (grammar.minus_duration {p = p}) = λ c. duration-typed scene numbers p _
     term-fine (grammar.variable h n) = named-fine h
     term-fine (grammar.call h k) = call-fine h (arguments-fine k)
 

@@ -1,10 +1,11 @@
 pub mod Changes
 pub mod Expressions
+pub mod Holds
 pub mod Lists
 pub mod Names
+pub mod Placed
 pub mod Reached
 pub mod Said
-pub mod Same
 pub mod Sets
 pub mod Standard
 pub mod Statements

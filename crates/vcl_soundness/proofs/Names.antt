@@ -8,7 +8,6 @@ use Rattle.acl_match.specs.declared.entry.AclEntry.{AclEntry}
 use Rattle.vcl_values.specs.declared.value.Backend.{Backend}
 use Rattle.vcl_values.specs.declared.value.Kind.{Kind}
 use Rattle.vcl_values.specs.declared.value.Kind.TheVariants as kind
-use Rattle.vcl_values.specs.declared.value.Value.TheVariants as value
 use Rattle.vcl_tree.specs.Endings.{ends_in}
 use Rattle.vcl_language.specs.Functions.{function_named, method_of}
 use Rattle.vcl_language.specs.Scopes.{has}
@@ -19,10 +18,6 @@ use Rattle.vcl_language.specs.declared.functions.Method.TheVariants as method
 use Rattle.vcl_language.specs.declared.variables.Variable.{Variable as Row}
 use Rattle.vmod_host.specs.declared.signature.Stored.{Stored}
 use Rattle.vmod_host.specs.Stored.{is_named}
-use Rattle.vcl_context.specs.Fields.{field_value}
-use Rattle.vcl_context.specs.Reading.{value_of as variable_value}
-use Rattle.vcl_context.specs.declared.variable.Variable.{Variable}
-use Rattle.vcl_context.specs.declared.variable.Variable.TheVariants as variable
 use Rattle.vcl_check.specs.declared.form.Use.TheVariants as use'
 use Rattle.vcl_check.specs.declared.known.Thing.{Thing as Checked}
 use Rattle.vcl_check.specs.declared.known.Thing.TheVariants as checked
@@ -37,7 +32,7 @@ use Rattle.vcl_code.specs.declared.callees.Builtin.{Builtin}
 use Rattle.vcl_code.specs.declared.names.Callee.TheVariants as callee
 use Rattle.vcl_code.specs.declared.names.Thing.{Thing}
 use Rattle.vcl_code.specs.declared.names.Thing.TheVariants as thing
-use Rattle.vcl_code.specs.Names.{Known, Target, Plain, Field, NoTarget, Read, OfTarget, Truth, thing_named, target_of, of_thing, of_target, read_of, acl_in, acl_of, builtin_of, stored_in, stored_at, stored_of, director_in, stored_or_director, builtin_or_other, callee_of}
+use Rattle.vcl_code.specs.Names.{Known, Target, Plain, Field, NoTarget, Read, Truth, thing_named, target_of, of_thing, of_target, read_of, acl_in, acl_of, builtin_of, stored_in, stored_at, stored_of, director_in, stored_or_director, builtin_or_other, callee_of}
 use Rattle.vcl_program.specs.declared.code.Director.{Director}
 use Rattle.vcl_operands.specs.Meaning.{Scene, named_value}
 use Rattle.vcl_operands.specs.Values.{backend_value, backend_at}
@@ -45,8 +40,8 @@ use Rattle.vcl_store.proofs.Rows.{false-true, if-true, IsRowOf, function-row}
 use Rattle.vcl_store.proofs.Names as names
 use Rattle.vcl_store.proofs.Names.{IsThing, Meet, Calls, KnownCall, function-calls}
 use Rattle.vcl_soundness.specs.Laws.{AreMeant}
-use Rattle.vcl_soundness.proofs.Same.{IsOf, HasSome}
-use Rattle.vcl_soundness.proofs.Tables.{TargetOf, is_body, target-is, no-target, not-body, reads-as}
+use Rattle.vcl_soundness.proofs.Holds.{IsOf, Makes}
+use Rattle.vcl_soundness.proofs.Tables.{TargetOf, target-is, no-target, reads-as}
 
 -- What the names of a text stand for is there in its runs.
 pub record Stands (known : check.Known) (numbers : Known) (scene : Scene) : Type 0 where
@@ -77,25 +72,9 @@ acl-is (Some (thing.Subroutine k)) h = absurd h
 abbrev pub AclNamed : Known → Scene → List ℕ → Type 0
 AclNamed numbers scene name = (k : ℕ) × (acl_of numbers name ≡ Some k) × ((entries : List AclEntry) × (slice_get scene.acls k ≡ Some entries))
 
--- a name that is read is no body's
-abbrev pub IsReadable : Read → Type 0
-IsReadable (OfTarget (Plain variable.Body)) = ⊥
-IsReadable _ = Unit {0}
-
-readable : (w : Variable) → is_body w ≡ false → IsReadable (OfTarget (Plain w))
-readable variable.Body e = absurd (false-true (sym e))
-readable variable.ClientIp e = tt
-readable variable.ServerIp e = tt
-readable variable.ClientIdentity e = tt
-readable (variable.Request v) e = tt
-readable (variable.Object v) e = tt
-readable (variable.FetchRequest v) e = tt
-readable (variable.FetchResponse v) e = tt
-readable (variable.Response v) e = tt
-
 -- what is read, with a value of a type
 abbrev pub ReadIs : Scene → Kind → Read → Type 0
-ReadIs scene k found = IsReadable found × HasSome (IsOf k) (named_value scene found)
+ReadIs scene k found = Makes (IsOf k) (named_value scene found)
 
 abbrev pub ReadsAs : Known → Scene → List ℕ → Sort → Type 0
 ReadsAs numbers scene name (sort.Value k) = ReadIs scene k (read_of numbers name)
@@ -104,8 +83,8 @@ ReadsAs numbers scene name _ = ⊥
 
 module _ (known : check.Known) (numbers : Known) (scene : Scene) (stands : Stands known numbers scene) where
   variable-read : (name : List ℕ) (v : Row) (t : Target) (s : Subroutine) → TargetOf v t → has v.read s ≡ true → ReadIs scene v.kind (of_target numbers name t)
-  variable-read name v (Plain w) s h r = (readable w (not-body v w s h r), (variable_value w scene.context, refl, reads-as w scene.context ∙ h.kind))
-  variable-read name v (Field message field) s h r = (tt, (field_value message field scene.context, refl, sym h))
+  variable-read name v (Plain w) s h r = reads-as w scene.context ∙ h.kind
+  variable-read name v (Field message field) s h r = sym h
   variable-read name v NoTarget s h r = absurd h
 
   -- a name that no variable has
@@ -123,8 +102,8 @@ module _ (known : check.Known) (numbers : Known) (scene : Scene) (stands : Stand
     where
       by-words : (p q : Bool) → (if p then true else q) ≡ true
           → ReadIs scene kind.Bool (if p then Truth true else (if q then Truth false else of_thing (thing_named numbers name)))
-      by-words true q h = (tt, (value.Bool true, refl, refl))
-      by-words false true h = (tt, (value.Bool false, refl, refl))
+      by-words true q h = refl
+      by-words false true h = refl
       by-words false false h = absurd (false-true h)
 
   thing-read : (name : List ℕ) (k : ℕ) → is_truth name ≡ false → thing_named numbers name ≡ Some (thing.Backend k) → ReadIs scene kind.Backend (ReadOf name)
@@ -133,8 +112,8 @@ module _ (known : check.Known) (numbers : Known) (scene : Scene) (stands : Stand
       by-thing : (o : Option Thing) → o ≡ Some (thing.Backend k) → ReadIs scene kind.Backend (of_thing o)
       by-thing o f =
           let b = stands.backends name k e in
-          let there : backend_at scene.backends k ≡ Some (backend_value b.0) = ap (option_map backend_value) b.1 in
-          subst (λ (x : Option Thing). ReadIs scene kind.Backend (of_thing x)) (sym f) (tt, (backend_value b.0, there, refl))
+          let there : Makes (IsOf kind.Backend) (backend_at scene.backends k) = subst (λ (x : Option Backend). Makes (IsOf kind.Backend) (option_map (λ y. Some (backend_value y)) x)) (sym b.1) refl in
+          subst (λ (x : Option Thing). ReadIs scene kind.Backend (of_thing x)) (sym f) there
 
       by-words : (p q : Bool) → (if p then true else q) ≡ false
           → ReadIs scene kind.Backend (if p then Truth true else (if q then Truth false else of_thing (thing_named numbers name)))

@@ -1,5 +1,4 @@
--- By the grammar, a statement without a fault of a subroutine that traffic reaches does the same whatever word the run ends with where
--- a part has no meaning.
+-- By the grammar, a statement without a fault of a subroutine that traffic reaches doesn't stray.
 use Rattle.std.proofs.Common.{◌≡◌, ℕ, ◌+◌, nat_lt, Bool, true, false, not, ◌&&◌, List, [], ◌∷◌, refl, sym, ◌∙◌, subst, Option, Some, None, if◌then◌else◌}
 use Rattle.std.specs.List.{list_all, list_any}
 use Rattle.std.specs.Prelude.{Contains}
@@ -26,7 +25,6 @@ use Rattle.vcl_language.specs.declared.scope.Scope.TheVariants as scope
 use Rattle.vcl_language.specs.declared.scope.Subroutine.{Subroutine}
 use Rattle.vcl_language.specs.declared.variables.Variable.{Variable as Row}
 use Rattle.vcl_language.specs.declared.words.Word.{Word}
-use Rattle.vcl_context.specs.Fields.{field_unset}
 use Rattle.vcl_context.specs.declared.context.Context.{Context}
 use Rattle.vcl_check.specs.declared.form.Form.TheVariants as form
 use Rattle.vcl_check.specs.declared.form.Use.{Use}
@@ -52,30 +50,27 @@ use Rattle.vcl_code.specs.declared.node.ReturnWord.{ReturnWord}
 use Rattle.vcl_code.specs.declared.node.ReturnWord.TheVariants as word
 use Rattle.vcl_code.specs.Names.{Target, Plain, Field, NoTarget, target_of, subroutine_of, word_of, callee_of}
 use Rattle.vcl_code.specs.Expressions.{second_string}
-use Rattle.vcl_turns.specs.declared.turn.Return.{Return}
-use Rattle.vcl_operands.specs.Outs.{fail}
+use Rattle.vcl_turns.specs.declared.turn.Answer.{Answer as Told}
+use Rattle.vcl_turns.specs.declared.turn.Command.TheVariants.{Ban}
+use Rattle.vcl_operands.specs.Outs.{and_then, fail, known_on, ask}
+use Rattle.vcl_operands.specs.Values.{as_text}
 use Rattle.vcl_operands.specs.Meaning.{Operand, Scene, value_of, operands_of}
 use Rattle.vcl_operands.specs.Meaning.{called as call_value}
-use Rattle.vcl_eval.specs.States.{State, Doing, nothing, set_on, counted, banned, most_statements}
+use Rattle.vcl_eval.specs.States.{State, Doing, in_state, nothing, set_on, set_due, counted, banned, most_statements}
 use Rattle.vcl_eval.specs.Statements.{set_to, field_to, append_to, append_field, key_given, body_given}
-use Rattle.vcl_meaning.specs.Meaning as meant
-use Rattle.vcl_meaning.specs.Meaning.{Text, scene_in, statement_of, branches_of, branch_of, block_of}
+use Rattle.vcl_meaning.specs.Meaning.{Text, scene_in, then_with, with_value, with_only, set_target, append_target, unset_target, call_on, returned, performed, either_by, statement_of, branches_of, branch_of, block_of}
 use Rattle.vcl_store.proofs.Rows.{false-true, both-true, IsField, field-unset}
 use Rattle.vcl_store.proofs.Names.{known-variable, known-subroutine}
 use Rattle.vcl_store.proofs.Values.{unless-none, or-none}
 use Rattle.vcl_store.proofs.Clean.{Clean, left-clean, right-clean, fits, placed, written, known-name, used-name}
 use Rattle.vcl_store.proofs.Expressions.{not-none, four-are-more, too-many}
-use Rattle.vcl_soundness.specs.Operands as operands
-use Rattle.vcl_soundness.specs.Operands.{value_with, operands_with}
-use Rattle.vcl_soundness.specs.Runs as strayed
-use Rattle.vcl_soundness.specs.Runs.{statement_with, branches_with, branch_with, block_with}
-use Rattle.vcl_soundness.proofs.Same.{Same, IsOf, Done, Alike, bind-same, then-alike, done-itself}
+use Rattle.vcl_soundness.proofs.Holds.{Holds, IsOf, Done, Goes, bind-holds, then-goes, set-goes as context-goes, due-goes}
 use Rattle.vcl_soundness.proofs.Values.{truth-has}
 use Rattle.vcl_soundness.proofs.Tables.{TargetOf, target-is, is-set, is-set-too}
 use Rattle.vcl_soundness.proofs.Names.{Stands, function-does}
-use Rattle.vcl_soundness.proofs.Typed.{AllGiven, CallAgrees, Typed}
+use Rattle.vcl_soundness.proofs.Typed.{AllGiven, CallWorth, Typed}
 use Rattle.vcl_soundness.proofs.Expressions.{all-contained, Performs, Gives, Fine, AreFine, none, more, valued, conditional, accepted, Call, does, yields, enrols, calls, expression-fine, arguments-fine}
-use Rattle.vcl_soundness.proofs.Changes.{variable-set, variable-appended}
+use Rattle.vcl_soundness.proofs.Changes.{variable-set, variable-appended, field-set, field-appended}
 use Rattle.vcl_soundness.proofs.Words.{takes_of, is_untimed, IsWord, word-found, TakesOne, TakesTwo, StandsAlone, returned-alone, returned-one, returned-two}
 
 -- each name of a subroutine that statements call is one of these
@@ -118,60 +113,70 @@ not-other : (b : Bool) (place : ℕ) (o : Option ℕ) → (if b then Some place 
 not-other true place o e = absurd (not-none place e)
 not-other false place o e = e
 
--- statements are counted on both sides
-counted-alike : (f g : Doing) → Alike f g → Alike (counted f) (counted g)
-counted-alike f g h s = by-count (nat_lt s.statements most_statements)
+-- statements are counted
+counted-goes : (f : Doing) → Goes f → Goes (counted f)
+counted-goes f h s = by-count (nat_lt s.statements most_statements)
   where
-    by-count : (b : Bool) → Same Done (if b then f (record s { statements = s.statements + 1 }) else fail s) (if b then g (record s { statements = s.statements + 1 }) else fail s)
+    by-count : (b : Bool) → Holds Done (if b then f (record s { statements = s.statements + 1 }) else fail s)
     by-count true = h (record s { statements = s.statements + 1 })
-    by-count false = done-itself (fail s)
+    by-count false = tt
 
-either-alike : (stray : Return) (o : Option Bool) (b : Bool) → o ≡ Some b → (f g h k : Doing) → Alike f g → Alike h k → Alike (strayed.either_by stray o f h) (meant.either_by o g k)
-either-alike stray (Some true) b e f g h k p q s = p s
-either-alike stray (Some false) b e f g h k p q s = q s
-either-alike stray None b e f g h k p q s = absurd (none-some b e)
+either-goes : (o : Option Bool) (b : Bool) → o ≡ Some b → (f g : Doing) → Goes f → Goes g → Goes (either_by o f g)
+either-goes (Some true) b e f g p q s = p s
+either-goes (Some false) b e f g p q s = q s
+either-goes None b e f g p q s = absurd (none-some b e)
+
+nothing-goes : Goes nothing
+nothing-goes s = tt
+
+-- any text is asked to be banned
+banned-goes : (v : Worth) → Goes (banned v)
+banned-goes v s = by-text (as_text v)
+  where
+    by-answer : (t : List ℕ) (z : State) (answers : List Told) → Holds Done (and_then (in_state z (ask (Ban t) answers)) (λ answer. nothing))
+    by-answer t z [] = tt
+    by-answer t z (a ∷ others) = tt
+
+    by-text : (o : Option (List ℕ)) → Holds Done (and_then (known_on o s) (λ text z. and_then (in_state z (ask (Ban text) z.answers)) (λ answer. nothing)))
+    by-text None = tt
+    by-text (Some t) = by-answer t s s.answers
 
 -- a function with one text, and one with a value
-only-alike : (stray : Return) (wanted : Kind) (xs ys : List Operand) → AllGiven (wanted ∷ []) xs ys → (next : Worth → Doing) → Alike (strayed.with_only stray xs next) (meant.with_only ys next)
-only-alike stray wanted (x ∷ []) (y ∷ []) h next s = then-alike (IsOf h.0.0) x y next next s (h.0.2 s.answers) (λ v p z. done-itself (next v z))
-only-alike stray wanted [] ys h next s = absurd h
-only-alike stray wanted (x ∷ []) [] h next s = absurd h
-only-alike stray wanted (x ∷ []) (y ∷ z ∷ zs) h next s = absurd h.1
-only-alike stray wanted (x ∷ w ∷ ws) [] h next s = absurd h
-only-alike stray wanted (x ∷ w ∷ ws) (y ∷ ys) h next s = absurd h.1
+only-goes : (wanted : Kind) (xs : List Operand) → AllGiven (wanted ∷ []) xs → (next : Worth → Doing) → ((v : Worth) → Goes (next v)) → Goes (with_only xs next)
+only-goes wanted (x ∷ []) h next k s = then-goes (IsOf h.0.0) x next s (h.0.2 s.answers) (λ v p. k v)
+only-goes wanted [] h next k s = absurd h
+only-goes wanted (x ∷ w ∷ ws) h next k s = absurd h.1
 
-performs-alike : (stray : Return) (scene : Scene) (wanted : Kind) (c : Callee) → Performs c → (second : Option (List ℕ)) (xs ys : List Operand) → AllGiven (wanted ∷ []) xs ys
-    → Alike (strayed.performed stray scene c second xs) (meant.performed scene c second ys)
-performs-alike stray scene wanted (callee.Builtin builtin.HashData) p second xs ys h s = only-alike stray wanted xs ys h (λ v s. set_on (key_given v s.context) s) s
-performs-alike stray scene wanted (callee.Builtin builtin.Synthetic) p second xs ys h s = only-alike stray wanted xs ys h (λ v s. set_on (body_given v s.context) s) s
-performs-alike stray scene wanted (callee.Builtin builtin.Ban) p second xs ys h s = only-alike stray wanted xs ys h banned s
-performs-alike stray scene wanted (callee.Builtin (builtin.Substitute all)) p second xs ys h s = absurd p
-performs-alike stray scene wanted (callee.Builtin (builtin.Xkey soft)) p second xs ys h s = absurd p
-performs-alike stray scene wanted (callee.Stored k) p second xs ys h s = absurd p
-performs-alike stray scene wanted (callee.Director k) p second xs ys h s = absurd p
-performs-alike stray scene wanted callee.Absent p second xs ys h s = absurd p
+performs-goes : (scene : Scene) (wanted : Kind) (c : Callee) → Performs c → (second : Option (List ℕ)) (xs : List Operand) → AllGiven (wanted ∷ []) xs → Goes (performed scene c second xs)
+performs-goes scene wanted (callee.Builtin builtin.HashData) p second xs h s = only-goes wanted xs h (λ v s. set_on (key_given v s.context) s) (λ v z. context-goes (key_given v z.context) z) s
+performs-goes scene wanted (callee.Builtin builtin.Synthetic) p second xs h s = only-goes wanted xs h (λ v s. set_on (body_given v s.context) s) (λ v z. context-goes (body_given v z.context) z) s
+performs-goes scene wanted (callee.Builtin builtin.Ban) p second xs h s = only-goes wanted xs h banned banned-goes s
+performs-goes scene wanted (callee.Builtin (builtin.Substitute all)) p second xs h s = absurd p
+performs-goes scene wanted (callee.Builtin (builtin.Xkey soft)) p second xs h s = absurd p
+performs-goes scene wanted (callee.Stored k) p second xs h s = absurd p
+performs-goes scene wanted (callee.Director k) p second xs h s = absurd p
+performs-goes scene wanted callee.Absent p second xs h s = absurd p
 
-module _ (stray : Return) (scene : Scene) (k : Kind) (second : Option (List ℕ)) (xs ys : List Operand) where
-  forgotten : (c : Callee) → CallAgrees stray scene k c second xs ys
-      → Alike (meant.then_with (operands.called stray scene c second xs) (λ v. nothing)) (meant.then_with (call_value scene c second ys) (λ v. nothing))
-  forgotten c h s = then-alike (IsOf k) (operands.called stray scene c second xs) (call_value scene c second ys) (λ v. nothing) (λ v. nothing) s (h s.answers) (λ v p z. done-itself (nothing z))
+module _ (scene : Scene) (k : Kind) (second : Option (List ℕ)) (xs : List Operand) where
+  forgotten : (c : Callee) → CallWorth scene k c second xs → Goes (then_with (call_value scene c second xs) (λ v. nothing))
+  forgotten c h s = then-goes (IsOf k) (call_value scene c second xs) (λ v. nothing) s (h s.answers) (λ v p. nothing-goes)
 
-  gives-alike : (c : Callee) → Gives c → CallAgrees stray scene k c second xs ys → Alike (strayed.performed stray scene c second xs) (meant.performed scene c second ys)
-  gives-alike (callee.Builtin (builtin.Substitute all)) g h s = forgotten (callee.Builtin (builtin.Substitute all)) h s
-  gives-alike (callee.Builtin (builtin.Xkey soft)) g h s = forgotten (callee.Builtin (builtin.Xkey soft)) h s
-  gives-alike (callee.Stored i) g h s = forgotten (callee.Stored i) h s
-  gives-alike (callee.Director i) g h s = forgotten (callee.Director i) h s
-  gives-alike callee.Absent g h s = forgotten callee.Absent h s
-  gives-alike (callee.Builtin builtin.HashData) g h s = absurd g
-  gives-alike (callee.Builtin builtin.Synthetic) g h s = absurd g
-  gives-alike (callee.Builtin builtin.Ban) g h s = absurd g
+  gives-goes : (c : Callee) → Gives c → CallWorth scene k c second xs → Goes (performed scene c second xs)
+  gives-goes (callee.Builtin (builtin.Substitute all)) g h s = forgotten (callee.Builtin (builtin.Substitute all)) h s
+  gives-goes (callee.Builtin (builtin.Xkey soft)) g h s = forgotten (callee.Builtin (builtin.Xkey soft)) h s
+  gives-goes (callee.Stored i) g h s = forgotten (callee.Stored i) h s
+  gives-goes (callee.Director i) g h s = forgotten (callee.Director i) h s
+  gives-goes callee.Absent g h s = forgotten callee.Absent h s
+  gives-goes (callee.Builtin builtin.HashData) g h s = absurd g
+  gives-goes (callee.Builtin builtin.Synthetic) g h s = absurd g
+  gives-goes (callee.Builtin builtin.Ban) g h s = absurd g
 
-call-alike : (stray : Return) (calls others : ℕ → Doing) (o : Option ℕ) (k : ℕ) → o ≡ Some k → Alike (calls k) (others k) → Alike (strayed.call_on stray calls o) (meant.call_on others o)
-call-alike stray calls others (Some i) k e h s = subst (λ (j : ℕ). Same Done (calls j s) (others j s)) (sym (same_Some i k e)) (h s)
-call-alike stray calls others None k e h s = absurd (none-some k e)
+call-goes : (calls : ℕ → Doing) (o : Option ℕ) (k : ℕ) → o ≡ Some k → Goes (calls k) → Goes (call_on calls o)
+call-goes calls (Some i) k e h s = subst (λ (j : ℕ). Holds Done (calls j s)) (sym (same_Some i k e)) (h s)
+call-goes calls None k e h s = absurd (none-some k e)
 
-module _ (stray : Return) (known : check.Known) (t : Text) (stands : (c : Context) → Stands known t.known (scene_in t c)) (roots : List Subroutine) (root : Subroutine)
-    (reached : Contains roots root) (traffic : has scope.Init root ≡ false) (calls' others : ℕ → Doing) where
+module _ (known : check.Known) (t : Text) (stands : (c : Context) → Stands known t.known (scene_in t c)) (roots : List Subroutine) (root : Subroutine)
+    (reached : Contains roots root) (traffic : has scope.Init root ≡ false) (calls' : ℕ → Doing) where
   -- what a statement and a name may do from the subroutine from which it is reached
   stands-there : (f : _) (a b : Seen) → misplaced roots f a b ≡ None → may_stand f b.meaning root ≡ true
   stands-there f a b e =
@@ -185,55 +190,53 @@ module _ (stray : Return) (known : check.Known) (t : Text) (stands : (c : Contex
 
   -- expressions, whatever the variables are
   abbrev FineIn : Context → Phrase → Type 0
-  FineIn c e = Fine stray known t.known (scene_in t c) (stands c) roots root reached e
+  FineIn c e = Fine known t.known (scene_in t c) (stands c) roots root reached e
 
   abbrev Fines : Phrase → Type 0
   Fines e = (c : Context) → FineIn c e
 
   abbrev TypedIn : Context → Kind → Phrase → Type 0
-  TypedIn c k e = Typed stray (scene_in t c) t.known k e
+  TypedIn c k e = Typed (scene_in t c) t.known k e
 
   abbrev SortOf : Phrase → Sort
   SortOf e = (view_of known Value e).sort
 
   -- what statements do with a value
-  with-alike : (P : Kind → Type 0) (e : Phrase) (next other : Worth → Doing) → ((c : Context) → (k : Kind) × P k × TypedIn c k e)
-      → ((k : Kind) → P k → (v : Worth) → IsOf k v → Alike (next v) (other v)) → Alike (strayed.with_value stray t e next) (meant.with_value t e other)
-  with-alike P e next other typed h s =
+  with-goes : (P : Kind → Type 0) (e : Phrase) (next : Worth → Doing) → ((c : Context) → (k : Kind) × P k × TypedIn c k e) → ((k : Kind) → P k → (v : Worth) → IsOf k v → Goes (next v))
+      → Goes (with_value t e next)
+  with-goes P e next typed h s =
       let x = typed s.context in
-      then-alike (IsOf x.0) (value_with stray t.known (scene_in t s.context) e) (value_of t.known (scene_in t s.context) e) next other s (x.2 s.answers) (λ v p. h x.0 x.1 v p)
+      then-goes (IsOf x.0) (value_of t.known (scene_in t s.context) e) next s (x.2 s.answers) (λ v p. h x.0 x.1 v p)
 
   -- what is set and added to
   abbrev SetsTo : Row → Kind → Type 0
   SetsTo v k = accepts v.kind (sort.Value k) ≡ true
 
-  set-target : (v : Row) (w : Target) (e : Phrase) → TargetOf v w → has v.set root ≡ true → ((c : Context) → (k : Kind) × SetsTo v k × TypedIn c k e)
-      → Alike (strayed.set_target stray t w e) (meant.set_target t w e)
+  set-target : (v : Row) (w : Target) (e : Phrase) → TargetOf v w → has v.set root ≡ true → ((c : Context) → (k : Kind) × SetsTo v k × TypedIn c k e) → Goes (set_target t w e)
   set-target v (Plain w) e is h typed s =
-      with-alike (SetsTo v) e (strayed.set_on_variable stray w) (λ x z. set_on (set_to w x z.context) z) typed
-      (λ k a x p z. variable-set stray w (is-set v w root is h) k (subst (λ (l : Kind). accepts l (sort.Value k) ≡ true) (sym is.kind) a) x p z) s
+      with-goes (SetsTo v) e (λ x z. set_due (set_to w x z.context) z) typed
+      (λ k a x p z. due-goes (set_to w x z.context) (variable-set w (is-set v w root is h) k (subst (λ (l : Kind). accepts l (sort.Value k) ≡ true) (sym is.kind) a) x p z.context) z) s
   set-target v (Field message name) e is h typed s =
-      let next : Worth → Doing = λ x z. set_on (field_to message name x z.context) z in
-      with-alike (SetsTo v) e next next typed (λ k a x p z. done-itself (next x z)) s
+      with-goes (SetsTo v) e (λ x z. set_due (field_to message name x z.context) z) typed (λ k a x p z. due-goes (field_to message name x z.context) (field-set message name x z.context) z) s
   set-target v NoTarget e is h typed s = absurd is
 
   append-target : (name : List ℕ) (v : Row) (w : Target) (e : Phrase) → variable_named name ≡ Some v → target_of name ≡ w → TargetOf v w → is_text v.kind ≡ true → has v.append root ≡ true
-      → ((c : Context) → (k : Kind) × Unit {0} × TypedIn c k e) → Alike (strayed.append_target stray t w e) (meant.append_target t w e)
+      → ((c : Context) → (k : Kind) × Unit {0} × TypedIn c k e) → Goes (append_target t w e)
   append-target name v (Plain w) e named target is text h typed s =
-      with-alike (λ k. Unit {0}) e (strayed.append_on_variable stray w) (λ x z. set_on (append_to w x z.context) z) typed
-      (λ k a x p z. variable-appended stray w (is-set-too name v w root named target is h) (is.kind ∙ text-kind v.kind text) x z) s
+      with-goes (λ k. Unit {0}) e (λ x z. set_due (append_to w x z.context) z) typed
+      (λ k a x p z. due-goes (append_to w x z.context) (variable-appended w (is-set-too name v w root named target is h) (is.kind ∙ text-kind v.kind text) x z.context) z) s
   append-target name v (Field message own) e named target is text h typed s =
-      let next : Worth → Doing = λ x z. set_on (append_field message own x z.context) z in
-      with-alike (λ k. Unit {0}) e next next typed (λ k a x p z. done-itself (next x z)) s
+      with-goes (λ k. Unit {0}) e (λ x z. set_due (append_field message own x z.context) z) typed
+      (λ k a x p z. due-goes (append_field message own x z.context) (field-appended message own x z.context) z) s
   append-target name v NoTarget e named target is text h typed s = absurd is
 
-  abbrev StatementAlike : Phrase → Type 0
-  StatementAlike e = Alike (statement_with stray t calls' e) (statement_of t others e)
+  abbrev StatementGoes : Phrase → Type 0
+  StatementGoes e = Goes (statement_of t calls' e)
 
-  set-alike : (p q : ℕ) (name : List ℕ) {e : Phrase} → Fines e → Clean known roots Statement (Node Set (At p) (Node Bound (Named q name) e))
-      → StatementAlike (Node Set (At p) (Node Bound (Named q name) e))
-  unfolding statement_with statement_of meaning_of
-  set-alike p q name {e} f c =
+  set-goes : (p q : ℕ) (name : List ℕ) {e : Phrase} → Fines e → Clean known roots Statement (Node Set (At p) (Node Bound (Named q name) e))
+      → StatementGoes (Node Set (At p) (Node Bound (Named q name) e))
+  unfolding statement_of meaning_of
+  set-goes p q name {e} f c =
       let b = Node Bound (Named q name) e in
       let bound = right-clean known roots Statement Set (At p) b c in
       let name-clean = left-clean known roots (Assignment use'.Set) Bound (Named q name) e bound in
@@ -243,12 +246,12 @@ module _ (stray : Return) (known : check.Known) (t : Text) (stands : (c : Contex
       let U : Option Row → Type 0 = λ o. may_use use'.Set (of_variable o) root ≡ true in
       let fit = unless-none (accepts v.0.kind (SortOf e)) (view_of known Value e).first (subst M v.1 (fits known roots Statement Set (At p) b c)) in
       set-target v.0 (target_of name) e (target-is name v.0 v.1) (subst U v.1 (used-there use'.Set q name name-clean))
-      (λ k. accepted stray known t.known (scene_in t k) (stands k) roots root reached v.0.kind (SortOf e) e fit (f k value-clean))
+      (λ k. accepted known t.known (scene_in t k) (stands k) roots root reached v.0.kind (SortOf e) e fit (f k value-clean))
 
-  append-alike : (p q : ℕ) (name : List ℕ) {e : Phrase} → Fines e → Clean known roots Statement (Node Append (At p) (Node Bound (Named q name) e))
-      → StatementAlike (Node Append (At p) (Node Bound (Named q name) e))
-  unfolding statement_with statement_of meaning_of
-  append-alike p q name {e} f c =
+  append-goes : (p q : ℕ) (name : List ℕ) {e : Phrase} → Fines e → Clean known roots Statement (Node Append (At p) (Node Bound (Named q name) e))
+      → StatementGoes (Node Append (At p) (Node Bound (Named q name) e))
+  unfolding statement_of meaning_of
+  append-goes p q name {e} f c =
       let b = Node Bound (Named q name) e in
       let bound = right-clean known roots Statement Append (At p) b c in
       let name-clean = left-clean known roots (Assignment use'.Append) Bound (Named q name) e bound in
@@ -259,16 +262,16 @@ module _ (stray : Return) (known : check.Known) (t : Text) (stands : (c : Contex
       let fit = unless-none (is_text v.0.kind && is_value (SortOf e)) (view_of known Value e).first (subst M v.1 (fits known roots Statement Append (At p) b c)) in
       let both = both-true (is_text v.0.kind) (is_value (SortOf e)) fit in
       append-target name v.0 (target_of name) e v.1 refl (target-is name v.0 v.1) both.0 (subst U v.1 (used-there use'.Append q name name-clean))
-      (λ k. let x = valued stray known t.known (scene_in t k) (stands k) roots root reached (SortOf e) e both.1 (f k value-clean) in (x.0, tt, x.2))
+      (λ k. let x = valued known t.known (scene_in t k) (stands k) roots root reached (SortOf e) e both.1 (f k value-clean) in (x.0, tt, x.2))
 
-  unset-target : (w : Target) → IsField w → Alike (strayed.unset_target stray w) (meant.unset_target w)
-  unset-target (Field message name) h s = done-itself (set_on (Some (field_unset message name s.context)) s)
+  unset-target : (w : Target) → IsField w → Goes (unset_target w)
+  unset-target (Field message name) h s = tt
   unset-target (Plain w) h s = absurd h
   unset-target NoTarget h s = absurd h
 
-  unset-alike : (p q : ℕ) (name : List ℕ) → Clean known roots Statement (Node Unset (At p) (Named q name)) → StatementAlike (Node Unset (At p) (Named q name))
-  unfolding statement_with statement_of meaning_of
-  unset-alike p q name c =
+  unset-goes : (p q : ℕ) (name : List ℕ) → Clean known roots Statement (Node Unset (At p) (Named q name)) → StatementGoes (Node Unset (At p) (Named q name))
+  unfolding statement_of meaning_of
+  unset-goes p q name c =
       let name-clean = right-clean known roots Statement Unset (At p) (Named q name) c in
       let v = known-variable (variable_named name) (known-name known roots (Name use'.Unset) use'.Unset q name refl name-clean) in
       let M : Option Row → Type 0 = λ o. may_use use'.Unset (of_variable o) root ≡ true in
@@ -276,15 +279,15 @@ module _ (stray : Return) (known : check.Known) (t : Text) (stands : (c : Contex
 
   -- calls of subroutines that do the same
   abbrev pub Leads : List ℕ → Type 0
-  Leads name = is_known (meaning_of known use'.Subroutine name) ≡ true → (k : ℕ) → subroutine_of t.known name ≡ Some k → Alike (calls' k) (others k)
+  Leads name = is_known (meaning_of known use'.Subroutine name) ≡ true → (k : ℕ) → subroutine_of t.known name ≡ Some k → Goes (calls' k)
 
-  jump-alike : (p q : ℕ) (name : List ℕ) → Clean known roots Statement (Node Jump (At p) (Named q name)) → Leads name → StatementAlike (Node Jump (At p) (Named q name))
-  unfolding statement_with statement_of
-  jump-alike p q name c h s =
+  jump-goes : (p q : ℕ) (name : List ℕ) → Clean known roots Statement (Node Jump (At p) (Named q name)) → Leads name → StatementGoes (Node Jump (At p) (Named q name))
+  unfolding statement_of
+  jump-goes p q name c h s =
       let name-clean = right-clean known roots Statement Jump (At p) (Named q name) c in
       let is = known-name known roots (Name use'.Subroutine) use'.Subroutine q name refl name-clean in
       let k = known-subroutine known t.known (stands s.context).meet name is in
-      call-alike stray calls' others (subroutine_of t.known name) k.0 k.1 (h is k.0 k.1) s
+      call-goes calls' (subroutine_of t.known name) k.0 k.1 (h is k.0 k.1) s
 
   -- `new` doesn't stand there
   new-nowhere : (p : ℕ) (b : Phrase) → Clean known roots Statement (Node New (At p) b) → ⊥
@@ -313,7 +316,7 @@ module _ (stray : Return) (known : check.Known) (t : Text) (stands : (c : Contex
   exactly : (k : Kind) (e : Phrase) → ((s : Sort) → accepts k s ≡ alike (sort.Value k) s) → Wanted k e → (c : Context) → FineIn c e → Clean known roots Value e → TypedIn c k e
   exactly k e strict m c f clean =
       let a = unless-none (accepts k (SortOf e)) (view_of known Value e).first m in
-      let x = accepted stray known t.known (scene_in t c) (stands c) roots root reached k (SortOf e) e a (f clean) in
+      let x = accepted known t.known (scene_in t c) (stands c) roots root reached k (SortOf e) e a (f clean) in
       let same : x.0 ≡ k = same-kind k x.0 (sym (strict (sort.Value x.0)) ∙ x.1) in
       subst (λ (l : Kind). TypedIn c l e) same x.2
 
@@ -336,83 +339,78 @@ module _ (stray : Return) (known : check.Known) (t : Text) (stands : (c : Contex
   three-wanted _ x y z place i = not-none place i
 
   abbrev AreFines : Phrase → Type 0
-  AreFines l = (c : Context) → AreFine stray known t.known (scene_in t c) (stands c) roots root reached l
+  AreFines l = (c : Context) → AreFine known t.known (scene_in t c) (stands c) roots root reached l
 
   abbrev ListedOf : Phrase → Seens
   ListedOf l = (view_of known Arguments l).arguments
 
-  abbrev ReturnedAlike : ReturnWord → Phrase → State → Type 0
-  ReturnedAlike r l s =
-      Same Done (strayed.returned stray (Some r) (operands_with stray t.known (scene_in t s.context) l) s) (meant.returned (Some r) (operands_of t.known (scene_in t s.context) l) s)
+  abbrev ReturnedGoes : ReturnWord → Phrase → State → Type 0
+  ReturnedGoes r l s = Holds Done (returned (Some r) (operands_of t.known (scene_in t s.context) l) s)
 
-  with-arguments : (r : ReturnWord) (place : ℕ) (s : State) {l : Phrase} → AreFine stray known t.known (scene_in t s.context) (stands s.context) roots root reached l → Clean known roots Arguments l
-      → ill_called (if is_one (ListedOf l) && not (is_untimed r) then takes.One (parameter.Value kind.Duration) else takes_of r) (ListedOf l) place ≡ None → ReturnedAlike r l s
-  unfolding operands_with operands_of
-  with-arguments r place s none c i = returned-alone stray r (stands-alone r place i) s
+  with-arguments : (r : ReturnWord) (place : ℕ) (s : State) {l : Phrase} → AreFine known t.known (scene_in t s.context) (stands s.context) roots root reached l → Clean known roots Arguments l
+      → ill_called (if is_one (ListedOf l) && not (is_untimed r) then takes.One (parameter.Value kind.Duration) else takes_of r) (ListedOf l) place ≡ None → ReturnedGoes r l s
+  unfolding operands_of
+  with-arguments r place s none c i = returned-alone r (stands-alone r place i) s
   with-arguments r place s (more {e = x} none f) c i =
       let m = one-wanted r (SeenOf x) place i in
       let a = exactly m.0 x m.1 m.2 s.context f (right-clean known roots Arguments More Nothing x c) in
-      returned-one stray r m.0 (value_with stray t.known (scene_in t s.context) x) (value_of t.known (scene_in t s.context) x) m.3 a s
+      returned-one r m.0 (value_of t.known (scene_in t s.context) x) m.3 a s
   with-arguments r place s (more {e = y} (more {e = x} none f) g) c i =
       let front = left-clean known roots Arguments More (Node More Nothing x) y c in
       let m = two-wanted r (SeenOf x) (SeenOf y) place i in
       let a = exactly kind.Int x (λ z. refl) m.0 s.context f (right-clean known roots Arguments More Nothing x front) in
-      let b = accepted stray known t.known (scene_in t s.context) (stands s.context) roots root reached kind.String (SortOf y) y (unless-none (accepts kind.String (SortOf y)) (view_of known Value y).first m.1)
+      let b = accepted known t.known (scene_in t s.context) (stands s.context) roots root reached kind.String (SortOf y) y (unless-none (accepts kind.String (SortOf y)) (view_of known Value y).first m.1)
       (g (right-clean known roots Arguments More (Node More Nothing x) y c)) in
-      let with : Phrase → Operand = λ p. value_with stray t.known (scene_in t s.context) p in
       let by : Phrase → Operand = λ p. value_of t.known (scene_in t s.context) p in
-      returned-two stray r kind.Int b.0 (with x) (with y) (by x) (by y) m.2 a b.2 s
+      returned-two r kind.Int b.0 (by x) (by y) m.2 a b.2 s
   with-arguments r place s (more {e = z} (more {e = y} (more {e = x} none f) g) h) c i = absurd (three-wanted r (SeenOf x) (SeenOf y) (SeenOf z) place i)
   with-arguments r place s (more {e = z} (more {e = y} (more {e = x} (more {l = l} {e = w} m d) f) g) h) c i =
       let P : Seens → Type 0 = λ q. ill_called (if is_one q && not (is_untimed r) then takes.One (parameter.Value kind.Duration) else takes_of r) q place ≡ None in
       absurd (too-many (takes_of r) place (subst P (four-are-more (ListedOf l) (SeenOf w) (SeenOf x) (SeenOf y) (SeenOf z)) i))
 
-  word-of : (o p : Option ReturnWord) (r : ReturnWord) → o ≡ Some r → (s : State) (xs ys : List Operand) → p ≡ o
-      → Same Done (strayed.returned stray (Some r) xs s) (meant.returned (Some r) ys s) → Same Done (strayed.returned stray p xs s) (meant.returned p ys s)
-  word-of o p r e s xs ys f h = subst (λ (q : Option ReturnWord). Same Done (strayed.returned stray q xs s) (meant.returned q ys s)) (sym (f ∙ e)) h
+  word-of : (o p : Option ReturnWord) (r : ReturnWord) → o ≡ Some r → (s : State) (xs : List Operand) → p ≡ o → Holds Done (returned (Some r) xs s) → Holds Done (returned p xs s)
+  word-of o p r e s xs f h = subst (λ (q : Option ReturnWord). Holds Done (returned q xs s)) (sym (f ∙ e)) h
 
-  return-alike : (p q : ℕ) (name : List ℕ) → Clean known roots Statement (Node Answers (At p) (Named q name)) → StatementAlike (Node Answers (At p) (Named q name))
-  unfolding statement_with statement_of meaning_of
-  return-alike p q name c s =
+  return-goes : (p q : ℕ) (name : List ℕ) → Clean known roots Statement (Node Answers (At p) (Named q name)) → StatementGoes (Node Answers (At p) (Named q name))
+  unfolding statement_of meaning_of
+  return-goes p q name c s =
       let name-clean = right-clean known roots Statement Answers (At p) (Named q name) c in
       let w = known-one (word_named name) (known-name known roots Answer use'.Word q name refl name-clean) in
       let r = word-found name w.0 w.1 in
       let i = ill-answer (word_named name) w.0 r.0 seens.Zero q w.1 r.2 (fits known roots Statement Answers (At p) (Named q name) c) in
-      word-of (word_of name) (word_of name) r.0 r.1 s [] [] refl (returned-alone stray r.0 (stands-alone r.0 q i) s)
+      word-of (word_of name) (word_of name) r.0 r.1 s [] refl (returned-alone r.0 (stands-alone r.0 q i) s)
 
-  answer-alike : (p q : ℕ) (name : List ℕ) {l : Phrase} → AreFines l → Clean known roots Statement (Node Answers (At p) (Node Called (Named q name) l))
-      → StatementAlike (Node Answers (At p) (Node Called (Named q name) l))
-  unfolding statement_with statement_of meaning_of
-  answer-alike p q name {l} g c s =
+  answer-goes : (p q : ℕ) (name : List ℕ) {l : Phrase} → AreFines l → Clean known roots Statement (Node Answers (At p) (Node Called (Named q name) l))
+      → StatementGoes (Node Answers (At p) (Node Called (Named q name) l))
+  unfolding statement_of meaning_of
+  answer-goes p q name {l} g c s =
       let b = Node Called (Named q name) l in
       let answer = right-clean known roots Statement Answers (At p) b c in
       let name-clean = left-clean known roots Answer Called (Named q name) l answer in
       let w = known-one (word_named name) (known-name known roots (Name use'.Word) use'.Word q name refl name-clean) in
       let r = word-found name w.0 w.1 in
       let i = ill-answer (word_named name) w.0 r.0 (ListedOf l) q w.1 r.2 (fits known roots Statement Answers (At p) b c) in
-      word-of (word_of name) (word_of name) r.0 r.1 s (operands_with stray t.known (scene_in t s.context) l) (operands_of t.known (scene_in t s.context) l) refl
+      word-of (word_of name) (word_of name) r.0 r.1 s (operands_of t.known (scene_in t s.context) l) refl
       (with-arguments r.0 q s (g s.context) (right-clean known roots Answer Called (Named q name) l answer) i)
 
   -- a function that is called as a statement
-  abbrev PerformedAlike : Callee → Phrase → State → Type 0
-  PerformedAlike x l s =
-      Same Done (strayed.performed stray (scene_in t s.context) x (second_string l) (operands_with stray t.known (scene_in t s.context) l) s)
-      (meant.performed (scene_in t s.context) x (second_string l) (operands_of t.known (scene_in t s.context) l) s)
+  abbrev PerformedGoes : Callee → Phrase → State → Type 0
+  PerformedGoes x l s = Holds Done (performed (scene_in t s.context) x (second_string l) (operands_of t.known (scene_in t s.context) l) s)
 
-  performed-alike : (s : State) (f : Function) (name : List ℕ) (l : Phrase) → has f.scope root ≡ true → Call stray known t.known (scene_in t s.context) (stands s.context) roots root reached f name l
-      → PerformedAlike (callee_of t.known name) l s
-  performed-alike s f name l h (does x e p n g) =
+  performed-goes : (s : State) (f : Function) (name : List ℕ) (l : Phrase) → has f.scope root ≡ true → Call known t.known (scene_in t s.context) (stands s.context) roots root reached f name l
+      → PerformedGoes (callee_of t.known name) l s
+  performed-goes s f name l h (does x e p n g) =
       let scene = scene_in t s.context in
-      subst (λ (y : Callee). PerformedAlike y l s) (sym e)
-      (performs-alike stray scene kind.String x p (second_string l) (operands_with stray t.known scene l) (operands_of t.known scene l) g s)
-  performed-alike s f name l h (yields k x e p n g) =
+      subst (λ (y : Callee). PerformedGoes y l s) (sym e)
+      (performs-goes scene kind.String x p (second_string l) (operands_of t.known scene l) g s)
+  performed-goes s f name l h (yields k x e p n g) =
       let scene = scene_in t s.context in
-      subst (λ (y : Callee). PerformedAlike y l s) (sym e) (gives-alike stray scene k (second_string l) (operands_with stray t.known scene l) (operands_of t.known scene l) x p g s)
-  performed-alike s f name l h (enrols way same) = absurd (false-true (sym traffic ∙ subst (λ (x : Function). has x.scope root ≡ true) same h))
+      subst (λ (y : Callee). PerformedGoes y l s) (sym e) (gives-goes scene k (second_string l) (operands_of t.known scene l) x p g s)
+  performed-goes s f name l h (enrols way same) = absurd (false-true (sym traffic ∙ subst (λ (x : Function). has x.scope root ≡ true) same h))
 
-  run-alike : (place : ℕ) (name : List ℕ) {l : Phrase} → AreFines l → Clean known roots Statement (Node Called (Named place name) l) → StatementAlike (Node Called (Named place name) l)
-  unfolding statement_with statement_of
-  run-alike place name {l} g c s =
+  run-goes : (place : ℕ) (name : List ℕ) {l : Phrase} → AreFines l → Clean known roots Statement (Node Called (Named place name) l) → StatementGoes (Node Called (Named place name) l)
+  unfolding statement_of
+  run-goes place name {l} g c s =
       let name-clean = left-clean known roots Statement Called (Named place name) l c in
       let scene = scene_in t s.context in
       let k = function-does known t.known scene (stands s.context) name (known-name known roots (Name use'.Function) use'.Function place name refl name-clean) in
@@ -421,105 +419,100 @@ module _ (stray : Return) (known : check.Known) (t : Text) (stands : (c : Contex
       let U : Meaning → Type 0 = λ m. unwritten_call m (ListedOf l) ≡ None in
       let i = subst I k.1 (fits known roots Statement Called (Named place name) l c) in
       let u = subst U k.1 (written known roots Statement Called (Named place name) l c) in
-      performed-alike s k.0 name l (subst T k.1 (used-there use'.Function place name name-clean))
-      (calls stray known t.known scene (stands s.context) roots root reached k.0 name k.2 (g s.context) (right-clean known roots Statement Called (Named place name) l c) place i u)
+      performed-goes s k.0 name l (subst T k.1 (used-there use'.Function place name name-clean))
+      (calls known t.known scene (stands s.context) roots root reached k.0 name k.2 (g s.context) (right-clean known roots Statement Called (Named place name) l c) place i u)
 
   -- conditions, branches and blocks
-  abbrev pub BlockAlike : Phrase → Type 0
-  BlockAlike b = Clean known roots Block b → AllCall Leads b → Alike (block_with stray t calls' b) (block_of t others b)
+  abbrev pub BlockGoes : Phrase → Type 0
+  BlockGoes b = Clean known roots Block b → AllCall Leads b → Goes (block_of t calls' b)
 
   abbrev StatementFine : Phrase → Type 0
-  StatementFine e = Clean known roots Statement e → AllCall Leads e → StatementAlike e
+  StatementFine e = Clean known roots Statement e → AllCall Leads e → StatementGoes e
 
   abbrev BranchFine : Phrase → Type 0
-  BranchFine b = Clean known roots Branch b → AllCall Leads b → (f g : Doing) → Alike f g → Alike (branch_with stray t calls' b f) (branch_of t others b g)
+  BranchFine b = Clean known roots Branch b → AllCall Leads b → (f : Doing) → Goes f → Goes (branch_of t calls' b f)
 
   abbrev ConditionalFine : Phrase → Type 0
-  ConditionalFine e =
-      Clean known roots Statement e → AllCall Leads e
-      → ((f g : Doing) → Alike f g → Alike (branches_with stray t calls' e f) (branches_of t others e g)) × StatementAlike e
+  ConditionalFine e = Clean known roots Statement e → AllCall Leads e → ((f : Doing) → Goes f → Goes (branches_of t calls' e f)) × StatementGoes e
 
-  nothing-alike : Alike nothing nothing
-  nothing-alike s = done-itself (nothing s)
-
-  branch-fine : {e b : Phrase} → Fines e → BlockAlike b → BranchFine (Node phrase.Branch e b)
-  unfolding branch_with branch_of
-  branch-fine {e} {b} f g c calls f' g' h s =
+  branch-fine : {e b : Phrase} → Fines e → BlockGoes b → BranchFine (Node phrase.Branch e b)
+  unfolding branch_of
+  branch-fine {e} {b} f g c calls f' h s =
       let view = view_of known Value e in
       let fit = unless-none (is_condition view.sort) view.first (fits known roots Branch phrase.Branch e b c) in
       let Q : Kind → Type 0 = λ k. is_condition (sort.Value k) ≡ true in
       let block = g (right-clean known roots Branch phrase.Branch e b c) calls in
-      with-alike Q e (λ v. strayed.either_by stray (truth_of v) (block_with stray t calls' b) f') (λ v. meant.either_by (truth_of v) (block_of t others b) g')
-      (λ x. conditional stray known t.known (scene_in t x) (stands x) roots root reached view.sort e fit (f x (left-clean known roots Branch phrase.Branch e b c)))
-      (λ k q v p. let b' = truth-has k v p q in either-alike stray (truth_of v) b'.0 b'.1 (block_with stray t calls' b) (block_of t others b) f' g' block h) s
+      with-goes Q e (λ v. either_by (truth_of v) (block_of t calls' b) f')
+      (λ x. conditional known t.known (scene_in t x) (stands x) roots root reached view.sort e fit (f x (left-clean known roots Branch phrase.Branch e b c)))
+      (λ k q v p. let b' = truth-has k v p q in either-goes (truth_of v) b'.0 b'.1 (block_of t calls' b) f' block h) s
 
   if-fine : (place : ℕ) {b : Phrase} → BranchFine b → ConditionalFine (Node If (At place) b)
-  unfolding statement_with statement_of branches_with branches_of
+  unfolding statement_of branches_of
   if-fine place {b} f c calls =
       let arm = f (right-clean known roots Statement If (At place) b c) calls in
-      (arm, arm nothing nothing nothing-alike)
+      (arm, arm nothing nothing-goes)
 
   else-if-fine : {e b : Phrase} → ConditionalFine e → BranchFine b → ConditionalFine (Node ElseIf e b)
-  unfolding statement_with statement_of branches_with branches_of
+  unfolding statement_of branches_of
   else-if-fine {e} {b} f g c calls =
       let front = (f (left-clean known roots Statement ElseIf e b c) calls.0).0 in
       let arm = g (right-clean known roots Statement ElseIf e b c) calls.1 in (
-        λ x y h. front (branch_with stray t calls' b x) (branch_of t others b y) (arm x y h),
-        front (branch_with stray t calls' b nothing) (branch_of t others b nothing) (arm nothing nothing nothing-alike),
+        λ x h. front (branch_of t calls' b x) (arm x h),
+        front (branch_of t calls' b nothing) (arm nothing nothing-goes),
       )
 
-  else-fine : {e b : Phrase} → ConditionalFine e → BlockAlike b → StatementFine (Node Else e b)
-  unfolding statement_with statement_of
+  else-fine : {e b : Phrase} → ConditionalFine e → BlockGoes b → StatementFine (Node Else e b)
+  unfolding statement_of
   else-fine {e} {b} f g c calls =
       let front = (f (left-clean known roots Statement Else e b c) calls.0).0 in
-      front (block_with stray t calls' b) (block_of t others b) (g (right-clean known roots Statement Else e b c) calls.1)
+      front (block_of t calls' b) (g (right-clean known roots Statement Else e b c) calls.1)
 
-  none-fine : BlockAlike Nothing
-  unfolding block_with block_of
-  none-fine c calls s = done-itself (nothing s)
+  none-fine : BlockGoes Nothing
+  unfolding block_of
+  none-fine c calls s = tt
 
-  more-fine : {l e : Phrase} → BlockAlike l → StatementFine e → BlockAlike (Node More l e)
-  unfolding block_with block_of
+  more-fine : {l e : Phrase} → BlockGoes l → StatementFine e → BlockGoes (Node More l e)
+  unfolding block_of
   more-fine {l} {e} f g c calls s =
       let front = f (left-clean known roots Block More l e c) calls.0 in
-      let last = counted-alike (statement_with stray t calls' e) (statement_of t others e) (g (right-clean known roots Block More l e c) calls.1) in
-      bind-same Done Done (block_with stray t calls' l s) (block_of t others l s) (λ done. counted (statement_with stray t calls' e)) (λ done. counted (statement_of t others e)) (front s) (λ done p z. last z)
+      let last = counted-goes (statement_of t calls' e) (g (right-clean known roots Block More l e c) calls.1) in
+      bind-holds Done Done (block_of t calls' l s) (λ done. counted (statement_of t calls' e)) (front s) (λ done p z. last z)
 
   set-fine : {n e : Phrase} {x : Token} (p : ℕ) → IsName n x → Fines e → StatementFine (Node Set (At p) (Node Bound n e))
-  set-fine p (plain_name {p = q} {t = n}) f c h = set-alike p q n f c
-  set-fine p (word_name {p = q} {t = n}) f c h = set-alike p q n f c
+  set-fine p (plain_name {p = q} {t = n}) f c h = set-goes p q n f c
+  set-fine p (word_name {p = q} {t = n}) f c h = set-goes p q n f c
 
   append-fine : {n e : Phrase} {x : Token} (p : ℕ) → IsName n x → Fines e → StatementFine (Node Append (At p) (Node Bound n e))
-  append-fine p (plain_name {p = q} {t = n}) f c h = append-alike p q n f c
-  append-fine p (word_name {p = q} {t = n}) f c h = append-alike p q n f c
+  append-fine p (plain_name {p = q} {t = n}) f c h = append-goes p q n f c
+  append-fine p (word_name {p = q} {t = n}) f c h = append-goes p q n f c
 
   unset-fine : {n : Phrase} {x : Token} (p : ℕ) → IsName n x → StatementFine (Node Unset (At p) n)
-  unset-fine p (plain_name {p = q} {t = n}) c h = unset-alike p q n c
-  unset-fine p (word_name {p = q} {t = n}) c h = unset-alike p q n c
+  unset-fine p (plain_name {p = q} {t = n}) c h = unset-goes p q n c
+  unset-fine p (word_name {p = q} {t = n}) c h = unset-goes p q n c
 
   jump-fine : {n : Phrase} {x : Token} (p : ℕ) → IsName n x → StatementFine (Node Jump (At p) n)
-  jump-fine p (plain_name {p = q} {t = n}) c h = jump-alike p q n c h
-  jump-fine p (word_name {p = q} {t = n}) c h = jump-alike p q n c h
+  jump-fine p (plain_name {p = q} {t = n}) c h = jump-goes p q n c h
+  jump-fine p (word_name {p = q} {t = n}) c h = jump-goes p q n c h
 
   return-fine : {n : Phrase} {x : Token} (p : ℕ) → IsName n x → StatementFine (Node Answers (At p) n)
-  return-fine p (plain_name {p = q} {t = n}) c h = return-alike p q n c
-  return-fine p (word_name {p = q} {t = n}) c h = return-alike p q n c
+  return-fine p (plain_name {p = q} {t = n}) c h = return-goes p q n c
+  return-fine p (word_name {p = q} {t = n}) c h = return-goes p q n c
 
   answer-fine : {n l : Phrase} {x : Token} (p : ℕ) → IsName n x → AreFines l → StatementFine (Node Answers (At p) (Node Called n l))
-  answer-fine p (plain_name {p = q} {t = n}) g c h = answer-alike p q n g c
-  answer-fine p (word_name {p = q} {t = n}) g c h = answer-alike p q n g c
+  answer-fine p (plain_name {p = q} {t = n}) g c h = answer-goes p q n g c
+  answer-fine p (word_name {p = q} {t = n}) g c h = answer-goes p q n g c
 
   expressions : {e : Phrase} {ts rest : List Token} → IsExpression e ts rest → Fines e
-  expressions h c = expression-fine stray known t.known (scene_in t c) (stands c) roots root reached h
+  expressions h c = expression-fine known t.known (scene_in t c) (stands c) roots root reached h
 
   arguments : {b : Bool} {l : Phrase} {ts rest : List Token} → IsArguments b l ts rest → AreFines l
-  arguments h c = arguments-fine stray known t.known (scene_in t c) (stands c) roots root reached h
+  arguments h c = arguments-fine known t.known (scene_in t c) (stands c) roots root reached h
 
   mutual
-    pub block-alike : {b : Phrase} {ts rest : List Token} → IsBlock b ts rest → BlockAlike b
-    block-alike (grammar.block h) = statements-fine h
+    pub block-goes : {b : Phrase} {ts rest : List Token} → IsBlock b ts rest → BlockGoes b
+    block-goes (grammar.block h) = statements-fine h
 
-    statements-fine : {l : Phrase} {ts rest : List Token} → IsStatements l ts rest → BlockAlike l
+    statements-fine : {l : Phrase} {ts rest : List Token} → IsStatements l ts rest → BlockGoes l
     statements-fine grammar.no_statements = none-fine
     statements-fine (grammar.more_statements h k) = more-fine (statements-fine h) (statement-fine k)
 
@@ -530,10 +523,10 @@ module _ (stray : Return) (known : check.Known) (t : Text) (stands : (c : Contex
     statement-fine (grammar.jump {p = p} h) = jump-fine p h
     statement-fine (grammar.new {p = p} h k l) = λ c. absurd (new-nowhere p _ c)
     statement-fine (grammar.conditional h) = λ c calls. (conditional-fine h c calls).1
-    statement-fine (grammar.otherwise h k) = else-fine (conditional-fine h) (block-alike k)
+    statement-fine (grammar.otherwise h k) = else-fine (conditional-fine h) (block-goes k)
     statement-fine (grammar.return {p = p} h) = return-fine p h
     statement-fine (grammar.return_with {p = p} h k) = answer-fine p h (arguments k)
-    statement-fine (grammar.run {p = p} {t = n} h) = λ c calls. run-alike p n (arguments h) c
+    statement-fine (grammar.run {p = p} {t = n} h) = λ c calls. run-goes p n (arguments h) c
 
     conditional-fine : {e : Phrase} {ts rest : List Token} → IsConditional e ts rest → ConditionalFine e
     conditional-fine (grammar.first_branch {p = p} h) = if-fine p (branch-is-fine h)
@@ -541,4 +534,4 @@ module _ (stray : Return) (known : check.Known) (t : Text) (stands : (c : Contex
     conditional-fine (grammar.else_then_if h k) = else-if-fine (conditional-fine h) (branch-is-fine k)
 
     branch-is-fine : {b : Phrase} {ts rest : List Token} → IsBranch b ts rest → BranchFine b
-    branch-is-fine (grammar.branch h k) = branch-fine (expressions h) (block-alike k)
+    branch-is-fine (grammar.branch h k) = branch-fine (expressions h) (block-goes k)

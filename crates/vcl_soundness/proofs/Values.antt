@@ -14,14 +14,12 @@ use Rattle.vcl_values.specs.Values.{kind_of, truth_of}
 use Rattle.vcl_values.specs.Operators.{text_value, int_value, duration_value, sum_of, difference_of, compared}
 use Rattle.vcl_check.specs.declared.seen.Sort.TheVariants as sort
 use Rattle.vcl_check.specs.Kinds.{is_condition, is_ordered, same_kind, adds, sum_kind, difference_kind, accepts}
-use Rattle.vcl_turns.specs.declared.turn.Return.{Return}
-use Rattle.vcl_operands.specs.Outs.{On, and_then, known_on}
-use Rattle.vcl_operands.specs.Meaning as plain
-use Rattle.vcl_operands.specs.Meaning.{Operand}
+use Rattle.vcl_turns.specs.declared.turn.Answer.{Answer}
+use Rattle.vcl_operands.specs.Outs.{On, and_then, made_on}
+use Rattle.vcl_operands.specs.Meaning.{Operand, decided_by, decides}
 use Rattle.vcl_operands.specs.Values.{ok_of, as_text, truth_value, opposite, ordered, matched, fitted, text, replaced_in, substituted}
 use Rattle.vcl_store.proofs.Rows.{false-true}
-use Rattle.vcl_soundness.specs.Operands as strayed
-use Rattle.vcl_soundness.proofs.Same.{Same, IsOf, bind-same, itself, HasSome, sure-same, known-same, IsGiven, map-of}
+use Rattle.vcl_soundness.proofs.Holds.{Holds, IsOf, Makes, bind-holds, made-holds, IsGiven, map-of}
 
 -- a value of a type
 pub int-is : (v : Value) → kind_of v ≡ kind.Int → (n : ℤ) × (v ≡ value.Int n)
@@ -53,29 +51,26 @@ truth-is (value.Backend (Some b)) h = (_, refl)
 pub truth-has : (k : Kind) (v : Value) → IsOf k v → is_condition (sort.Value k) ≡ true → (b : Bool) × (truth_of v ≡ Some b)
 truth-has k v e h = truth-is v (subst (λ (x : Kind). is_condition (sort.Value x) ≡ true) (sym e) h)
 
-truth-some : (o : Option Bool) (b : Bool) (f : Bool → Bool) → o ≡ Some b → HasSome (IsOf kind.Bool) (option_map (λ c. value.Bool (f c)) o)
-truth-some (Some c) b f e = (value.Bool (f c), refl, refl)
+truth-some : (o : Option Bool) (b : Bool) (f : Bool → Bool) → o ≡ Some b → Makes (IsOf kind.Bool) (option_map (λ c. Some (value.Bool (f c))) o)
+truth-some (Some c) b f e = refl
 truth-some None b f e = absurd (none-some b e)
 
-pub value-some : (k : Kind) (v : Value) → IsOf k v → is_condition (sort.Value k) ≡ true → HasSome (IsOf kind.Bool) (truth_value v)
+pub value-some : (k : Kind) (v : Value) → IsOf k v → is_condition (sort.Value k) ≡ true → Makes (IsOf kind.Bool) (truth_value v)
 value-some k v e h = let t = truth-has k v e h in truth-some (truth_of v) t.0 (λ b. b) t.1
 
-pub opposite-some : (k : Kind) (v : Value) → IsOf k v → is_condition (sort.Value k) ≡ true → HasSome (IsOf kind.Bool) (opposite v)
+pub opposite-some : (k : Kind) (v : Value) → IsOf k v → is_condition (sort.Value k) ≡ true → Makes (IsOf kind.Bool) (opposite v)
 opposite-some k v e h = let t = truth-has k v e h in truth-some (truth_of v) t.0 not t.1
 
 -- `||` and `&&`
-pub decides-same : (stray : Return) (decided : Bool) (k l : Kind) → is_condition (sort.Value k) ≡ true → is_condition (sort.Value l) ≡ true → (right other : Operand)
-    → ((s : _) → Same (IsOf l) (right s) (other s)) → (v : Value) → IsOf k v → (s : _) → Same (IsOf kind.Bool) (strayed.decides stray decided right v s) (plain.decides decided other v s)
-decides-same stray decided k l c d right other h v e s = let t = truth-has k v e c in by-truth (truth_of v) t.0 t.1
+pub decides-holds : (decided : Bool) (k l : Kind) → is_condition (sort.Value k) ≡ true → is_condition (sort.Value l) ≡ true → (right : Operand)
+    → ((s : List Answer) → Holds (IsOf l) (right s)) → (v : Value) → IsOf k v → (s : List Answer) → Holds (IsOf kind.Bool) (decides decided right v s)
+decides-holds decided k l c d right h v e s = let t = truth-has k v e c in by-truth (truth_of v) t.0 t.1
   where
-    by-side : (b : Bool) → Same (IsOf kind.Bool) (if b then On (value.Bool decided) s else and_then (right s) (λ w. strayed.sure_on stray (truth_value w)))
-        (if b then On (value.Bool decided) s else and_then (other s) (λ w. known_on (truth_value w)))
-    by-side true = itself (IsOf kind.Bool) (On (value.Bool decided) s) refl
-    by-side false =
-        bind-same (IsOf l) (IsOf kind.Bool) (right s) (other s) (λ w. strayed.sure_on stray (truth_value w)) (λ w. known_on (truth_value w)) (h s)
-        (λ w f s. sure-same stray (IsOf kind.Bool) (truth_value w) (value-some l w f d) s)
+    by-side : (b : Bool) → Holds (IsOf kind.Bool) (if b then On (value.Bool decided) s else and_then (right s) (λ w. made_on (truth_value w)))
+    by-side true = refl
+    by-side false = bind-holds (IsOf l) (IsOf kind.Bool) (right s) (λ w. made_on (truth_value w)) (h s) (λ w f z. made-holds (IsOf kind.Bool) (truth_value w) (value-some l w f d) z)
 
-    by-truth : (o : Option Bool) (b : Bool) → o ≡ Some b → Same (IsOf kind.Bool) (strayed.decided_by stray decided right o s) (plain.decided_by decided other o s)
+    by-truth : (o : Option Bool) (b : Bool) → o ≡ Some b → Holds (IsOf kind.Bool) (decided_by decided right o s)
     by-truth (Some left) b e = by-side (beq left decided)
     by-truth None b e = absurd (none-some b e)
 
@@ -131,11 +126,11 @@ compared-is compare.LessOrEqual v w h = let e = more-is v w h.0 h.1 in (not e.0,
 compared-is compare.Greater v w h = more-is v w h.0 h.1
 compared-is compare.GreaterOrEqual v w h = let e = less-is v w h.0 h.1 in (not e.0, ap (option_map not) e.1)
 
-pub ordered-some : (how : Comparison) (k l : Kind) (v w : Value) → IsOf k v → IsOf l w → Compares how k l → HasSome (IsOf kind.Bool) (ordered how v w)
+pub ordered-some : (how : Comparison) (k l : Kind) (v w : Value) → IsOf k v → IsOf l w → Compares how k l → Makes (IsOf kind.Bool) (ordered how v w)
 ordered-some how k l v w e f h =
     let g = subst (λ (x : Kind). Compares how (kind_of v) x) (sym f) (subst (λ (x : Kind). Compares how x l) (sym e) h) in
     let c = compared-is how v w g in
-    (value.Bool c.0, ap (option_map value.Bool) c.1, refl)
+    truth-some (compared how v w) c.0 (λ b. b) c.1
 
 -- sums and differences
 text-given : (t : List ℕ) → IsGiven kind.String (text_value t)
@@ -208,27 +203,30 @@ substituted-of pattern all v w x e =
     (λ t y f. behind (as_text w) (replaced_in pattern all t) kind.String (λ u z g. text-of _ z g) y f) x e
 
 -- a value where one of a type is wanted
-pub fitted-same : {S : Type 0} (stray : Return) (wanted k : Kind) (v : Value) → IsOf k v → accepts wanted (sort.Value k) ≡ true → (s : S)
-    → Same (IsOf wanted) (strayed.fitted_on stray wanted v s) (known_on (fitted wanted v) s)
-fitted-same {S} stray wanted k v e h s = by-kind wanted v (subst (λ (x : Kind). accepts wanted (sort.Value x) ≡ true) (sym e) h)
-  where
-    text-fits : (v w : Value) → fitted kind.String v ≡ Some w → IsOf kind.String w
-    text-fits (value.String t) w e = subst (λ (x : Value). kind_of x ≡ kind.String) (same_Some (value.String t) w e) refl
-    text-fits (value.Int n) w e = map-of kind.String text (as_text (value.Int n)) (λ t. refl) w e
-    text-fits (value.Duration n) w e = map-of kind.String text (as_text (value.Duration n)) (λ t. refl) w e
-    text-fits (value.Bool n) w e = map-of kind.String text (as_text (value.Bool n)) (λ t. refl) w e
-    text-fits (value.Ip n) w e = map-of kind.String text (as_text (value.Ip n)) (λ t. refl) w e
-    text-fits (value.Backend n) w e = map-of kind.String text (as_text (value.Backend n)) (λ t. refl) w e
+text-makes : (o : Option (List ℕ)) → Makes (IsOf kind.String) (Some (option_map text o))
+text-makes (Some t) = refl
+text-makes None = tt
 
-    by-kind : (wanted : Kind) (v : Value) → accepts wanted (sort.Value (kind_of v)) ≡ true → Same (IsOf wanted) (strayed.fitted_on stray wanted v s) (known_on (fitted wanted v) s)
-    by-kind kind.String v h = known-same (IsOf kind.String) (fitted kind.String v) (text-fits v) s
-    by-kind kind.Int (value.Int n) h = itself (IsOf kind.Int) (On (value.Int n) s) refl
+pub string-fitted : (v : Value) → Makes (IsOf kind.String) (fitted kind.String v)
+string-fitted (value.String t) = refl
+string-fitted (value.Int n) = text-makes (as_text (value.Int n))
+string-fitted (value.Duration n) = text-makes (as_text (value.Duration n))
+string-fitted (value.Bool n) = text-makes (as_text (value.Bool n))
+string-fitted (value.Ip n) = text-makes (as_text (value.Ip n))
+string-fitted (value.Backend n) = text-makes (as_text (value.Backend n))
+
+pub fitted-makes : (wanted k : Kind) (v : Value) → IsOf k v → accepts wanted (sort.Value k) ≡ true → Makes (IsOf wanted) (fitted wanted v)
+fitted-makes wanted k v e h = by-kind wanted v (subst (λ (x : Kind). accepts wanted (sort.Value x) ≡ true) (sym e) h)
+  where
+    by-kind : (wanted : Kind) (v : Value) → accepts wanted (sort.Value (kind_of v)) ≡ true → Makes (IsOf wanted) (fitted wanted v)
+    by-kind kind.String v h = string-fitted v
+    by-kind kind.Int (value.Int n) h = refl
     by-kind kind.Int _ h = absurd (false-true h)
-    by-kind kind.Duration (value.Duration n) h = itself (IsOf kind.Duration) (On (value.Duration n) s) refl
+    by-kind kind.Duration (value.Duration n) h = refl
     by-kind kind.Duration _ h = absurd (false-true h)
-    by-kind kind.Bool (value.Bool n) h = itself (IsOf kind.Bool) (On (value.Bool n) s) refl
+    by-kind kind.Bool (value.Bool n) h = refl
     by-kind kind.Bool _ h = absurd (false-true h)
-    by-kind kind.Ip (value.Ip n) h = itself (IsOf kind.Ip) (On (value.Ip n) s) refl
+    by-kind kind.Ip (value.Ip n) h = refl
     by-kind kind.Ip _ h = absurd (false-true h)
-    by-kind kind.Backend (value.Backend n) h = itself (IsOf kind.Backend) (On (value.Backend n) s) refl
+    by-kind kind.Backend (value.Backend n) h = refl
     by-kind kind.Backend _ h = absurd (false-true h)

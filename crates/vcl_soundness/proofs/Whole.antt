@@ -1,4 +1,4 @@
--- A run of a sound text is the same whatever word it ends with where a part has no meaning.
+-- A run of a sound text doesn't stray.
 use Rattle.std.proofs.Common.{◌≡◌, inl, inr, ℕ, zero, suc, ◌+◌, ◌<◌, ◌==◌, Bool, true, false, length, map, List, [], ◌∷◌, codes, refl, sym, ap, ◌∙◌, subst, Option, Some, None, slice_get, slice_index_or, if◌then◌else◌, arith}
 use Rattle.std.specs.Prelude.{Contains}
 use Rattle.std.proofs.lemmas.List.Elements.{Contains-append_cases}
@@ -42,25 +42,21 @@ use Rattle.vcl_code.specs.Names.{Known, thing_named, subroutine_in, subroutine_o
 use Rattle.vcl_program.specs.Declarations.{nothing as undeclared, with_items, is_init}
 use Rattle.vcl_program.specs.declared.declarations.Declarations.{Declarations}
 use Rattle.vcl_turns.specs.declared.turn.Answer.{Answer}
-use Rattle.vcl_turns.specs.declared.turn.Return.{Return}
-use Rattle.vcl_operands.specs.Outs.{fail}
+use Rattle.vcl_operands.specs.Outs.{IsSure}
 use Rattle.vcl_eval.specs.States.{state, Doing, most_statements}
-use Rattle.vcl_meaning.specs.Meaning as meant
-use Rattle.vcl_meaning.specs.Meaning.{Text, text_of, bodies_of, body_of, is_body_of, scene_in, block_of, run_of}
+use Rattle.vcl_meaning.specs.Meaning.{Text, text_of, bodies_of, body_of, is_body_of, scene_in, block_of, body_on, called_within, called, bodies_done, run_of}
 use Rattle.vcl_store.specs.Joined.{IsJoined}
 use Rattle.vcl_store.proofs.Clean.{Clean}
 use Rattle.vcl_store.proofs.Declared.{at_init, AllFit, init-is, both-known}
 use Rattle.vcl_store.proofs.Rows.{false-true}
 use Rattle.vcl_soundness.specs.Laws.{AreMeant}
-use Rattle.vcl_soundness.specs.Runs as strayed
-use Rattle.vcl_soundness.specs.Runs.{block_with, run_with}
 use Rattle.vcl_soundness.proofs.Lists.{AllThere, items-there, at-low, OwnAt, own-numbered}
 use Rattle.vcl_soundness.proofs.Names.{Stands}
 use Rattle.vcl_soundness.proofs.Reached.{Held, built-held, called-held, held-root, built-root}
 use Rattle.vcl_soundness.proofs.Said.{IsCalled, block-calls}
-use Rattle.vcl_soundness.proofs.Same.{Same, Done, Alike, bind-same, done-itself}
-use Rattle.vcl_soundness.proofs.Sets.{run-set}
-use Rattle.vcl_soundness.proofs.Statements.{AllCall, Leads, block-alike}
+use Rattle.vcl_soundness.proofs.Holds.{Holds, holds-sure, Done, Goes, bind-holds}
+use Rattle.vcl_soundness.proofs.Sets.{sure-set}
+use Rattle.vcl_soundness.proofs.Statements.{AllCall, Leads, block-goes}
 
 -- By the grammar each subroutine of a tree has a block.
 abbrev IsRead : Phrase → Type 0
@@ -236,7 +232,7 @@ bodies-built all root (i ∷ is) h = by-item i (bodies-built all root is later) 
     by-item (item.Acl place name entries) rest c = rest
 
 module _ (text : List ℕ) (joined : Tree) (stored : List Stored) (j : IsJoined text joined) (sound : IsSound joined.items stored) (meant' : AreMeant stored) (root : Subroutine)
-    (traffic : has scope.Init root ≡ false) (stray : Return) where
+    (traffic : has scope.Init root ≡ false) where
   items : List Item
   items = joined.items
 
@@ -286,56 +282,51 @@ module _ (text : List ℕ) (joined : Tree) (stored : List Stored) (j : IsJoined 
       }
 
   -- a block that is reached
-  reached-alike : (calls others : ℕ → Doing) → ((k : ℕ) → Reaching k → Alike (calls k) (others k)) → (place : ℕ) (name : Name) (block : Phrase)
-      → Contains joined.items (item.Sub place name block) → Contains (Roots name.text) root → Held (calls_in joined.items stored) N root name.text
-      → Alike (block_with stray T calls block) (block_of T others block)
-  reached-alike calls others same place name block c reached held =
-      block-alike stray K T stands (Roots name.text) root reached traffic calls others (fit place name block c).reads (block-clean joined.items stored sound place name block c)
-      (all-call (IsCalled (says joined.items) name.text) (Leads stray K T stands (Roots name.text) root reached traffic calls others)
-      (λ own h is k e. same k (called-reaching name.text own held h is k e)) block (block-calls joined.items place name block c))
+  reached-goes : (calls : ℕ → Doing) → ((k : ℕ) → Reaching k → Goes (calls k)) → (place : ℕ) (name : Name) (block : Phrase)
+      → Contains joined.items (item.Sub place name block) → Contains (Roots name.text) root → Held (calls_in joined.items stored) N root name.text → Goes (block_of T calls block)
+  reached-goes calls goes place name block c reached held =
+      block-goes K T stands (Roots name.text) root reached traffic calls (fit place name block c).reads (block-clean joined.items stored sound place name block c)
+      (all-call (IsCalled (says joined.items) name.text) (Leads K T stands (Roots name.text) root reached traffic calls)
+      (λ own h is k e. goes k (called-reaching name.text own held h is k e)) block (block-calls joined.items place name block c))
 
-  body-alike : (calls others : ℕ → Doing) (o : Option Phrase) (block : Phrase) → o ≡ Some block → Alike (block_with stray T calls block) (block_of T others block)
-      → Alike (strayed.body_on stray (block_with stray T calls) o) (meant.body_on (block_of T others) o)
-  body-alike calls others (Some b) block e h s =
-      subst (λ (x : Phrase). Same Done (block_with stray T calls x s) (block_of T others x s)) (sym (same_Some b block e)) (h s)
-  body-alike calls others None block e h s = absurd (none-some block e)
+  body-goes : (calls : ℕ → Doing) (o : Option Phrase) (block : Phrase) → o ≡ Some block → Goes (block_of T calls block) → Goes (body_on (block_of T calls) o)
+  body-goes calls (Some b) block e h s = subst (λ (x : Phrase). Holds Done (block_of T calls x s)) (sym (same_Some b block e)) (h s)
+  body-goes calls None block e h s = absurd (none-some block e)
 
-  within-alike : (depth k : ℕ) → Reaching k → Alike (strayed.called_within stray depth T k) (meant.called_within depth T k)
-  unfolding strayed.called_within meant.called_within
-  within-alike zero k r s = done-itself (fail s)
-  within-alike (suc depth) k r s =
+  within-goes : (depth k : ℕ) → Reaching k → Goes (called_within depth T k)
+  unfolding called_within
+  within-goes zero k r s = tt
+  within-goes (suc depth) k r s =
       let own = r.own in
-      let calls : ℕ → Doing = strayed.called_within stray depth T in
-      let others : ℕ → Doing = meant.called_within depth T in
+      let calls : ℕ → Doing = called_within depth T in
       let held : Held (calls_in joined.items stored) N root own.name.text = subst (λ (x : List ℕ). Held (calls_in joined.items stored) N root x) (sym own.named) r.held in
       let reached = held-root (calls_in joined.items stored) N sound.faultless.rows root own.name.text sound.faultless.thirteen sound.faultless.reached own.custom held in
-      body-alike calls others (slice_get T.own k) own.block own.body
-      (reached-alike calls others (λ i x. within-alike depth i x) own.place own.name own.block own.declared reached held) s
+      body-goes calls (slice_get T.own k) own.block own.body
+      (reached-goes calls (λ i x. within-goes depth i x) own.place own.name own.block own.declared reached held) s
 
-  called-alike : (k : ℕ) → Reaching k → Alike (strayed.called stray T k) (meant.called T k)
-  unfolding strayed.called meant.called
-  called-alike k r s = within-alike (suc most_statements) k r s
+  called-goes : (k : ℕ) → Reaching k → Goes (called T k)
+  unfolding called
+  called-goes k r s = within-goes (suc most_statements) k r s
 
-  bodies-alike : (bodies : List Phrase) → AllBuilt joined.items root bodies → Alike (strayed.bodies_done stray T bodies) (meant.bodies_done T bodies)
-  bodies-alike [] h s = done-itself (fail s)
-  bodies-alike (block ∷ more) h s =
+  bodies-go : (bodies : List Phrase) → AllBuilt joined.items root bodies → Goes (bodies_done T bodies)
+  bodies-go [] h s = tt
+  bodies-go (block ∷ more) h s =
       let b = h.0 in
-      let calls : ℕ → Doing = strayed.called stray T in
-      let others : ℕ → Doing = meant.called T in
+      let calls : ℕ → Doing = called T in
       let reached = built-root N sound.faultless.rows root b.name.text b.named in
       let held = built-held (calls_in joined.items stored) K.names root b.name.text b.named in
-      let first = reached-alike calls others called-alike b.place b.name block b.declared reached held in
-      bind-same Done Done (block_with stray T calls block s) (block_of T others block s) (λ done. strayed.bodies_done stray T more) (λ done. meant.bodies_done T more) (first s)
-      (λ done p z. bodies-alike more h.1 z)
+      let first = reached-goes calls called-goes b.place b.name block b.declared reached held in
+      bind-holds Done Done (block_of T calls block s) (λ done. bodies_done T more) (first s) (λ done p z. bodies-go more h.1 z)
 
-  pub run-same : (context : Context) (answers : List Answer) → run_with stray joined.items stored root context answers ≡ run_of joined.items stored root context answers
-  unfolding run_with run_of
-  run-same context answers = (bodies-alike (bodies_of root joined.items) (bodies-built joined.items root joined.items (λ i c. c)) (state context context.statements answers)).same
+  pub run-sure : (context : Context) (answers : List Answer) → IsSure (run_of joined.items stored root context answers)
+  unfolding run_of
+  run-sure context answers =
+      let s = state context context.statements answers in
+      holds-sure Done (bodies_done T (bodies_of root joined.items) s) (bodies-go (bodies_of root joined.items) (bodies-built joined.items root joined.items (λ i c. c)) s)
 
 -- where it is only known that the text is sound
 pub run-told : (text : List ℕ) (joined : Tree) (stored : List Stored) → ∥ IsJoined text joined ∥₁ → ∥ IsSound joined.items stored ∥₁ → AreMeant stored → (root : Subroutine)
-    → has scope.Init root ≡ false → (stray : Return) (context : Context) (answers : List Answer)
-    → run_with stray joined.items stored root context answers ≡ run_of joined.items stored root context answers
-run-told text joined stored j sound meant' root traffic stray context answers =
-    let one = run-set (run_with stray joined.items stored root context answers) (run_of joined.items stored root context answers) in
-    ∥∥₁_elim j one (λ x. ∥∥₁_elim sound one (λ y. run-same text joined stored x y meant' root traffic stray context answers))
+    → has scope.Init root ≡ false → (context : Context) (answers : List Answer) → IsSure (run_of joined.items stored root context answers)
+run-told text joined stored j sound meant' root traffic context answers =
+    let one = sure-set (run_of joined.items stored root context answers) in
+    ∥∥₁_elim j one (λ x. ∥∥₁_elim sound one (λ y. run-sure text joined stored x y meant' root traffic context answers))

@@ -5,7 +5,6 @@ use Rattle.std.proofs.lemmas.Option.{none-some, same_Some}
 use Rattle.vcl_values.specs.declared.value.Kind.{Kind}
 use Rattle.vcl_values.specs.declared.value.Kind.TheVariants as kind
 use Rattle.vcl_values.specs.declared.value.Value.{Value}
-use Rattle.vcl_values.specs.declared.value.Value.TheVariants as value
 use Rattle.vcl_values.specs.Values.{kind_of}
 use Rattle.vcl_language.specs.Words.{word_named}
 use Rattle.vcl_language.specs.declared.functions.Parameter.TheVariants.{Value as Typed}
@@ -18,14 +17,12 @@ use Rattle.vcl_code.specs.Names.{word_of}
 use Rattle.vcl_code.specs.declared.callees.TheConstants.{WORDS, WORD_NAMES}
 use Rattle.vcl_code.specs.declared.node.ReturnWord.{ReturnWord}
 use Rattle.vcl_code.specs.declared.node.ReturnWord.TheVariants as word
-use Rattle.vcl_turns.specs.declared.turn.Return.{Return}
 use Rattle.vcl_operands.specs.Meaning.{Operand}
 use Rattle.vcl_eval.specs.Returns.{plain, with_one, with_two}
-use Rattle.vcl_eval.specs.States.{Doing, ends_on}
-use Rattle.vcl_meaning.specs.Meaning as meant
-use Rattle.vcl_soundness.specs.Runs.{plain_on, one_on, two_on, returned}
-use Rattle.vcl_soundness.proofs.Same.{IsOf, Alike, then-alike, done-itself}
-use Rattle.vcl_soundness.proofs.Typed.{Agree}
+use Rattle.vcl_eval.specs.States.{ends_due}
+use Rattle.vcl_meaning.specs.Meaning.{then_with, returned}
+use Rattle.vcl_soundness.proofs.Holds.{IsOf, Goes, IsDue, then-goes, return-goes}
+use Rattle.vcl_soundness.proofs.Typed.{Worth}
 use Rattle.vcl_soundness.proofs.Values.{int-is, duration-is}
 
 -- what a word takes, and whether it is used with a time too
@@ -88,51 +85,41 @@ abbrev pub StandsAlone : ReturnWord → Type 0
 StandsAlone word.Synth = ⊥
 StandsAlone _ = Unit {0}
 
-module _ (stray : Return) where
-  plain-alike : (r : ReturnWord) → StandsAlone r → Alike (plain_on stray r) (ends_on (plain r))
-  plain-alike word.Synth h s = absurd h
-  plain-alike word.Hash h s = done-itself (ends_on (plain word.Hash) s)
-  plain-alike word.Pass h s = done-itself (ends_on (plain word.Pass) s)
-  plain-alike word.Purge h s = done-itself (ends_on (plain word.Purge) s)
-  plain-alike word.Restart h s = done-itself (ends_on (plain word.Restart) s)
-  plain-alike word.Fail h s = done-itself (ends_on (plain word.Fail) s)
-  plain-alike word.Lookup h s = done-itself (ends_on (plain word.Lookup) s)
-  plain-alike word.Deliver h s = done-itself (ends_on (plain word.Deliver) s)
-  plain-alike word.Fetch h s = done-itself (ends_on (plain word.Fetch) s)
-  plain-alike word.Error h s = done-itself (ends_on (plain word.Error) s)
-  plain-alike word.Abandon h s = done-itself (ends_on (plain word.Abandon) s)
-  plain-alike word.Retry h s = done-itself (ends_on (plain word.Retry) s)
-  plain-alike word.Ok h s = done-itself (ends_on (plain word.Ok) s)
+plain-due : (r : ReturnWord) → StandsAlone r → IsDue (plain r)
+plain-due word.Synth h = h
+plain-due word.Hash h = tt
+plain-due word.Pass h = tt
+plain-due word.Purge h = tt
+plain-due word.Restart h = tt
+plain-due word.Fail h = tt
+plain-due word.Lookup h = tt
+plain-due word.Deliver h = tt
+plain-due word.Fetch h = tt
+plain-due word.Error h = tt
+plain-due word.Abandon h = tt
+plain-due word.Retry h = tt
+plain-due word.Ok h = tt
 
-  int-alike : (f g : Value → Doing) → ((n : _) → Alike (f (value.Int n)) (g (value.Int n))) → (v : Value) → kind_of v ≡ kind.Int → Alike (f v) (g v)
-  int-alike f g h v e = let i = int-is v e in subst (λ (x : Value). Alike (f x) (g x)) (sym i.1) (h i.0)
+one-due : (r : ReturnWord) (v : Value) → TakesOne r (kind_of v) → IsDue (with_one r v)
+one-due word.Synth v h = let i = int-is v h in subst (λ (x : Value). IsDue (with_one word.Synth x)) (sym i.1) tt
+one-due word.Error v h = let i = int-is v h in subst (λ (x : Value). IsDue (with_one word.Error x)) (sym i.1) tt
+one-due word.Pass v h = let i = duration-is v h in subst (λ (x : Value). IsDue (with_one word.Pass x)) (sym i.1) tt
+one-due _ v h = absurd h
 
-  duration-alike : (f g : Value → Doing) → ((n : _) → Alike (f (value.Duration n)) (g (value.Duration n))) → (v : Value) → kind_of v ≡ kind.Duration → Alike (f v) (g v)
-  duration-alike f g h v e = let i = duration-is v e in subst (λ (x : Value). Alike (f x) (g x)) (sym i.1) (h i.0)
+two-due : (r : ReturnWord) (v w : Value) → TakesTwo r (kind_of v) → IsDue (with_two r v w)
+two-due word.Synth v w h = let i = int-is v h in subst (λ (x : Value). IsDue (with_two word.Synth x w)) (sym i.1) tt
+two-due word.Error v w h = let i = int-is v h in subst (λ (x : Value). IsDue (with_two word.Error x w)) (sym i.1) tt
+two-due _ v w h = absurd h
 
-  one-alike : (r : ReturnWord) (v : Value) → TakesOne r (kind_of v) → Alike (one_on stray r v) (ends_on (with_one r v))
-  one-alike word.Synth v h = int-alike (one_on stray word.Synth) (λ x. ends_on (with_one word.Synth x)) (λ n s. done-itself (ends_on (with_one word.Synth (value.Int n)) s)) v h
-  one-alike word.Error v h = int-alike (one_on stray word.Error) (λ x. ends_on (with_one word.Error x)) (λ n s. done-itself (ends_on (with_one word.Error (value.Int n)) s)) v h
-  one-alike word.Pass v h = duration-alike (one_on stray word.Pass) (λ x. ends_on (with_one word.Pass x)) (λ n s. done-itself (ends_on (with_one word.Pass (value.Duration n)) s)) v h
-  one-alike _ v h = absurd h
+pub returned-alone : (r : ReturnWord) → StandsAlone r → Goes (returned (Some r) [])
+returned-alone r h s = return-goes (plain r) (plain-due r h) s
 
-  two-alike : (r : ReturnWord) (v w : Value) → TakesTwo r (kind_of v) → Alike (two_on stray r v w) (ends_on (with_two r v w))
-  two-alike word.Synth v w h =
-      int-alike (λ x. two_on stray word.Synth x w) (λ x. ends_on (with_two word.Synth x w)) (λ n s. done-itself (ends_on (with_two word.Synth (value.Int n) w) s)) v h
-  two-alike word.Error v w h =
-      int-alike (λ x. two_on stray word.Error x w) (λ x. ends_on (with_two word.Error x w)) (λ n s. done-itself (ends_on (with_two word.Error (value.Int n) w) s)) v h
-  two-alike _ v w h = absurd h
+pub returned-one : (r : ReturnWord) (k : Kind) (x : Operand) → TakesOne r k → Worth k x → Goes (returned (Some r) (x ∷ []))
+returned-one r k x h a s =
+    then-goes (IsOf k) x (λ v. ends_due (with_one r v)) s (a s.answers) (λ v p. return-goes (with_one r v) (one-due r v (subst (λ (l : Kind). TakesOne r l) (sym p) h)))
 
-  pub returned-alone : (r : ReturnWord) → StandsAlone r → Alike (returned stray (Some r) []) (meant.returned (Some r) [])
-  returned-alone r h s = plain-alike r h s
-
-  pub returned-one : (r : ReturnWord) (k : Kind) (x y : Operand) → TakesOne r k → Agree k x y → Alike (returned stray (Some r) (x ∷ [])) (meant.returned (Some r) (y ∷ []))
-  returned-one r k x y h a s =
-      then-alike (IsOf k) x y (one_on stray r) (λ v. ends_on (with_one r v)) s (a s.answers) (λ v p. one-alike r v (subst (λ (l : Kind). TakesOne r l) (sym p) h))
-
-  pub returned-two : (r : ReturnWord) (k l : Kind) (x y x' y' : Operand) → TakesTwo r k → Agree k x x' → Agree l y y'
-      → Alike (returned stray (Some r) (x ∷ y ∷ [])) (meant.returned (Some r) (x' ∷ y' ∷ []))
-  returned-two r k l x y x' y' h a b s =
-      then-alike (IsOf k) x x' (λ v. meant.then_with y (two_on stray r v)) (λ v. meant.then_with y' (λ w. ends_on (with_two r v w))) s (a s.answers)
-      (λ v p z.
-      then-alike (IsOf l) y y' (two_on stray r v) (λ w. ends_on (with_two r v w)) z (b z.answers) (λ w q. two-alike r v w (subst (λ (m : Kind). TakesTwo r m) (sym p) h)))
+pub returned-two : (r : ReturnWord) (k l : Kind) (x y : Operand) → TakesTwo r k → Worth k x → Worth l y → Goes (returned (Some r) (x ∷ y ∷ []))
+returned-two r k l x y h a b s =
+    then-goes (IsOf k) x (λ v. then_with y (λ w. ends_due (with_two r v w))) s (a s.answers)
+    (λ v p z.
+    then-goes (IsOf l) y (λ w. ends_due (with_two r v w)) z (b z.answers) (λ w q. return-goes (with_two r v w) (two-due r v w (subst (λ (m : Kind). TakesTwo r m) (sym p) h))))

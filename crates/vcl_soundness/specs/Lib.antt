@@ -1,3 +1,1 @@
 pub mod Laws
-pub mod Operands
-pub mod Runs

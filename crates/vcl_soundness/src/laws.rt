@@ -1,33 +1,32 @@
 // What runs of sound texts never come to.
-ghost use Rattle.std.specs.Prelude.{◌≡◌, ℕ, List, false};
-ghost use Rattle.vcl_language.specs.Scopes.{has};
-ghost use Rattle.vcl_language.specs.declared.scope.Scope.TheVariants.{Init};
-ghost use Rattle.vcl_language.specs.declared.scope.Subroutine.{Subroutine};
-ghost use Rattle.vcl_context.specs.declared.context.Context.{Context};
-ghost use Rattle.vcl_turns.specs.declared.turn.Answer.{Answer};
-ghost use Rattle.vcl_turns.specs.declared.turn.Return.{Return};
+ghost use Rattle.std.specs.Prelude.{ℕ, ◌<◌, All, List, length};
 ghost use Rattle.vcl_store.specs.Joined.{IsJoined};
-ghost use Rattle.vcl_eval.specs.Runs.{run_at};
-ghost use Rattle.vcl_soundness.specs.Laws.{AreMeant, NoStray, StandardAreMeant};
-ghost use Rattle.vcl_soundness.specs.Runs.{run_with};
+ghost use Rattle.vcl_meaning.specs.Meaning.{NeverStrays};
+ghost use Rattle.vcl_soundness.specs.Laws.{AreMeant, NoStray, RefusedAlone, StandardAreMeant};
 
-use vcl_meaning::numbers_run;
 use vcl_program::Compiled;
 
-/// A run of a sound text is the same whatever word it would end with where a part has no meaning.
+/// No run of a sound text strays.
 pub fn no_stray()
     ensures { NoStray }
 {}
 
-/// The same of a run in numbers, which the evaluator carries out.
-pub fn no_stray_in_numbers(program: &Compiled)
+/// The same of a sound text that is kept in numbers.
+pub fn program_never_strays(program: &Compiled)
     ensures { (text : List ℕ) → ∥ IsJoined text program.now.program.tree ∥₁ → AreMeant program.now.program.stored
-        → (subroutine : Subroutine) → has Init subroutine ≡ false → (stray : Return) (context : Context) (answers : List Answer)
-        → run_with stray program.now.program.tree.items program.now.program.stored subroutine context answers
-        ≡ run_at program.now.code program.now.program.stored subroutine context answers }
-{
-    numbers_run(program);
-}
+        → NeverStrays program.now.program.tree.items program.now.program.stored }
+{}
+
+/// In the numbered form of a sound text the default backend is there, and so is the backend of each director's member.
+pub fn backends_are_there(program: &Compiled)
+    ensures default { program.now.code.default_backend < length program.now.code.backends }
+    ensures members { All (λ member. member.backend < length program.now.code.backends) program.now.code.members }
+{}
+
+/// `set` of a variable to a value of its type is refused for what a head's line can't carry, and for nothing else.
+pub fn refused_alone()
+    ensures { RefusedAlone }
+{}
 
 /// The functions of the module `std` are as these laws ask it of stored functions.
 pub fn standard_are_meant()

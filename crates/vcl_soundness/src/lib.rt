@@ -1,11 +1,13 @@
 //! What runs of sound texts of VCL never come to.
 //!
-//! Contract for the layer above: the laws of this crate are contracts of functions that do nothing (`specs/Laws.antt`). A run
-//! of a sound text is the same whatever word it would end with where a part has no meaning, and so is the run in numbers; the
-//! functions of the module `std` are as it is asked of stored functions. `specs/Operands.antt` and `specs/Runs.antt` have the
-//! meaning of expressions and runs with that word.
+//! Contract for the layer above: the laws of this crate are contracts of functions that do nothing (`specs/Laws.antt`). No run of
+//! a sound text strays to what no sound text has, so the evaluator has no answer for it; the backends that a text in numbers
+//! speaks of are there; `set` is refused for its value alone; the functions of the module `std` are as it is asked of stored
+//! functions.
 #![tactic(auto)]
 
 mod laws;
 
-pub use laws::{no_stray, no_stray_in_numbers, standard_are_meant};
+pub use laws::{
+    backends_are_there, no_stray, program_never_strays, refused_alone, standard_are_meant,
+};

@@ -1,10 +1,16 @@
-use Rattle.std.proofs.Common.{subst}
+use Rattle.vcl_language.specs.Scopes.{has}
+use Rattle.vcl_language.specs.declared.scope.Scope.TheVariants.{Init}
+use Rattle.client_task.proofs.Subroutines.{no-init}
+use Rattle.std.proofs.Common.{◌≡◌, false, sym, subst}
 use Rattle.vcl_language.specs.declared.scope.Subroutine.{Subroutine}
 use Rattle.vcl_runs.specs.Runs.{begun}
 use Rattle.client_graph.specs.Graph.{subroutine_of}
 use Rattle.client_task.specs.Rounds.{evaluator}
 use Rattle.client_task.proofs.Going.{entering, if_ok, went-from}
 use Rattle.client_task.proofs.settling.begin.Goals as goal
+
+pub start-requires : goal.start-requires
+start-requires g c = subst (λ (s : Subroutine). has Init s ≡ false) (sym c.subroutine.ensures) (no-init c.args.state)
 
 pub go-requires-clause-stands : goal.go-requires-clause-stands
 go-requires-clause-stands g c = (begun c.subroutine.result c.args.context, c.in-Ok.ensures.stands)

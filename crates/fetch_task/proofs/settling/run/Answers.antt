@@ -1,8 +1,16 @@
+use Rattle.std.proofs.Common.{◌≡◌, false, sym, subst}
+use Rattle.vcl_language.specs.declared.scope.Subroutine.{Subroutine}
+use Rattle.vcl_language.specs.Scopes.{has}
+use Rattle.vcl_language.specs.declared.scope.Scope.TheVariants.{Init}
+use Rattle.fetch_task.proofs.Subroutines.{no-init}
 use Rattle.vcl_runs.specs.Runs.{begun}
 use Rattle.fetch_task.specs.Fetches.{evaluator}
 use Rattle.fetch_task.proofs.Going.{asking, ending, if_ok}
 use Rattle.fetch_task.proofs.Lowering.{abandoned-lower, led-lower}
 use Rattle.fetch_task.proofs.settling.run.Goals as goal
+
+pub start-requires : goal.start-requires
+start-requires g c = subst (λ (s : Subroutine). has Init s ≡ false) (sym c.subroutine.ensures) (no-init c.args.state)
 
 pub resume-requires-clause-stands : goal.resume-requires-clause-stands
 resume-requires-clause-stands g c = (begun c.subroutine.result c.args.context, c.in_ok-run.ensures.stands)

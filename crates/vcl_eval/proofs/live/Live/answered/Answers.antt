@@ -1,17 +1,28 @@
 use Rattle.std.proofs.Common.{rules, ◌≡◌, ℤ, subst, w64}
 use Rattle.std.proofs.lemmas.Int.{to_z-of_z}
 use mir.Val.{SFits, to_z, of_z}
+use Rattle.vcl_eval.specs.declared.machine.Asked.TheVariants as asked
 use Rattle.vcl_eval.specs.Lives.{counted_on}
+use Rattle.vcl_eval.proofs.Sure.{asked-along}
 use Rattle.vcl_eval.proofs.Turns.{Follows, begin-answered, ban-answered, purge-answered, purge-suits}
 use Rattle.vcl_eval.proofs.live.Live.answered.Goals as goal
 
+pub run-requires : goal.run-requires
+run-requires g c = asked-along c.args.program.now.code c.args.functions.now.stored c.args.self.now c.args.asked asked.Begin c.in-Begin.is c.requires.sure
+
+pub run-requires-in-Ban : goal.run-requires-in-Ban
+run-requires-in-Ban g c = asked-along c.args.program.now.code c.args.functions.now.stored c.args.self.now c.args.asked asked.Ban c.in-Ban.is c.requires.sure
+
+pub counted-requires : goal.counted-requires
+counted-requires g c = asked-along c.args.program.now.code c.args.functions.now.stored c.args.self.now c.args.asked (asked.Purge c.in-Purge.what) c.in-Purge.is c.requires.sure _
+
 pub returns-in-Begin-clause-value : goal.returns-in-Begin-clause-value
 returns-in-Begin-clause-value g c =
-    λ left at. begin-answered c.args.program.now.code c.args.functions.now.stored left c.args.answer c.args.asked c.args.self.now c.run.new.self c.run.result c.in-Begin.is c.requires at c.run.ensures.value
+    λ left at. begin-answered c.args.program.now.code c.args.functions.now.stored left c.args.answer c.args.asked c.args.self.now c.run.new.self c.run.result c.in-Begin.is c.requires.suits at c.run.ensures.value
 
 pub returns-in-Ban-clause-value : goal.returns-in-Ban-clause-value
 returns-in-Ban-clause-value g c =
-    λ left at. ban-answered c.args.program.now.code c.args.functions.now.stored left c.args.answer c.args.asked c.args.self.now c.run-in-Ban.new.self c.run-in-Ban.result c.in-Ban.is c.requires at
+    λ left at. ban-answered c.args.program.now.code c.args.functions.now.stored left c.args.answer c.args.asked c.args.self.now c.run-in-Ban.new.self c.run-in-Ban.result c.in-Ban.is c.requires.suits at
     c.run-in-Ban.ensures.value
 
 pub returns-in-Number-clause-value : goal.returns-in-Number-clause-value
@@ -23,4 +34,4 @@ returns-in-Number-clause-value g c =
     c.in-Purge.is c.in-Number.is at (subst P kept c.counted.ensures.value)
 
 pub unreachable-requires : goal.unreachable-requires
-unreachable-requires g c = purge-suits c.args.asked c.args.answer c.in-Purge.what c.in-Purge.is c.requires c.in_default.not-Number
+unreachable-requires g c = purge-suits c.args.asked c.args.answer c.in-Purge.what c.in-Purge.is c.requires.suits c.in_default.not-Number

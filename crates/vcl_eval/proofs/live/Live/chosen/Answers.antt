@@ -1,7 +1,10 @@
-use Rattle.std.proofs.Common.{◌<◌, ◌∙◌, sym, length, arith}
+use Rattle.std.proofs.Common.{[], ◌<◌, ◌∙◌, sym, length, arith}
 use Rattle.std.proofs.lemmas.Option.{slice_get_within}
 use Rattle.vcl_code.specs.declared.node.Choice.TheVariants as choice
-use Rattle.vcl_eval.specs.Lives.{state_of}
+use Rattle.vcl_operands.specs.Outs.{and_then}
+use Rattle.vcl_operands.proofs.Binds.{sure-not}
+use Rattle.vcl_eval.specs.Lives.{state_of, behind}
+use Rattle.vcl_eval.specs.Runs.{choice_at, block_at}
 use Rattle.vcl_eval.proofs.Steps.{choice-along, chosen-nothing, chosen-block, chosen-branch, chosen-none}
 use Rattle.vcl_eval.proofs.live.Live.chosen.Goals as goal
 
@@ -25,7 +28,11 @@ returns-in-Some-clause-bounded c =
     let low : c.in-Branch.number < length c.args.program.now.code.arena.branches = slice_get_within c.args.program.now.code.arena.branches c.in-Branch.number c.in-Some.branch (sym c.in-Some.ensures) in
     omega arith
 
-pub returns-in-None-clause-value : goal.returns-in-None-clause-value
-returns-in-None-clause-value c =
-    λ stored answers. choice-along c.args.program.now.code stored c.args.self.now.ahead (state_of c.args.self.now answers) c.args.choice (choice.Branch c.in-Branch.number) c.in-Branch.is
-    ∙ chosen-none c.args.program.now.code stored c.in-Branch.number c.args.self.now.ahead (state_of c.args.self.now answers) c.in-None.ensures
+pub unreachable-requires : goal.unreachable-requires
+unreachable-requires c =
+    let code = c.args.program.now.code in
+    let stored = c.requires.0 in
+    let s = state_of c.args.self.now [] in
+    sure-not (and_then (choice_at code stored (block_at code stored) c.args.choice s) (behind code stored c.args.self.now.ahead))
+    (choice-along code stored c.args.self.now.ahead s c.args.choice (choice.Branch c.in-Branch.number) c.in-Branch.is
+    ∙ chosen-none code stored c.in-Branch.number c.args.self.now.ahead s c.in-None.ensures) (c.requires.1 [])

@@ -1,6 +1,16 @@
 use Rattle.vcl_eval.specs.declared.task.Task.TheVariants as task
 use Rattle.vcl_eval.proofs.Lefts.{run-falls, step-tidy, step-on}
+use Rattle.vcl_eval.proofs.Sure.{step-sure}
 use Rattle.vcl_eval.proofs.live.Live.run.Goals as goal
+
+pub next_block-requires : goal.next_block-requires
+next_block-requires g c = (c.args.functions.now.stored, step-sure c.args.program.now.code c.args.functions.now.stored c.args.first c.steps.task (task.Run) c.args.self.now c.steps.self c.steps.invariant.0 c.in-Run.is c.requires)
+
+pub finished-requires : goal.finished-requires
+finished-requires g c = (c.args.functions.now.stored, step-sure c.args.program.now.code c.args.functions.now.stored c.args.first c.steps.task (task.Finish c.in-Finish.what c.in-Finish.value) c.args.self.now c.steps.self c.steps.invariant.0 c.in-Finish.is c.requires)
+
+pub evaluated-requires : goal.evaluated-requires
+evaluated-requires g c = step-sure c.args.program.now.code c.args.functions.now.stored c.args.first c.steps.task (task.Evaluate c.in-Evaluate.number c.in-Evaluate.what) c.args.self.now c.steps.self c.steps.invariant.0 c.in-Evaluate.is c.requires
 
 pub steps-preserved-in_ok-task-in-Run : goal.steps-preserved-in_ok-task-in-Run
 steps-preserved-in_ok-task-in-Run g c =

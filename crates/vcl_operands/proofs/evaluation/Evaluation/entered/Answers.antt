@@ -1,14 +1,29 @@
-use Rattle.std.proofs.Common.{None, refl, sym}
-use Rattle.vcl_operands.specs.Nodes.{world}
-use Rattle.vcl_operands.proofs.Steps.{enter-none, enter-first, enter-calls, enter-leaf, first-weighs, calls-weighs, leaf-weighs}
+use Rattle.std.proofs.Common.{[], refl, sym}
+use Rattle.vcl_operands.specs.Outs.{and_then}
+use Rattle.vcl_operands.specs.Nodes.{World, world, value_at, left_of}
+use Rattle.vcl_operands.proofs.Binds.{sure-not}
+use Rattle.vcl_operands.proofs.Steps.{calls-sure, leaf-sure, enter-none, enter-first, enter-calls, enter-leaf, first-weighs, calls-weighs, leaf-weighs}
 use Rattle.vcl_operands.proofs.evaluation.Evaluation.entered.Goals as goal
 
-pub returns-in_default-clause-value : goal.returns-in_default-clause-value
-returns-in_default-clause-value g c =
-    λ s. enter-none (world c.args.program.now.code c.args.functions.now.stored c.args.context.now) c.args.number c.args.self.now s (rw c.as_slice.ensures at c.in_default.ensures)
+pub unreachable-requires : goal.unreachable-requires
+unreachable-requires g c =
+    let w : World = world c.args.program.now.code c.args.functions.now.stored c.args.context.now in
+    sure-not (and_then (value_at w c.args.number []) (left_of w c.args.self.now)) (enter-none w c.args.number c.args.self.now [] (rw c.as_slice.ensures at c.in_default.ensures)) (c.requires [])
 
-pub returns-in_default-clause-smaller : goal.returns-in_default-clause-smaller
-returns-in_default-clause-smaller g c = leaf-weighs c.args.number None _ c.args.self.now refl
+pub called-requires : goal.called-requires
+called-requires g c =
+    let w : World = world c.args.program.now.code c.args.functions.now.stored c.args.context.now in (
+      w,
+      refl,
+      λ s.
+          calls-sure w c.compiled_falls.ensures.nodes c.args.number c.in-Some.node c.in-Calls.function c.in-Calls.arguments c.new.result c.args.self.now s (rw c.as_slice.ensures at c.in-Some.ensures)
+          c.in-Calls.ensures c.new.ensures (c.requires s),
+    )
+
+pub leaf-requires : goal.leaf-requires
+leaf-requires g c =
+    leaf-sure (world c.args.program.now.code c.args.functions.now.stored c.args.context.now) c.compiled_falls.ensures.nodes c.args.number c.in-Some.node c.in-Leaf.node c.args.self.now
+    (rw c.as_slice.ensures at c.in-Some.ensures) c.in-Leaf.ensures (c.requires [])
 
 pub returns-in-First-clause-value : goal.returns-in-First-clause-value
 returns-in-First-clause-value g c =

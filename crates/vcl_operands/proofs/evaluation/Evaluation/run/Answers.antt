@@ -1,8 +1,21 @@
 use Rattle.std.proofs.Common.{◌∙◌, sym}
-use Rattle.vcl_operands.specs.Nodes.{world, rest_of}
+use Rattle.vcl_operands.specs.Nodes.{World, world, rest_of}
 use Rattle.vcl_operands.specs.Weights.{weight}
-use Rattle.vcl_operands.proofs.Steps.{give-preserved, give-smaller, reached-next}
+use Rattle.vcl_operands.proofs.Steps.{enter-sure, give-sure, give-preserved, give-smaller, reached-next}
 use Rattle.vcl_operands.proofs.evaluation.Evaluation.run.Goals as goal
+
+pub entered-requires : goal.entered-requires
+entered-requires g c =
+    let w : World = world c.args.program.now.code c.args.functions.now.stored c.args.context.now in
+    enter-sure w (rest_of w c.args.first c.args.self.now) c.steps.doing c.in-Evaluate.number c.steps.self c.steps.invariant.same c.in-Evaluate.is c.requires
+
+pub given-requires : goal.given-requires
+given-requires g c =
+    let w : World = world c.args.program.now.code c.args.functions.now.stored c.args.context.now in (
+      c.args.context.now,
+      give-sure w (rest_of w c.args.first c.args.self.now) c.steps.doing c.in-Give.value c.in-Some.frame c.steps.self c.pop.new.self c.steps.invariant.same c.in-Give.is
+          (sym c.self.view_is ∙ c.in-Some.ensures) c.requires,
+    )
 
 pub steps-preserved : goal.steps-preserved
 steps-preserved g c = record {

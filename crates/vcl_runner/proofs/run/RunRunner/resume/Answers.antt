@@ -1,5 +1,15 @@
-use Rattle.vcl_runner.proofs.Nexts.{resumed-stands, resumed-turns, resumed-awaits, resumed-less}
+use Rattle.vcl_eval.specs.Turns.{IsSureAt}
+use Rattle.vcl_runner.specs.Standing.{left_after}
+use Rattle.vcl_runner.proofs.Nexts.{stands-sure, resumed-stands, resumed-turns, resumed-awaits, resumed-less}
 use Rattle.vcl_runner.proofs.run.RunRunner.resume.Goals as goal
+
+pub resume-requires-clause-sure : goal.resume-requires-clause-sure
+resume-requires-clause-sure g c =
+    let p = c.args.program.now in
+    let ran = c.requires.stands.0 in
+    let here : IsSureAt p.compiled.code p.functions.stored c.args.self.now.machine =
+    stands-sure p.compiled.code p.functions.stored (left_after p.compiled.program.tree.items p.compiled.program.stored ran) c.args.self.now.machine.waiting c.requires.stands.1.0 c.requires.stands.1.2 in
+    rw (c.deref.ensures) here
 
 pub returns-clause-stands : goal.returns-clause-stands
 returns-clause-stands g c =
