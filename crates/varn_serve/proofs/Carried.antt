@@ -1,0 +1,200 @@
+-- What is told by one language is told by another that means the same.
+use Rattle.std.proofs.Common.{◌≡◌, inl, inr, ℕ, Bool, List, [], ◌∷◌, ◌++◌, Option, refl, ap, subst}
+use Rattle.vcl_tree.specs.declared.item.Tree.{Tree}
+use Rattle.vmod_host.specs.declared.signature.Stored.{Stored}
+use Rattle.vcl_library.specs.Programs.{IsProgramOf}
+use Rattle.vcl_library.specs.Backends.{server_at}
+use Rattle.varn_serve.specs.Meaning.{meant, vcl}
+use Rattle.http_heads.specs.declared.exchange.Backend.{Backend}
+use Rattle.wire.specs.Flow.{Flow}
+use Rattle.wire.specs.Tapes.{Tape}
+use Rattle.wire.specs.declared.peer.Talk.{Talk}
+use Rattle.cache_law.specs.declared.call.Entry.{Entry}
+use Rattle.cache_law.specs.Beginning.{Beginning}
+use Rattle.connection.specs.declared.ended.Answered.{Answered}
+use Rattle.connection.specs.declared.ended.Answered.TheVariants as answered
+use Rattle.connection.specs.Serving.{Round as Turn}
+use Rattle.entrance.specs.Arriving.{LinkTold}
+use Rattle.world.specs.declared.kit.Kit.{Kit}
+use Rattle.fetch_task.specs.Fetches.{Evaluator}
+use Rattle.round_task.specs.Happened.{behind}
+use Rattle.round_lead.specs.declared.keeping.Round.{Round}
+use Rattle.round_task.specs.Responses.{WantsBy}
+use Rattle.round_lead.specs.Responses.{Language, DidntFit, CutBy, Tells, TellsCut, NeverBegan, IsResponse}
+use Rattle.round_lead.specs.Talks.{TalksOf}
+use Rattle.round_lead.specs.Things.{Runs, text_of}
+use Rattle.round_lead.specs.Tapes.{ToldIn, WasDrawn}
+use Rattle.server.specs.declared.transcript.Transcript.{Transcript}
+use Rattle.server.specs.Transcripts.{AreResponses, all_numbers}
+use Rattle.steering.specs.Telling.{Tells as TellsOf}
+use Rattle.crew.specs.Leaving.{AllWhole}
+use Rattle.crew.specs.Parts.{Part}
+use Rattle.crew.specs.Running.{Held, Ran}
+use Rattle.crew.proofs.Called.{all_wider}
+use Rattle.varn_serve.specs.Run.{RanIn, RanBy}
+
+-- each program of the one is, as the other sees it, one of the same text, and does and reaches the same
+pub record MeansAs {P Q : Type 0} (one : Language P) (other : Language Q) (f : P → Q) : Type 1 where
+  pub programs : (text : List ℕ) (p : P) → one.programs text p → other.programs text (f p)
+  pub evaluators : (text : List ℕ) (p : P) → one.programs text p → one.evaluator p ≡ other.evaluator (f p)
+  pub places : (p : P) → one.backends p ≡ other.backends (f p)
+
+module _ {P Q L : Type 0} (one : Language P) (other : Language Q) (f : P → Q) (means : MeansAs one other f) (flow : L → Option Flow) where
+  -- ---- rounds
+
+  module _ (words : Option ℕ → Type 0) (readings : ℕ → Type 0) (beginning : Beginning) (history : List Entry) (caller : ℕ) where
+    tells_as : (round : Round) (talks : List (Talk L)) (closes : Bool) → Tells one words readings flow history caller round talks closes → Tells other words readings flow history caller round talks closes
+    tells_as round talks closes t = record {
+      program = f t.program;
+      steps = t.steps;
+      ran = means.programs (text_of t.steps) t.program t.ran;
+      runs = subst (λ (e : Evaluator). Runs (WantsBy e words round.request round.peer) [] t.steps) (means.evaluators (text_of t.steps) t.program t.ran) t.runs;
+      front = t.front;
+      closing = t.closing;
+      to_its_end = t.to_its_end;
+      stand = t.stand;
+      rise = t.rise;
+      exchanges_are = t.exchanges_are;
+      sent_is = t.sent_is;
+      timed = t.timed;
+      talked = subst (λ (b : List ℕ → Backend). TalksOf flow b t.steps talks) (means.places t.program) t.talked;
+      closes_is = t.closes_is;
+    }
+
+    cut_as : (round : Round) (talks : List (Talk L)) (cut : _) → TellsCut one words readings flow beginning history caller round talks cut → TellsCut other words readings flow beginning history caller round talks cut
+    cut_as round talks cut t = record {
+      program = f t.program;
+      steps = t.steps;
+      ran = means.programs (text_of t.steps) t.program t.ran;
+      runs = subst (λ (e : Evaluator). Runs (WantsBy e words round.request round.peer) [] t.steps) (means.evaluators (text_of t.steps) t.program t.ran) t.runs;
+      extra = t.extra;
+      part = t.part;
+      places = t.places;
+      closed = t.closed;
+      closing = t.closing;
+      cut_so = subst (λ (e : Evaluator). CutBy (WantsBy e words round.request round.peer (behind [] t.steps)) (DidntFit readings beginning history caller t.places) cut t.extra t.part)
+          (means.evaluators (text_of t.steps) t.program t.ran) t.cut_so;
+      places_are = t.places_are;
+      stand = t.stand;
+      ends = t.ends;
+      rise = t.rise;
+      exchanges_are = t.exchanges_are;
+      sent_is = t.sent_is;
+      timed = t.timed;
+      talked = subst (λ (b : List ℕ → Backend). TalksOf flow b (t.steps ++ t.extra) talks) (means.places t.program) t.talked;
+    }
+
+    never_as : (round : Round) (talks : List (Talk L)) (cut : _) → NeverBegan one words readings flow beginning history caller round talks cut
+        → NeverBegan other words readings flow beginning history caller round talks cut
+    never_as round talks cut n = record { refused = n.refused; no_place = n.no_place; no_exchange = n.no_exchange; nothing_sent = n.nothing_sent; no_talk = n.no_talk }
+
+    response_as : (round : Round) (talks : List (Talk L)) (how : Answered) → IsResponse one words readings flow beginning history caller round talks how
+        → IsResponse other words readings flow beginning history caller round talks how
+    response_as round talks answered.Kept r = tells_as round talks _ r
+    response_as round talks answered.Closes r = tells_as round talks _ r
+    response_as round talks answered.WriteFault r = cut_as round talks _ r
+    response_as round talks answered.HistoryFull (inl r) = inl (cut_as round talks _ r)
+    response_as round talks answered.HistoryFull (inr r) = inr (never_as round talks _ r)
+    response_as round talks answered.NoMemory (inl r) = inl (cut_as round talks _ r)
+    response_as round talks answered.NoMemory (inr (inl r)) = inr (inl (record {
+      opened = r.opened;
+      closed = r.closed;
+      opening = r.opening;
+      closing = r.closing;
+      begins = r.begins;
+      ends = r.ends;
+      places_are = r.places_are;
+      rise = r.rise;
+      no_exchange = r.no_exchange;
+      nothing_sent = r.nothing_sent;
+      no_talk = r.no_talk;
+    }))
+    response_as round talks answered.NoMemory (inr (inr r)) = inr (inr (never_as round talks _ r))
+
+    responses_as : (peer : List ℕ) (rounds : List Round) (turns : List Turn) (talks : List (Talk L)) → AreResponses one words readings flow beginning history caller peer rounds turns talks
+        → AreResponses other words readings flow beginning history caller peer rounds turns talks
+    responses_as peer [] [] talks are = are
+    responses_as peer [] (turn ∷ turns) talks are = absurd are
+    responses_as peer (round ∷ rounds) [] talks are = absurd are
+    responses_as peer (round ∷ rounds) (turn ∷ turns) talks are =
+        (are.0, are.1, are.2, are.3, response_as round are.0 turn.answered are.4, responses_as peer rounds turns are.1 are.5)
+
+  -- ---- connections
+
+  module _ {D K : Type 0} (talks : D → Option (List (Talk L))) (readings words : K → Option Tape) (beginning : Beginning) (history : List Entry) where
+    told_as : (number : ℕ) (before after : Kit D K) (opening closing : LinkTold) (transcript : Transcript)
+        → TellsOf one flow talks readings words beginning history number before after opening closing transcript
+        → TellsOf other flow talks readings words beginning history number before after opening closing transcript
+    told_as number before after opening closing transcript t = record {
+      address = t.address;
+      from = t.from;
+      stays = t.stays;
+      turns = t.turns;
+      gained = t.gained;
+      added = t.added;
+      responses = responses_as (WasDrawn (words before.clock) (words after.clock)) (ToldIn (readings before.clock) (readings after.clock)) beginning history number
+          t.address transcript.rounds.items t.turns t.gained t.responses;
+      reads = t.reads;
+      draws = t.draws;
+      heard = t.heard;
+      faults = t.faults;
+    }
+
+    -- ---- workers
+
+    module _ {N : Type 0} (unused : Kit D K → Type 0) (places_of : Transcript → List ℕ) (told : N → LinkTold) where
+      whole_as : (parts : List (Part (Kit D K) N Transcript))
+          → AllWhole unused places_of (λ number before after opening closing transcript. TellsOf one flow talks readings words beginning history number before after opening closing transcript) told history parts
+          → AllWhole unused places_of (λ number before after opening closing transcript. TellsOf other flow talks readings words beginning history number before after opening closing transcript) told history parts
+      whole_as [] whole = whole
+      whole_as (part ∷ parts) whole = (
+        record {
+          unused = whole.0.unused;
+          is_told = all_wider places_of
+              (λ number before after opening closing transcript. TellsOf one flow talks readings words beginning history number before after opening closing transcript)
+              (λ number before after opening closing transcript. TellsOf other flow talks readings words beginning history number before after opening closing transcript)
+              told told_as part.number (record { kit = part.first; seen = [] }) (record { kit = part.last; seen = part.seen }) part.links part.transcripts whole.0.is_told;
+          front = whole.0.front;
+          places = whole.0.places;
+        },
+        whole_as parts whole.1,
+      )
+
+      pub ran_as : (before after : Held N (Kit D K)) (transcripts : List Transcript)
+          → Ran unused places_of (λ began seen number first last opening closing transcript. TellsOf one flow talks readings words began seen number first last opening closing transcript) told beginning history before after transcripts
+          → Ran unused places_of (λ began seen number first last opening closing transcript. TellsOf other flow talks readings words began seen number first last opening closing transcript) told beginning history before after transcripts
+      ran_as before after transcripts r = record {
+        legal = r.legal;
+        parts = r.parts;
+        whole = whole_as r.parts r.whole;
+        links_are = r.links_are;
+        kept_is = r.kept_is;
+        kits_are = r.kits_are;
+        transcripts_are = r.transcripts_are;
+        each_once = r.each_once;
+      }
+
+-- ---- the programs of a library
+
+-- programs by their trees and by the functions that they were made with
+abbrev pub by_trees : {P : Type 0} → (P → Tree) → (P → List Stored) → Language P
+by_trees tree_of stored_of = record {
+  programs = λ text p. IsProgramOf text (tree_of p) (stored_of p);
+  evaluator = λ p. meant (tree_of p).items (stored_of p);
+  backends = λ p name. server_at (tree_of p).items name;
+}
+
+pub trees_mean : {P : Type 0} (tree_of : P → Tree) (stored_of : P → List Stored) → MeansAs (by_trees tree_of stored_of) vcl tree_of
+trees_mean tree_of stored_of = record {
+  programs = λ text p is. is.joined;
+  evaluators = λ text p is. ap (λ (stored : List Stored). meant (tree_of p).items stored) is.functions;
+  places = λ p. refl;
+}
+
+-- a run that such programs steer is one that VCL steers
+pub by_vcl : {P N D K L : Type 0} (tree_of : P → Tree) (stored_of : P → List Stored) (unused : Kit D K → Type 0) (flow : L → Option Flow) (talks : D → Option (List (Talk L)))
+    (readings words : K → Option Tape) (told : N → LinkTold) (before after : Held N (Kit D K)) (beginning : Beginning) (history : List Entry) (transcripts : List Transcript)
+    → RanIn (by_trees tree_of stored_of) unused flow talks readings words told before after beginning history transcripts
+    → RanBy unused flow talks readings words told before after beginning history transcripts
+by_vcl tree_of stored_of unused flow talks readings words told before after beginning history transcripts ran =
+    ran_as (by_trees tree_of stored_of) vcl tree_of (trees_mean tree_of stored_of) flow talks readings words beginning history unused (λ (t : Transcript). all_numbers t.rounds.items) told before after transcripts ran

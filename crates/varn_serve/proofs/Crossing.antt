@@ -1,0 +1,108 @@
+-- The programs of a library may go from one thread to another, and be shared by them. That is so part by part: `search` finds it for
+-- each, and not for the whole at once.
+use Rattle.std.proofs.Crossing.{crosses}
+use Rattle.std.proofs.MapsCrossing as maps
+use denote.Param.Send.{IsSend, IsSync, sendable, struct_send, struct_sync}
+use denote.Struct.Declared as Declared
+use Rattle.regex.below.regex_hir.proofs.hir.Hir.TheLaws.TheKnot as hir
+use Rattle.regex.below.regex_dfa.proofs.dfa.Dfa.TheSendSync as dfa
+use Rattle.regex.below.regex_meta.proofs.plan.Role.TheSendSync as role
+use Rattle.regex.below.regex_literal.proofs.prefilter.Prefilter.TheSendSync as prefilter
+use Rattle.regex.below.regex_literal.proofs.ladder.Ladder.TheSendSync as ladder
+use Rattle.regex.below.regex_extract.proofs.frames.Frame.TheSendSync as frame
+use Rattle.regex.below.regex_literal.proofs.caseless.Caseless.TheSendSync as caseless
+use Rattle.regex.below.regex_literal.proofs.byte_set.ByteSet.TheSendSync as byte_set
+use Rattle.regex.below.regex_meta.specs.contracts.program.Program as program
+use Rattle.regex.specs.contracts.pattern.Pattern as pattern
+use Rattle.regex.specs.contracts.bytes.regex.Regex as regex
+use Rattle.vcl_values.specs.contracts.pattern.Pattern as value_pattern
+use Rattle.vcl_tree.specs.contracts.item.Tree as tree
+use Rattle.vcl_tree.proofs.attribute.Attribute.TheLaws.TheKnot as attribute
+use Rattle.vcl_tree.proofs.expression.Expression.TheLaws.TheKnot as expression
+use Rattle.vcl_tree.proofs.statement.Block.TheLaws.TheKnot as block
+use Rattle.vcl_check.specs.contracts.program.Program as checked
+use Rattle.vcl_program.specs.contracts.compiled.Compiled as compiled
+use Rattle.vcl_program.proofs.code.Code.TheSendSync as code
+use denote.RattleType.{RattleType}
+use Rattle.std.proofs.alloc.Global.TheSendSync as heap
+use Rattle.cache_law.proofs.shared.Shared.TheSendSync as shared
+use Rattle.indexmap.proofs.map.IndexMap.TheSendSync as index_map
+use Rattle.units.proofs.text.Text.TheSendSync as text
+use Rattle.vcl_library.specs.contracts.library.Kept as kept
+use Rattle.vcl_library.specs.contracts.library.Library as library
+
+ruleset parts = (crosses, maps.crosses, hir.crosses, sendable, dfa.the_send, dfa.the_sync, dfa.the_field_send, dfa.the_field_sync, role.the_send, role.the_sync, role.the_field_send, role.the_field_sync, prefilter.the_send, prefilter.the_sync, ladder.the_send, ladder.the_sync, ladder.the_field_send, ladder.the_field_sync, frame.the_send, frame.the_sync, frame.the_field_send, frame.the_field_sync, caseless.the_send, caseless.the_sync, byte_set.the_send, byte_set.the_sync)
+
+-- ---- a pattern that was built
+
+program_send : IsSend program.the_field.row
+program_send = struct_send (Declared.shape program.the_type)
+    (search parts depth 60 fits 20000, (search parts depth 60 fits 20000, (search parts depth 60 fits 20000, (search parts depth 60 fits 20000, (search parts depth 60 fits 20000, (search parts depth 60 fits 20000, (search parts depth 60 fits 20000, (search parts depth 60 fits 20000, tt))))))))
+
+program_sync : IsSync program.the_field.row
+program_sync = struct_sync (Declared.shape program.the_type)
+    (search parts depth 60 fits 20000, (search parts depth 60 fits 20000, (search parts depth 60 fits 20000, (search parts depth 60 fits 20000, (search parts depth 60 fits 20000, (search parts depth 60 fits 20000, (search parts depth 60 fits 20000, (search parts depth 60 fits 20000, tt))))))))
+
+pattern_send : IsSend pattern.the_field.row
+pattern_send = struct_send (Declared.shape pattern.the_type) (search parts depth 60 fits 20000, (search parts depth 60 fits 20000, (search parts depth 60 fits 20000, (program_send, tt))))
+
+pattern_sync : IsSync pattern.the_field.row
+pattern_sync = struct_sync (Declared.shape pattern.the_type) (search parts depth 60 fits 20000, (search parts depth 60 fits 20000, (search parts depth 60 fits 20000, (program_sync, tt))))
+
+regex_send : IsSend regex.the_field.row
+regex_send = struct_send (Declared.shape regex.the_type) (pattern_send, tt)
+
+regex_sync : IsSync regex.the_field.row
+regex_sync = struct_sync (Declared.shape regex.the_type) (pattern_sync, tt)
+
+value_pattern_send : IsSend value_pattern.the_row
+value_pattern_send = search (regex_send, sendable) depth 60 fits 20000
+
+value_pattern_sync : IsSync value_pattern.the_row
+value_pattern_sync = search (regex_sync, sendable) depth 60 fits 20000
+
+-- ---- a text in numbers
+
+ruleset trees = (crosses, attribute.crosses, expression.crosses, block.crosses, sendable)
+
+tree_send : IsSend tree.the_field.row
+tree_send = search trees depth 60 fits 20000
+
+tree_sync : IsSync tree.the_field.row
+tree_sync = struct_sync (Declared.shape tree.the_type) (search trees depth 60 fits 20000, (search trees depth 60 fits 20000, tt))
+
+ruleset programs = (crosses, sendable, value_pattern_send, value_pattern_sync, code.the_send, code.the_sync, code.the_field_send, code.the_field_sync)
+
+checked_send : IsSend checked.the_field.row
+checked_send = struct_send (Declared.shape checked.the_type) (tree_send, (search programs depth 60 fits 20000, (search programs depth 60 fits 20000, tt)))
+
+checked_sync : IsSync checked.the_field.row
+checked_sync = struct_sync (Declared.shape checked.the_type) (tree_sync, (search programs depth 60 fits 20000, (search programs depth 60 fits 20000, tt)))
+
+pub compiled_send : IsSend compiled.the_field.row
+compiled_send = struct_send (Declared.shape compiled.the_type) (checked_send, (search programs depth 60 fits 20000, (search programs depth 60 fits 20000, (search programs depth 60 fits 20000, tt))))
+
+pub compiled_sync : IsSync compiled.the_field.row
+compiled_sync = struct_sync (Declared.shape compiled.the_type) (checked_sync, (search programs depth 60 fits 20000, (search programs depth 60 fits 20000, (search programs depth 60 fits 20000, tt))))
+
+-- ---- programs by number, whose functions are values of the type `T`
+
+ruleset keeping = (crosses, sendable, compiled_send, compiled_sync, shared.the_send, shared.the_sync, text.the_send, text.the_sync)
+
+ruleset mapping = (crosses, sendable, index_map.the_send, index_map.the_sync, heap.the_send, heap.the_sync)
+
+kept_send : (T : RattleType) (m : _) → IsSend T → IsSync T → IsSend (kept.the_row T m)
+kept_send T m s y = search keeping depth 60 fits 20000
+
+kept_sync : (T : RattleType) (m : _) → IsSend T → IsSync T → IsSync (kept.the_row T m)
+kept_sync T m s y = search keeping depth 60 fits 20000
+
+pub library_send : (T : RattleType) (m : _) → IsSend T → IsSync T → IsSend (library.the_field T m).row
+library_send T m s y =
+    let k = kept_send T m s y in
+    struct_send (Declared.shape (library.the_type T m)) (search mapping depth 60 fits 20000, (search keeping depth 60 fits 20000, tt))
+
+pub library_sync : (T : RattleType) (m : _) → IsSend T → IsSync T → IsSync (library.the_field T m).row
+library_sync T m s y =
+    let k = kept_sync T m s y in
+    struct_sync (Declared.shape (library.the_type T m)) (search mapping depth 60 fits 20000, (search keeping depth 60 fits 20000, tt))

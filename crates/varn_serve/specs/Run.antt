@@ -1,0 +1,132 @@
+-- What a server's run comes to.
+use Rattle.std.specs.Prelude.{◌≡◌, ◌⊎◌, ℕ, Bool, true, false, List, [], Option, Some, None, length}
+use Rattle.std.specs.Io.KnownBytes.{Appends}
+use Rattle.cache_law.specs.declared.call.Entry.{Entry}
+use Rattle.cache_law.specs.declared.setting.Boot.{Boot}
+use Rattle.cache_law.specs.declared.setting.Params.{Params}
+use Rattle.cache_law.specs.Beginning.{Beginning, beginning_of}
+use Rattle.vcl_tree.specs.declared.error.VclError.TheVariants as error
+use Rattle.vcl_store.specs.Refusals.{IsRefusalOf}
+use Rattle.vmod_host.specs.declared.signature.Stored.{Stored}
+use Rattle.world.specs.declared.file.File.{File}
+use Rattle.world.specs.Files.{IsShelved}
+use Rattle.boot_file.specs.declared.error.BootError.{BootError}
+use Rattle.boot_file.specs.declared.error.BootError.TheVariants as without
+use Rattle.boot_file.specs.Booting.{Boots}
+use Rattle.serve_words.specs.declared.order.Order.{Order}
+use Rattle.server.specs.declared.transcript.Transcript.{Transcript}
+use Rattle.server.specs.Transcripts.{all_numbers}
+use Rattle.crew.specs.Running.{Held, Ran}
+use Rattle.entrance.specs.Arriving.{LinkTold}
+use Rattle.round_lead.specs.Responses.{Language}
+use Rattle.varn_serve.specs.Meaning.{vcl}
+use Rattle.steering.specs.Telling.{Tells}
+use Rattle.wire.specs.Flow.{Flow}
+use Rattle.wire.specs.Tapes.{Tape}
+use Rattle.wire.specs.declared.peer.Talk.{Talk}
+use Rattle.world.specs.declared.kit.Kit.{Kit}
+use Rattle.varn_serve.specs.declared.ending.Served.{Served}
+use Rattle.varn_serve.specs.declared.ending.Status.{Status}
+use Rattle.varn_serve.specs.declared.ending.Status.TheVariants.{Done, ReadFault, WriteFault, NoMemory, ListenFault, Vcl, HistoryFull}
+use Rattle.varn_serve.specs.declared.ending.VclNote.{VclNote}
+use Rattle.varn_serve.specs.Endings.{rounds_in, rounds_line}
+
+abbrev pub limits_of : Order → Params
+limits_of order = record { room = order.room; history = order.history }
+
+-- ---- the history
+
+-- how a run may end in which nothing was served
+abbrev pub is_unserved : Status → Bool
+is_unserved ReadFault = true
+is_unserved NoMemory = true
+is_unserved ListenFault = true
+is_unserved Vcl = true
+is_unserved other = false
+
+-- Nothing was served: nothing was handed back, and nothing is kept.
+pub record IsIdle {L K : Type 0} (before after : Held L K) (served : Served) : Type 0 where
+  pub links : after.links ≡ before.links
+  pub kept : after.kept ≡ before.kept
+  pub kits : after.kits ≡ before.kits
+  pub no_entry : served.history ≡ []
+  pub no_transcript : served.transcripts ≡ []
+  pub unserved : is_unserved served.status ≡ true
+
+-- Workers ran over one cache, from the limits of the order and the VCL of its file. `Ran` says what their run comes to.
+pub record Runs (Ran : Beginning → List Entry → List Transcript → Type 0) (files : Option (List File)) (stored : List Stored) (order : Order) (served : Served) : Type 0 where
+  pub boot : Boot
+  pub boots : Boots files order.file stored boot
+  pub ran : Ran (beginning_of (limits_of order) boot) served.history served.transcripts
+
+-- Nothing was served, or workers ran.
+abbrev pub CameTo : {L K : Type 0} → (Beginning → List Entry → List Transcript → Type 0) → Held L K → Held L K → Option (List File) → List Stored → Order → Served → Type 0
+CameTo Ran before after files stored order served = IsIdle before after served ⊎ Runs Ran files stored order served
+
+-- What a run of workers comes to whose rounds this language steers: one legal history, of which each round is a response.
+abbrev pub RanIn : {P L D K DL : Type 0} → Language P → (Kit D K → Type 0) → (DL → Option Flow) → (D → Option (List (Talk DL))) → (K → Option Tape) → (K → Option Tape)
+    → (L → LinkTold) → Held L (Kit D K) → Held L (Kit D K) → Beginning → List Entry → List Transcript → Type 0
+RanIn language unused flow talks readings words told before after beginning history transcripts =
+    Ran unused (λ transcript. all_numbers transcript.rounds.items)
+    (λ began seen number first last opening closing transcript. Tells language flow talks readings words began seen number first last opening closing transcript)
+    told beginning history before after transcripts
+
+-- The same where VCL steers the rounds.
+abbrev pub RanBy : {L D K DL : Type 0} → (Kit D K → Type 0) → (DL → Option Flow) → (D → Option (List (Talk DL))) → (K → Option Tape) → (K → Option Tape) → (L → LinkTold)
+    → Held L (Kit D K) → Held L (Kit D K) → Beginning → List Entry → List Transcript → Type 0
+RanBy unused flow talks readings words told before after beginning history transcripts =
+    RanIn vcl unused flow talks readings words told before after beginning history transcripts
+
+-- ---- the statuses
+
+-- What may have come from the outside in a run: that reading a file failed, that listening or accepting did, or that the sink did;
+-- whether a listener said its end; and what the sink held and holds.
+pub record Outside : Type 1 where
+  pub read_failed : Type 0
+  pub listen_failed : Type 0
+  pub write_failed : Type 0
+  pub ended : Bool
+  pub held : Option (List ℕ)
+  pub holds : Option (List ℕ)
+
+-- there is no such file, or its text is refused at the noted place
+abbrev pub IsWithoutVcl : Option (List File) → List Stored → List ℕ → Option VclNote → Type 0
+IsWithoutVcl files stored name None = IsShelved files name None
+IsWithoutVcl files stored name (Some note) = (text : List ℕ) × IsShelved files name (Some text) × IsRefusalOf text stored (error.Refused note.kind note.place)
+
+-- as many connections were served as the order says, or no more came
+abbrev pub IsAll : Outside → Order → Served → Type 0
+IsAll outside order served = (length served.transcripts ≡ order.conns) ⊎ (outside.ended ≡ true)
+
+-- the cause of each status; only a whole run writes
+abbrev pub EndsAs : Outside → Option (List File) → List Stored → Order → Served → Status → Type 0
+EndsAs outside files stored order served Done =
+    (served.note ≡ None) × IsAll outside order served × Appends outside.held outside.holds (rounds_line (rounds_in served.transcripts))
+EndsAs outside files stored order served WriteFault = (served.note ≡ None) × IsAll outside order served × outside.write_failed
+EndsAs outside files stored order served ReadFault = (served.note ≡ None) × outside.read_failed × (outside.holds ≡ outside.held)
+EndsAs outside files stored order served ListenFault = (served.note ≡ None) × outside.listen_failed × (outside.holds ≡ outside.held)
+EndsAs outside files stored order served Vcl = IsWithoutVcl files stored order.file served.note × (outside.holds ≡ outside.held)
+EndsAs outside files stored order served HistoryFull = (served.note ≡ None) × (outside.holds ≡ outside.held)
+EndsAs outside files stored order served NoMemory = (served.note ≡ None) × (outside.holds ≡ outside.held)
+
+-- how a run ends in which nothing was served, though there is a VCL: memory was wanting, or listening failed
+abbrev pub Halts : Type 0 → Status → Type 0
+Halts failed NoMemory = Unit {0}
+Halts failed ListenFault = failed
+Halts failed other = ⊥
+
+-- a run ends as this exactly where a transcript did
+abbrev pub is_full_status : Status → Bool
+is_full_status HistoryFull = true
+is_full_status other = false
+
+-- how a run ends that has no VCL to begin under, and its note
+abbrev pub unbooted_status : BootError → Status
+unbooted_status without.Missing = Vcl
+unbooted_status without.Unreadable = ReadFault
+unbooted_status (without.Refused _ _) = Vcl
+unbooted_status without.NoMemory = NoMemory
+
+abbrev pub unbooted_note : BootError → Option VclNote
+unbooted_note (without.Refused kind place) = Some (record { place = place; kind = kind })
+unbooted_note other = None

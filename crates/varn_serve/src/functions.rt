@@ -1,0 +1,162 @@
+// A server with the stored functions that the program has.
+ghost use Rattle.std.specs.Prelude.{◌≡◌, ◌≤◌, IfOk, OnErr, length};
+ghost use Rattle.std.specs.List.{list_any};
+ghost use Rattle.crew.specs.Hiring.{IsUnused};
+ghost use Rattle.entrance.specs.Arriving.{told_by};
+ghost use Rattle.vcl_library.specs.Functions.{std_functions, std_signature};
+ghost use Rattle.wire.specs.Causes.{Rose};
+ghost use Rattle.world.specs.Keeping.{MayAdd};
+ghost use Rattle.varn_serve.specs.Endings.{is_full};
+ghost use Rattle.varn_serve.specs.Run.{CameTo, EndsAs, RanBy, is_full_status};
+
+use crate::ending::{Served, Status};
+use crate::programs::Functions;
+use crate::running::{finished, serve_stocked, stopped, unbooted};
+use boot_file::read_boot;
+use cache_law::Shared;
+use serve_words::Order;
+use std::alloc::{AllocError, Global};
+use std::sync::Wait;
+use std::thread::Threads;
+use vcl_library::Library;
+use vcl_runner::Run;
+use vcl_values::Kind;
+use vmod_host::{
+    INTEGER, STRLEN, Signature, TOLOWER, TOUPPER, Vmod, VmodTable, integer, strlen, tolower,
+    toupper,
+};
+use wire::{Dialer, Sink};
+use world::{Gate, World};
+
+// The signature of a function of the module `std`.
+fn std_signature(
+    alloc: Global,
+    name: &[u8],
+    takes: &[Kind],
+    gives: Kind,
+) -> Result<Signature, AllocError>
+    ensures { IfOk result (λ signature. signature ≡ std_signature name.now takes.now gives) }
+{
+    Signature::of(alloc, b"std", name, takes, gives)
+}
+
+// The run, or want of memory for the table. A function that makes a table of code can't hand it out, for a caller would know nothing of
+// the code: so the table is made where it is used.
+fn try_serve<R: Threads + Wait + Sync, W: World + Send, G: Gate + Sync, S: Sink>(
+    rt: &R,
+    alloc: Global,
+    order: &Order,
+    world: &mut W,
+    gate: &G,
+    sink: &mut S,
+) -> Result<Served, AllocError>
+where
+    W::Listener: Send,
+    W::Dialer: Sync,
+    W::Clock: Sync,
+    <W::Dialer as Dialer>::Link: Send,
+    ensures came { IfOk result (λ served. CameTo (RanBy (IsUnused W.Dialer.talks W.Dialer.dial_faults W.Dialer.read_faults W.Dialer.write_faults W.Clock.readings W.Clock.words)
+        W.Dialer.Link.flow W.Dialer.talks W.Clock.readings W.Clock.words (told_by W.Listener.Link.flow W.Listener.Link.read_faults W.Listener.Link.write_faults W.Listener.Link.peer)
+        (record { links = W.links world.old; kept = W.kept world.old; kits = W.kits world.old }) (record { links = W.links world.new; kept = W.kept world.new; kits = W.kits world.new }))
+        (record { links = W.links world.old; kept = W.kept world.old; kits = W.kits world.old }) (record { links = W.links world.new; kept = W.kept world.new; kits = W.kits world.new })
+        (W.files world.old) std_functions order.now served) }
+    ensures ends { IfOk result (λ served. EndsAs (record {
+      read_failed = Rose (W.shelf_faults world.old) (W.shelf_faults world.new);
+      listen_failed = Rose (W.listen_faults world.old) (W.listen_faults world.new);
+      write_failed = Rose (S.faults sink.old) (S.faults sink.new);
+      ended = W.ended world.new;
+      held = S.held sink.old;
+      holds = S.held sink.new;
+    }) (W.files world.old) std_functions order.now served served.status) }
+    ensures within { IfOk result (λ served. length served.transcripts ≤ order.now.conns) }
+    ensures full { IfOk result (λ served. is_full_status served.status ≡ list_any is_full served.transcripts) }
+    ensures ports { IfOk result (λ served. MayAdd (W.ports world.old) (W.ports world.new) order.now.port) }
+    ensures unchanged { OnErr result ((world.new ≡ world.old) × (sink.new ≡ sink.old)) }
+{
+    let text = [Kind::String];
+    let tolower_signature = std_signature(alloc, b"tolower", &text, Kind::String)?;
+    let toupper_signature = std_signature(alloc, b"toupper", &text, Kind::String)?;
+    let integer_signature = std_signature(
+        alloc,
+        b"integer",
+        &[Kind::String, Kind::Int],
+        Kind::Int,
+    )?;
+    let strlen_signature = std_signature(alloc, b"strlen", &text, Kind::Int)?;
+    let list = [
+        Vmod {
+            tag: TOLOWER,
+            signature: tolower_signature,
+            call: tolower,
+        },
+        Vmod {
+            tag: TOUPPER,
+            signature: toupper_signature,
+            call: toupper,
+        },
+        Vmod {
+            tag: INTEGER,
+            signature: integer_signature,
+            call: integer,
+        },
+        Vmod {
+            tag: STRLEN,
+            signature: strlen_signature,
+            call: strlen,
+        },
+    ];
+    // Their tags differ, so that memory alone can be wanting.
+    let Ok(vmods) = VmodTable::of(alloc, Vec::from_array(alloc, list)?) else {
+        return Err(AllocError);
+    };
+    let vmods = Shared::new(alloc, vmods)?;
+    let boot = match read_boot(alloc, world, &order.file, &vmods) {
+        Ok(boot) => boot,
+        Err(error) => return Ok(unbooted(alloc, error)),
+    };
+    let stock = Functions::new(vmods);
+    match serve_stocked::<R, W, G, Functions, Library, Run>(
+        rt, alloc, order, boot, stock, gate, world,
+    ) {
+        Ok(outcome) => Ok(finished(alloc, outcome, sink)),
+        Err(status) => Ok(stopped(alloc, status, None)),
+    }
+}
+
+/// Serves connections as the order says, and writes how many rounds they had. The texts of VCL may call the functions of the module
+/// `std`. The call may wait for good.
+pub fn serve_with_std<R: Threads + Wait + Sync, W: World + Send, G: Gate + Sync, S: Sink>(
+    rt: &R,
+    alloc: Global,
+    order: &Order,
+    world: &mut W,
+    gate: &G,
+    sink: &mut S,
+) -> Served
+where
+    W::Listener: Send,
+    W::Dialer: Sync,
+    W::Clock: Sync,
+    <W::Dialer as Dialer>::Link: Send,
+    ensures came { CameTo (RanBy (IsUnused W.Dialer.talks W.Dialer.dial_faults W.Dialer.read_faults W.Dialer.write_faults W.Clock.readings W.Clock.words)
+        W.Dialer.Link.flow W.Dialer.talks W.Clock.readings W.Clock.words (told_by W.Listener.Link.flow W.Listener.Link.read_faults W.Listener.Link.write_faults W.Listener.Link.peer)
+        (record { links = W.links world.old; kept = W.kept world.old; kits = W.kits world.old }) (record { links = W.links world.new; kept = W.kept world.new; kits = W.kits world.new }))
+        (record { links = W.links world.old; kept = W.kept world.old; kits = W.kits world.old }) (record { links = W.links world.new; kept = W.kept world.new; kits = W.kits world.new })
+        (W.files world.old) std_functions order.now result }
+    ensures ends { EndsAs (record {
+      read_failed = Rose (W.shelf_faults world.old) (W.shelf_faults world.new);
+      listen_failed = Rose (W.listen_faults world.old) (W.listen_faults world.new);
+      write_failed = Rose (S.faults sink.old) (S.faults sink.new);
+      ended = W.ended world.new;
+      held = S.held sink.old;
+      holds = S.held sink.new;
+    }) (W.files world.old) std_functions order.now result result.status }
+    ensures within { length result.transcripts ≤ order.now.conns }
+    ensures full { is_full_status result.status ≡ list_any is_full result.transcripts }
+    ensures ports { MayAdd (W.ports world.old) (W.ports world.new) order.now.port }
+{
+    match try_serve(rt, alloc, order, world, gate, sink) {
+        Ok(served) => served,
+        Err(_) => stopped(alloc, Status::NoMemory, None),
+    }
+}
