@@ -1,9 +1,9 @@
-//! The program `varn`: what it does stands in `varn_program`.
+//! The program `varn`: what it does stands in `varn_command`.
 #![tactic(auto)]
 
 use std::process::ExitCode;
-use varn_program::perform;
+use varn_command::perform;
 
 fn main(rt: HostRuntime) -> ExitCode {
-    perform(&rt)
+    perform(&rt, &rt)
 }

@@ -1,0 +1,99 @@
+// The run of a process.
+use crate::explaining::{
+    explain_order, explain_replay, explain_server, explain_unwritten, explain_wordless,
+    explain_words,
+};
+use crate::running::{Outcome, options_of, run};
+use program_texts::Help;
+use std::net::{Net, TcpListener, TcpStream};
+use std::process::ExitCode;
+use std::random::RandomSource;
+use std::rt::{Clock, Files};
+use std::sync::Wait;
+use std::thread::Threads;
+use units::Text;
+use varn_program::Status;
+use wire::{StreamSink, StreamSource, WordsError, read_words};
+use world::{OpenGate, SystemWorld, World};
+
+/// Where a server listens: at all addresses of the machine.
+const ADDRESS: [u8; 4] = [0, 0, 0, 0];
+
+// Writes the help on standard output.
+fn print(rt: &HostRuntime, help: Help) -> Status {
+    match println!(rt; "{help}") {
+        Ok(()) => Status::Done,
+        Err(_) => {
+            explain_unwritten(rt);
+            Status::WriteFault
+        }
+    }
+}
+
+// How a run ends whose words couldn't be had: words that aren't text are no words of a command.
+fn wordless(rt: &HostRuntime, error: WordsError) -> Status {
+    explain_wordless(rt, error);
+    match error {
+        WordsError::Unreadable => Status::Words,
+        WordsError::NoMemory => Status::NoMemory,
+    }
+}
+
+// Says on standard error what kept the run from being whole.
+fn explain<W: World>(rt: &HostRuntime, words: &[Text], world: &mut W, outcome: &Outcome) {
+    match outcome {
+        Outcome::Replay(replayed) => {
+            if replayed.status == Status::Words {
+                explain_words(rt, words);
+            }
+            explain_replay(rt, replayed.status, replayed.note);
+        }
+        Outcome::Serve(order, served) => explain_server(rt, world, order, served),
+        Outcome::Unasked(error) => {
+            if let Some(options) = options_of(words) {
+                explain_order(rt, options, *error);
+            }
+        }
+    }
+}
+
+/// Runs what the process's words say over its standard streams and the system's outside, says on standard error what kept it from
+/// being whole, and gives what the process ends with. Words that ask for help are answered on standard output.
+pub fn perform<R>(rt: &HostRuntime, outside: &R) -> ExitCode
+where
+    R: Threads
+        + Wait
+        + Sync
+        + Net<Listener = TcpListener, Stream = TcpStream>
+        + Files
+        + AllocGlobal
+        + Clock
+        + RandomSource
+        + Copy
+        + Drop
+        + Send,
+    <R as Files>::File: Send,
+    <R as Files>::Dir: Send,
+{
+    let words = match read_words(rt) {
+        Ok(words) => words,
+        Err(error) => return ExitCode::from(wordless(rt, error).code()),
+    };
+    if let Some(help) = Help::of(words.as_slice()) {
+        return ExitCode::from(print(rt, help).code());
+    }
+    let mut world = SystemWorld::new(*outside, ADDRESS);
+    let mut source = StreamSource::new(rt.stdin());
+    let mut sink = StreamSink::new(rt.stdout());
+    let outcome = run(
+        outside,
+        rt.alloc(),
+        words.as_slice(),
+        &mut world,
+        &OpenGate,
+        &mut source,
+        &mut sink,
+    );
+    explain(rt, words.as_slice(), &mut world, &outcome);
+    ExitCode::from(outcome.code())
+}
