@@ -1,0 +1,241 @@
+#!/usr/bin/env bash
+# Tries the built program as a user would: `varn serve` on a free loopback port before a backend of its own, asked by curl
+# and, where a client has to be rude, by python3. A line for each check; status 1 where one fails. What it starts it ends,
+# also where it fails or is interrupted, in under 20 seconds.
+#
+#   tools/smoke.sh [FILE]     the built program; without it the one that PROGRAM names, or else crates/varn/out/varn
+set -u
+cd "$(dirname "$0")/.." || exit 1
+program=${1:-${PROGRAM:-crates/varn/out/varn}}
+connections=40
+for tool in curl python3; do
+  command -v $tool > /dev/null || { echo "smoke: there is no $tool here"; exit 1; }
+done
+[ -x "$program" ] || { echo "smoke: no program at $program (rt run in crates/varn builds it)"; exit 1; }
+
+work=$(mktemp -d)
+finish() {
+  exec 2> /dev/null
+  for process in $(jobs -pr); do
+    kill -KILL "$process"
+  done
+  wait
+  rm -rf "$work"
+}
+trap finish EXIT
+trap 'exit 1' INT TERM HUP
+
+passed=0
+failed=0
+# check NAME COMMAND..: a line that says whether the command goes well
+check() {
+  local name=$1
+  shift
+  if "$@"; then
+    echo "ok    $name"
+    passed=$((passed + 1))
+  else
+    echo "FAIL  $name"
+    failed=$((failed + 1))
+    sed 's/^/      | /' "$work/reply" 2> /dev/null | head -20
+  fi
+}
+
+free_port() {
+  python3 -c 'import socket; s = socket.socket(); s.bind(("127.0.0.1", 0)); print(s.getsockname()[1])'
+}
+
+asked=0
+# ask WORDS OF CURL..: one request over a connection of its own, whose head and body are then in the file reply
+ask() {
+  asked=$((asked + 1))
+  curl --silent --show-error --include --max-time 8 "$@" > "$work/reply" 2> "$work/said"
+}
+status() { [ "$(head -c 12 "$work/reply")" = "HTTP/1.1 $1" ]; }
+has_no_body() { [ "$(tail -c 4 "$work/reply" | tr '\r\n' 'rn')" = rnrn ]; }
+line() { tr -d '\r' < "$work/reply" | grep --quiet --line-regexp --extended-regexp -- "$1"; }
+# gets STATUS LINE..: the reply has the status, and each line, which is a pattern, is among those of its head or body
+gets() {
+  status "$1" || return 1
+  shift
+  for pattern in "$@"; do
+    line "$pattern" || return 1
+  done
+}
+
+# ---- the backend, and the program before it
+
+python3 tools/smoke_backend.py > "$work/port" &
+for _ in {1..100}; do
+  [ -s "$work/port" ] && break
+  sleep 0.05
+done
+backend=$(cat "$work/port")
+nobody=$(free_port)
+port=$(free_port)
+site=http://127.0.0.1:$port
+
+cat > "$work/site.vcl" <<VCL
+vcl 4.1;
+
+backend default {
+  .host = "127.0.0.1";
+  .port = "$backend";
+}
+
+backend nobody {
+  .host = "127.0.0.1";
+  .port = "$nobody";
+}
+
+acl office {
+  "127.0.0.1";
+}
+
+sub vcl_recv {
+  if (req.method == "PURGE" || req.method == "BAN") {
+    if (client.ip !~ office) {
+      return (synth(405, "Not allowed"));
+    }
+    if (req.method == "PURGE") {
+      return (purge);
+    }
+    ban("req.url ~ " + req.http.X-Ban);
+    return (synth(200, "Banned"));
+  }
+  if (req.url ~ "^/down") {
+    set req.backend_hint = nobody;
+  }
+}
+
+sub vcl_backend_response {
+  if (bereq.url ~ "^/tag") {
+    set beresp.ttl = 1ms;
+    set beresp.grace = 0s;
+    set beresp.keep = 1m;
+  }
+}
+
+sub vcl_deliver {
+  if (obj.hits > 0) {
+    set resp.http.X-Cache = "HIT";
+  } else {
+    set resp.http.X-Cache = "MISS";
+  }
+}
+VCL
+
+"$program" serve --listen "$port" --vcl "$work/site.vcl" --workers 4 --conns $connections > "$work/out" 2> "$work/errors" &
+server=$!
+# A try that finds nobody at the port makes no connection.
+for _ in {1..200}; do
+  ask "$site/first" && break
+  asked=$((asked - 1))
+  kill -0 $server 2> /dev/null || break
+  sleep 0.05
+done
+check "the program listens, and a first page comes" gets 200 'X-Cache: MISS' '/first asked 1 times'
+[ $failed = 0 ] || { cat "$work/said" "$work/errors"; echo "$passed passed, $failed failed"; exit 1; }
+
+# ---- checks that take their time, beside the others
+
+# Two requests over one connection, then silence: the program is to end it after 5 seconds.
+asked=$((asked + 1))
+python3 - "$port" > "$work/silent" 2>&1 <<'PY' &
+import socket, sys, time
+link = socket.create_connection(("127.0.0.1", int(sys.argv[1])), 15)
+for _ in range(2):
+    link.sendall(b"GET /silent HTTP/1.1\r\nHost: h\r\n\r\n")
+    answer = b""
+    while not answer.endswith(b"times\n"):
+        piece = link.recv(4096)
+        if not piece:
+            sys.exit("the connection ended within a reply")
+        answer += piece
+began = time.monotonic()
+last = link.recv(4096)
+passed = time.monotonic() - began
+if last or not 4 < passed < 12:
+    sys.exit("got %r after %.1f s" % (last, passed))
+PY
+silent=$!
+asked=$((asked + 1))
+curl --silent --include --max-time 8 "$site/stall" > "$work/stalled" 2> /dev/null &
+stalled=$!
+
+# ---- one after another
+
+ask "$site/page"
+check "a miss" gets 200 'X-Cache: MISS' 'Age: 0' '/page asked 1 times'
+aged=$SECONDS
+ask "$site/page"
+check "a hit" gets 200 'X-Cache: HIT' '/page asked 1 times'
+ask --head "$site/page"
+check "a HEAD" gets 200 'X-Cache: HIT' 'Content-Length: [0-9]+'
+check "a HEAD has no body" has_no_body
+ask --data 'some words' "$site/form"
+check "a POST" gets 200 'X-Cache: MISS' 'some words' 'X-Times: 1'
+ask --data 'other words' "$site/form"
+check "a POST is passed on each time" gets 200 'X-Cache: MISS' 'other words' 'X-Times: 2'
+ask "$site/old"
+check "a page that was old when it came" gets 200 'Age: 10[0-9]'
+ask "$site/chunked"
+check "a chunked reply" gets 200 'Content-Length: 14' 'one two three'
+ask "$site/chunked"
+check "a chunked reply is stored" gets 200 'X-Cache: HIT' 'one two three'
+ask "$site/tag"
+ask "$site/tag"
+check "a page that its backend confirms" gets 200 'ETag: "tag"' '/tag asked 1 times'
+ask "$site/down"
+check "a backend that is down" gets 503 '503 Backend fetch failed'
+ask --interface 127.0.0.2 --request PURGE "$site/page"
+check "a purge refused" gets 405 '405 Not allowed'
+ask "$site/page"
+check "a refused purge leaves the page" gets 200 'X-Cache: HIT' '/page asked 1 times'
+
+while [ $((SECONDS - aged)) -lt 3 ]; do
+  sleep 0.1
+done
+ask "$site/page"
+check "Age after two seconds" gets 200 'X-Cache: HIT' 'Age: ([2-9]|1[0-9])' '/page asked 1 times'
+
+ask --request PURGE "$site/page"
+check "a purge allowed" gets 200
+ask "$site/page"
+check "a purged page is fetched again" gets 200 'X-Cache: MISS' '/page asked 2 times'
+ask --request BAN --header 'X-Ban: ^/pa' "$site/"
+check "a ban" gets 200 '200 Banned'
+ask "$site/page"
+check "a banned page is fetched again" gets 200 'X-Cache: MISS' '/page asked 3 times'
+ask "$site/chunked"
+check "a ban leaves other pages" gets 200 'X-Cache: HIT'
+ask --header 'Host: one' --header 'Content-Length: 2, 3' "$site/"
+check "a request that can't be read" gets 400 'Connection: close'
+ask "$site/mute"
+check "a backend that says nothing" gets 503 '503 Backend fetch failed'
+
+wait $stalled
+cp "$work/stalled" "$work/reply"
+check "a backend that stalls in a body" gets 503 '503 Backend fetch failed'
+wait $silent
+ended=$?
+cp "$work/silent" "$work/reply"
+check "a client that sends nothing for 5 seconds" [ $ended = 0 ]
+
+# ---- the end, behind the last connection
+
+while [ $asked -lt $connections ]; do
+  ask "$site/page"
+done
+for _ in {1..100}; do
+  kill -0 $server 2> /dev/null || break
+  sleep 0.05
+done
+kill -KILL $server 2> /dev/null
+wait $server 2> /dev/null
+ended=$?
+cp "$work/errors" "$work/reply"
+# Every connection had one round, but for the silent one, which had two, and the one whose request can't be read.
+check "the program ends, and tells its rounds" [ "$ended $(cat "$work/out")" = "0 rounds $connections" ]
+echo "$passed passed, $failed failed"
+[ $failed = 0 ]
