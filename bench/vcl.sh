@@ -4,7 +4,7 @@
 # variables made of them is taken off that of the runs. Run it at the top of the repository. The program is built and proved
 # first where it isn't there yet.
 . "$(dirname "$0")/prepare.sh"
-prepare vcl_eval_tests
+prepare vcl_run_tests
 python3 - "$program" <<'PY'
 import subprocess, sys, time
 program = sys.argv[1]

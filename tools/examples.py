@@ -5,8 +5,8 @@
   tools/examples.py write      writes the sessions' lines that load a VCL, and the rows, from the files
   tools/examples.py line FILE  prints the line of a session that loads the VCL of a file
 
-A session NAME.session loads examples/vcl/NAME.vcl by the line that `line` prints. It is a row of varn_program_tests,
-whose wanted answer is NAME.transcript, and the VCL is a row of vcl_store_tests. Transcripts are written by hand.
+A session NAME.session loads examples/vcl/NAME.vcl by the line that `line` prints. It is a row of replay_tests,
+whose wanted answer is NAME.transcript, and the VCL is a row of vcl_run_tests. Transcripts are written by hand.
 """
 import pathlib
 import re
@@ -14,10 +14,11 @@ import sys
 
 TOP = pathlib.Path(__file__).resolve().parent.parent
 VCL, SESSIONS = TOP / "examples/vcl", TOP / "examples/sessions"
-RUNS, STORE = TOP / "crates/varn_program_tests", TOP / "crates/vcl_store_tests"
+RUNS, PROGRAMS = TOP / "crates/replay_tests", TOP / "crates/vcl_run_tests"
 RUN_MARK = "@ example="
-STORE_MARK = "# the files of examples/vcl, each on one line without its comments"
-# The longest transcript that varn_program_tests prints.
+PROGRAMS_MARK = "# the files of examples/vcl, each on one line without its comments"
+PROGRAM_WORDS = "program "
+# The longest transcript that replay_tests tells whole.
 SHORT = 5000
 
 
@@ -42,35 +43,49 @@ def with_loading(session, path):
     return line.sub(lambda _: loading(path), session)
 
 
-def run_row(name, session):
-    """A session as the input of varn_program_tests, where `^`, backquotes and a last `$` mean something else."""
+def run_rows(name, session, transcript):
+    """A session as rows of replay_tests, where `^`, backquotes and a last `$` mean something else, and what is wanted."""
     lines = [line.replace("^", "\\x5e").replace("`", "\\x60") for line in session.splitlines()]
-    if any(line.endswith("$") for line in lines):
-        sys.exit(f"{name}.session: a line ends with a dollar sign")
-    return "\n".join([f"{RUN_MARK}{name} replay", *lines]) + "\n"
-
-
-def run_answer(name, transcript):
+    if any(line.endswith("$") or line.startswith(("@", "= ")) for line in lines):
+        sys.exit(f"{name}.session: a line begins with @ or =, or ends with a dollar sign")
     if len(transcript.encode()) > SHORT:
         sys.exit(f"{name}.transcript: over {SHORT} bytes")
-    return f"{RUN_MARK}{name} replay => 0 0 0\n{transcript}\n"
+    said = [f"= {line}" for line in ("0 0 0", *transcript.splitlines())]
+    return "\n".join([f"{RUN_MARK}{name} replay", *lines, *said]) + "\n"
 
 
-def store_row(text):
+def program_row(text):
     """A VCL on one line, and what the test says of it: thirteen items are built in."""
     lines = [line.strip() for line in text.splitlines() if not line.startswith("#")]
-    row = "7 " + " ".join(line for line in lines if line)
+    row = PROGRAM_WORDS + " ".join(line for line in lines if line)
     items, backends, directors = (
         len(re.findall(form, text, re.M))
         for form in ("^(import|backend|acl|probe|sub) ", "^backend ", "^  new ")
     )
-    return row, f"{row} => items {13 + items}, backends {backends}, directors {directors}"
+    return f"{row} => items {13 + items}, backends {backends}, directors {directors}\n"
 
 
-def behind(text, mark, tail=""):
-    """A text up to the line that begins with a mark, and its last line where that is kept."""
+def parted(text, mark):
+    """A text in two, the second of which begins with the line that begins with a mark."""
     at = ("\n" + text).find("\n" + mark)
-    return (text if at < 0 else text[:at]).removesuffix(tail)
+    return (text, "") if at < 0 else (text[:at], text[at:])
+
+
+def with_programs(text, rows):
+    """The rows of vcl_run_tests with these for the VCLs, behind their mark and before the others behind it."""
+    front, old = parted(text, PROGRAMS_MARK)
+    others = [line for line in old.splitlines(keepends=True)[1:] if not line.startswith(PROGRAM_WORDS)]
+    return front + PROGRAMS_MARK + "\n" + rows + "".join(others)
+
+
+def count_of_runs(text):
+    """How many rows replay_tests has: those of one line, and one for each run."""
+    front, runs = parted(text, "@")
+    return sum(not line.startswith("#") for line in front.splitlines()) + len(re.findall("^@", runs, re.M))
+
+
+def count_of_programs(text):
+    return sum(line != "" and not line.startswith("#") for line in text.splitlines())
 
 
 def wanted():
@@ -80,22 +95,16 @@ def wanted():
     for folder, kind in ((SESSIONS, "session"), (SESSIONS, "transcript")):
         if sorted(path.stem for path in folder.glob(f"*.{kind}")) != names:
             sys.exit(f"examples/sessions: not one {kind} for each VCL")
-    runs, answers = "", ""
-    rows, said = [STORE_MARK], [STORE_MARK]
+    runs, programs = "", ""
     for name in names:
         vcl, path = VCL / f"{name}.vcl", SESSIONS / f"{name}.session"
         made[path] = with_loading(path.read_text(), vcl)
-        runs += run_row(name, made[path])
-        answers += run_answer(name, (SESSIONS / f"{name}.transcript").read_text())
-        row, answer = store_row(vcl.read_text())
-        rows.append(row)
-        said.append(answer)
-    made[RUNS / "stdin"] = behind((RUNS / "stdin").read_text(), RUN_MARK) + runs
-    made[RUNS / "stdout"] = behind((RUNS / "stdout").read_text(), RUN_MARK) + answers
-    made[STORE / "stdin"] = behind((STORE / "stdin").read_text(), STORE_MARK) + "\n".join(rows) + "\n"
-    old = (STORE / "stdout").read_text()
-    last = old.splitlines(keepends=True)[-1]
-    made[STORE / "stdout"] = behind(old, STORE_MARK, last) + "\n".join(said) + "\n" + last
+        runs += run_rows(name, made[path], (SESSIONS / f"{name}.transcript").read_text())
+        programs += program_row(vcl.read_text())
+    made[RUNS / "stdin"] = parted((RUNS / "stdin").read_text(), RUN_MARK)[0] + runs
+    made[RUNS / "stdout"] = f"{count_of_runs(made[RUNS / 'stdin'])} rows\n"
+    made[PROGRAMS / "stdin"] = with_programs((PROGRAMS / "stdin").read_text(), programs)
+    made[PROGRAMS / "stdout"] = f"{count_of_programs(made[PROGRAMS / 'stdin'])} rows\n"
     made[TOP / "crates/varn/stdin"] = (TOP / "examples/console.session").read_text()
     return made
 

@@ -152,6 +152,7 @@ for _ in range(2):
         if not piece:
             sys.exit("the connection ended within a reply")
         answer += piece
+print("silent from now on", flush=True)
 began = time.monotonic()
 last = link.recv(4096)
 passed = time.monotonic() - began
@@ -162,6 +163,17 @@ silent=$!
 asked=$((asked + 1))
 curl --silent --include --max-time 8 "$site/stall" > "$work/stalled" 2> /dev/null &
 stalled=$!
+
+# Meanwhile others are served, by workers of their own: each of these two holds one for some seconds.
+for _ in {1..100}; do
+  [ -s "$work/silent" ] && break
+  sleep 0.05
+done
+begun=$SECONDS
+ask "$site/beside"
+took=$((SECONDS - begun))
+comes_soon() { [ $took -lt 3 ] && gets 200 '/beside asked 1 times'; }
+check "a page beside a silent client and a backend that stalls" comes_soon
 
 # ---- one after another
 

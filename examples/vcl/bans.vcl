@@ -1,7 +1,7 @@
-# Bans of many pages at once: BAN with a field X-Ban-Request or X-Ban-Object, which has a pattern of URLs, without blanks
-# and backslashes. A ban of the first kind is tested on a page when it is next asked for, with that request. One of the
-# second kind names no field of a request, so a lurker can test it while nobody asks: for that each page is stored with
-# its host and its URL, which clients aren't sent.
+# Bans of many pages at once: BAN with a field X-Ban-Request or X-Ban-Object, which has a pattern of URLs, without
+# blanks. A ban of the first kind is tested on a page when it is next asked for, with that request. One of the second
+# kind names no field of a request, so a lurker can test it while nobody asks: for that each page is stored with its
+# host and its URL, which clients aren't sent.
 vcl 4.1;
 
 backend default {

@@ -11,7 +11,7 @@ use std::alloc::{AllocError, Global};
 use std::collections::BTreeMap;
 
 // An address has so many bits.
-const LONGEST_MASK: u8 = 32;
+const MAX_MASK: u8 = 32;
 
 /// The first fault among entries, told at the place at which it is complete. Memory is wanting only where there is
 /// none: without memory each entry is compared with those before it.
@@ -38,7 +38,7 @@ fn fault_by_pair(entries: &[AclEntry]) -> Result<(), AclError>
     ensures told { result ≢ Err AclError.NoMemory }
 {
     for (place, entry) in entries.iter().enumerate() {
-        if entry.mask > LONGEST_MASK {
+        if entry.mask > MAX_MASK {
             return Err(AclError::Mask { place });
         }
         if clashes_with_any(entry, &entries[..place]) {
@@ -73,7 +73,7 @@ fn fault_by_network(alloc: Global, entries: &[AclEntry]) -> Result<(), AclError>
 {
     let mut signs: BTreeMap<Network, bool> = BTreeMap::new(alloc);
     for (place, entry) in entries.iter().enumerate() {
-        if entry.mask > LONGEST_MASK {
+        if entry.mask > MAX_MASK {
             return Err(AclError::Mask { place });
         }
         match clashes(&mut signs, entry) {

@@ -10,8 +10,6 @@ mod deciding;
 mod entry;
 mod faults;
 mod network;
-#[cfg(test)]
-mod tests;
 
 pub use acl::{Acl, AclError};
 pub use entry::{AclEntries, AclEntry};

@@ -3,3 +3,5 @@ mod ConversedFacts
 pub mod SaidHeads
 mod SaidBodies
 pub mod SaidFacts
+mod WholeHeads
+pub mod OneReply

@@ -1,3 +1,4 @@
 pub mod Replies
 pub mod Exchanges
 pub mod Said
+pub mod WholeReplies

@@ -4,18 +4,13 @@ ghost use Rattle.wire.specs.Causes.{Rose};
 ghost use Rattle.message_reader.specs.Inputs.{Hears};
 ghost use Rattle.backend_link.specs.Replies.{interim_limit, BehindInterim, FinalAt, ReplyAt, is_interim as interim_status};
 
+use crate::limits::{MAX_BODY, MAX_INTERIM};
 use http_bodies::{frame, kind_of_reply};
 use http_heads::ResponseHead;
 use message_reader::{Intake, Stop, read_body, read_head};
 use std::alloc::Global;
 use units::Text;
 use wire::Link;
-
-/// The most interim replies that are passed over.
-const MOST_INTERIM: u8 = 8;
-
-/// The most bytes of a reply's body.
-const LONGEST_BODY: u64 = 8_388_608;
 
 /// Whether a reply of this status stands in front of another (RFC 9110, section 15.2).
 pub fn is_interim(status: u16) -> bool
@@ -29,7 +24,7 @@ fn is_refused(status: u16, passed: u8) -> bool
     ensures refused { result ≡ true → (status ≡ 101) ⊎ (interim_limit ≤ passed) }
     ensures passed { result ≡ false → ((status == 101) ≡ false) × (passed < interim_limit) }
 {
-    status == 101 || passed >= MOST_INTERIM
+    status == 101 || passed >= MAX_INTERIM
 }
 
 /// Reads the head of the final reply. What stands behind it is held.
@@ -79,6 +74,6 @@ pub fn read_reply<L: Link>(
         Ok(framing) => framing,
         Err(_) => return Err(Stop::BadBody),
     };
-    let body = read_body(alloc, link, held, room, framing, LONGEST_BODY)?;
+    let body = read_body(alloc, link, held, room, framing, MAX_BODY)?;
     Ok((head, body))
 }

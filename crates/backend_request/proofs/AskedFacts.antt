@@ -14,8 +14,8 @@ use Rattle.http_heads.specs.Printed.{IsPlainField, IsRequestShape}
 use Rattle.http_bodies.specs.Bodies.{IsBody}
 use Rattle.http_bodies.specs.Framings.{Frames}
 use Rattle.http_bodies.specs.declared.framing.Kind.TheVariants.{Request}
-use Rattle.message_fields.proofs.PlainFacts.{plain_varnish, unframed_plain, of_length_plain}
-use Rattle.message_fields.proofs.FramedFacts.{says_none, says_length_of_request}
+use Rattle.http_bodies.proofs.PlainFacts.{plain_varnish, unframed_plain, of_length_plain}
+use Rattle.http_bodies.proofs.FramedFacts.{says_none, says_length_of_request}
 use Rattle.backend_request.specs.declared.purpose.Purpose.{Purpose}
 use Rattle.backend_request.specs.declared.purpose.Purpose.TheVariants.{Store, Pass}
 use Rattle.backend_request.specs.Passed.{stays_in_request, passed_request}

@@ -7,7 +7,8 @@ use Rattle.http_heads.specs.declared.fields.Field.{Field}
 use Rattle.http_heads.specs.declared.message.RequestHead.{RequestHead}
 use Rattle.http_heads.specs.declared.message.ResponseHead.{ResponseHead}
 use Rattle.http_heads.specs.Printed.{IsPlainField, IsResponseShape}
-use Rattle.freshness.specs.Merging.{merged, is_lacking, most_merged}
+use Rattle.freshness.specs.Merging.{merged, is_lacking}
+use Rattle.http_heads.specs.Limits.{set_limit}
 use Rattle.cache_law.specs.declared.object.Content.{Content}
 use Rattle.backend_request.specs.declared.purpose.Purpose.{Purpose}
 use Rattle.backend_request.specs.declared.purpose.Purpose.TheVariants.{Store, Pass}
@@ -31,7 +32,7 @@ plain_shape head body shape =
     record { version = shape.version; status = shape.status; reason = shape.reason; fields = kept_plain head.fields shape.fields }
 
 confirmed_shape : (old : Content) (head : ResponseHead) → IsOfClass old → IsResponseShape head → IsGood (confirmed old head)
-confirmed_shape old head class shape = elim (by_bit (nat_lt most_merged (length (merged old.fields (passed_reply head.fields))))) [
+confirmed_shape old head class shape = elim (by_bit (nat_lt set_limit (length (merged old.fields (passed_reply head.fields))))) [
   | inl many ↦ rw many tt
   | inr few ↦ rw few (record {
     version = shape.version;

@@ -5,7 +5,7 @@ use Rattle.http_heads.specs.declared.exchange.BackendRequest.{BackendRequest}
 use Rattle.http_heads.specs.declared.fields.Field.{Field}
 use Rattle.http_heads.specs.declared.message.RequestHead.{RequestHead}
 use Rattle.http_heads.specs.Fields.{first_value, appended, without}
-use Rattle.message_fields.specs.Framed.{unframed, of_length}
+use Rattle.http_bodies.specs.Framed.{unframed, of_length}
 use Rattle.backend_request.specs.declared.purpose.Purpose.{Purpose}
 use Rattle.backend_request.specs.declared.purpose.Purpose.TheVariants.{Store, Pass}
 use Rattle.backend_request.specs.Passed.{passed_request}

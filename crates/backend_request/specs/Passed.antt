@@ -3,7 +3,7 @@ use Rattle.std.specs.Prelude.{ℕ, Bool, true, false, not, ◌&&◌, ◌||◌, L
 use Rattle.std.specs.List.{list_any}
 use Rattle.http_heads.specs.declared.fields.Field.{Field}
 use Rattle.http_heads.specs.Fields.{is_named}
-use Rattle.message_fields.specs.Lists.{is_listed}
+use Rattle.http_heads.specs.Lists.{is_listed}
 use Rattle.backend_request.specs.declared.purpose.Purpose.{Purpose}
 use Rattle.backend_request.specs.declared.purpose.Purpose.TheVariants.{Store, Pass}
 

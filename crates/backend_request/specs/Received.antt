@@ -4,7 +4,8 @@ use Rattle.http_heads.specs.declared.fields.Field.{Field}
 use Rattle.http_heads.specs.declared.message.RequestHead.{RequestHead}
 use Rattle.http_heads.specs.declared.message.ResponseHead.{ResponseHead}
 use Rattle.http_heads.specs.Fields.{first_value}
-use Rattle.freshness.specs.Merging.{merged, most_merged}
+use Rattle.freshness.specs.Merging.{merged}
+use Rattle.http_heads.specs.Limits.{set_limit}
 use Rattle.cache_law.specs.declared.object.Content.{Content}
 use Rattle.backend_request.specs.declared.purpose.Purpose.{Purpose}
 use Rattle.backend_request.specs.declared.purpose.Purpose.TheVariants.{Store, Pass}
@@ -22,7 +23,7 @@ plain head body = record { head = record head { fields = passed_reply head.field
 -- the stale object with the fields that the reply has anew, unless they are too many
 abbrev pub confirmed : Content → ResponseHead → Option Received
 confirmed old head =
-    if nat_lt most_merged (length (merged old.fields (passed_reply head.fields))) then None else Some (record {
+    if nat_lt set_limit (length (merged old.fields (passed_reply head.fields))) then None else Some (record {
       head = record { version = head.version; status = old.status; reason = old.reason; fields = merged old.fields (passed_reply head.fields) };
       body = old.body;
       was_304 = true;

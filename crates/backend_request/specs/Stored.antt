@@ -6,8 +6,8 @@ use Rattle.http_heads.specs.declared.fields.Field.{Field}
 use Rattle.http_heads.specs.declared.message.ResponseHead.{ResponseHead}
 use Rattle.freshness.specs.declared.times.Timing.{Timing}
 use Rattle.freshness.specs.Directives.{values_of}
-use Rattle.message_fields.specs.declared.parts.Separators.TheVariants.{Commas, CommasAndBlanks}
-use Rattle.message_fields.specs.Lists.{listed}
+use Rattle.http_heads.specs.declared.parts.Separators.TheVariants.{Commas, CommasAndBlanks}
+use Rattle.http_heads.specs.Lists.{listed}
 use Rattle.cache_law.specs.declared.call.Query.{Query}
 use Rattle.cache_law.specs.declared.object.VaryItem.{VaryItem}
 use Rattle.cache_law.specs.declared.object.Content.{Content}

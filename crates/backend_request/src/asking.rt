@@ -6,8 +6,8 @@ ghost use Rattle.backend_request.specs.Asked.{opened_request, finished_request, 
 
 use crate::Purpose;
 use crate::passing::pass_request;
-use http_heads::{BackendRequest, Fields, RequestHead};
-use message_fields::{unframed, with_field, with_length, with_number};
+use http_bodies::{unframed, with_length};
+use http_heads::{BackendRequest, Fields, RequestHead, with_field, with_number};
 use std::alloc::{AllocError, Global};
 use units::Text;
 

@@ -1,12 +1,11 @@
 // The fields that go on from one connection to the next.
 ghost use Rattle.std.specs.Prelude.{◌≡◌, ◌&&◌, ◌||◌, not, filter, codes, IfOk};
 ghost use Rattle.http_heads.specs.Fields.{is_named};
-ghost use Rattle.message_fields.specs.Lists.{is_listed as lists_it};
+ghost use Rattle.http_heads.specs.Lists.{is_listed as lists_it};
 ghost use Rattle.backend_request.specs.Passed.{connection_names, request_names, partial_names, is_one_of, is_store as for_store, is_of_connection as of_connection, stays_in_request as goes_in_request, passed_request, passed_reply};
 
 use crate::Purpose;
-use http_heads::{Field, Fields};
-use message_fields::is_listed;
+use http_heads::{Field, Fields, is_listed};
 use std::alloc::{AllocError, Global};
 use units::{Copied, fold_eq};
 

@@ -1,7 +1,8 @@
 // What a reply is received as.
 ghost use Rattle.std.specs.Prelude.{◌≡◌, ◌||◌, ◌<◌, ◌≤◌, length, Option, Some, None, codes, IfOk, MatchOption, if◌then◌else◌};
 ghost use Rattle.std.specs.Option.{option_copied};
-ghost use Rattle.freshness.specs.Merging.{merged, most_merged};
+ghost use Rattle.freshness.specs.Merging.{merged};
+ghost use Rattle.http_heads.specs.Limits.{set_limit};
 ghost use Rattle.backend_request.specs.Passed.{passed_reply};
 ghost use Rattle.backend_request.specs.Received.{has_condition as conditional, plain as plainly, confirmed, unasked as without_question, received};
 
@@ -62,8 +63,8 @@ fn unasked(
 
 fn merge_fields(alloc: Global, old: &Fields, new: &Fields) -> Result<Option<Fields>, AllocError>
     ensures { IfOk result (λ fields. MatchOption fields
-        (most_merged < length (merged old.now (passed_reply new.now)))
-        (λ all. (length (merged old.now (passed_reply new.now)) ≤ most_merged) × (all ≡ merged old.now (passed_reply new.now)))) }
+        (set_limit < length (merged old.now (passed_reply new.now)))
+        (λ all. (length (merged old.now (passed_reply new.now)) ≤ set_limit) × (all ≡ merged old.now (passed_reply new.now)))) }
 {
     let kept = pass_reply(alloc, new)?;
     match merge(alloc, old, &kept) {

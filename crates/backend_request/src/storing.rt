@@ -6,12 +6,11 @@ ghost use Rattle.http_heads.specs.Fields.{is_named};
 ghost use Rattle.freshness.specs.Directives.{values_of};
 ghost use Rattle.backend_request.specs.Stored.{is_star as every, item_in, items_for, key_of, fields_of, content_of, response_of, marker_of};
 
-use cache_law::{Content, Marker, Query, Response, Shared, VaryItem};
+use cache_law::{Content, Marker, Query, Response, VaryItem};
 use freshness::Timing;
-use http_heads::{Field, Fields, ResponseHead};
-use message_fields::{Separators, listed};
+use http_heads::{Field, Fields, ResponseHead, Separators, listed};
 use std::alloc::{AllocError, Global};
-use units::{Copied, Sequence, Text, fold_eq};
+use units::{Copied, Sequence, Shared, Text, fold_eq};
 
 fn has_name(name: &[u8], field: &Field) -> bool
     ensures { result ≡ is_named name.now field.now }

@@ -17,4 +17,4 @@ mod subjects;
 pub use error::BanError;
 pub use laws::one_ban;
 pub use matching::{object_only, test};
-pub use reading::{MOST_CONDITIONS, read};
+pub use reading::{MAX_CONDITIONS, read};

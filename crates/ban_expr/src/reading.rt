@@ -11,7 +11,7 @@ use std::alloc::Global;
 use units::{Copied, Sequence, Text};
 
 /// A ban has at most so many conditions.
-pub const MOST_CONDITIONS: usize = 16;
+pub const MAX_CONDITIONS: usize = 16;
 
 /// The ban that the words say: `FIELD OPERATOR ARGUMENT`, up to 16 times with the word `&&` between two. The fields
 /// `req.url`, `req.http.NAME`, `obj.status` and `obj.http.NAME` take `==`, `!=`, `~` and `!~` with a text, which is a
@@ -37,7 +37,7 @@ pub fn read(alloc: Global, words: &Words) -> Result<Ban, BanError>
 fn is_shaped(words: &[Text]) -> bool
     ensures { IsTrue result ↔ ((clauses : List Clause) × IsMadeOf words.now clauses) }
 {
-    words.len() < 4 * MOST_CONDITIONS && are_clauses(words)
+    words.len() < 4 * MAX_CONDITIONS && are_clauses(words)
 }
 
 // The first three words, and those behind them.

@@ -5,7 +5,7 @@ use Rattle.cache_law.specs.declared.call.Call.TheVariants.{Begin, Draw, Lookup, 
 use Rattle.cache_law.specs.declared.call.Reply.{Reply}
 use Rattle.cache_law.specs.declared.call.Reply.TheVariants.{Loaded}
 use Rattle.cache_law.specs.declared.call.Entry.{Entry}
-use Rattle.cache_law.specs.declared.target.Member.{Member}
+use Rattle.directors.specs.declared.target.Member.{Member}
 use Rattle.cache_law.specs.Object.{texts_len, fields_len, object_len}
 use Rattle.cache_law.specs.State.{State, at_moment, awaits, reserve}
 use Rattle.cache_law.specs.Beginning.{Beginning}

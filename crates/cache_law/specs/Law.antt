@@ -14,7 +14,7 @@ use Rattle.cache_law.specs.declared.ban.Ban.{Ban as BanWords}
 use Rattle.cache_law.specs.declared.ban.Issued.{Issued}
 use Rattle.cache_law.specs.ShownBans.{ShowsBans}
 use Rattle.cache_law.specs.BansAtOnce.{issued_behind, ban_over, open_lines}
-use Rattle.cache_law.specs.declared.target.Target.{Target}
+use Rattle.directors.specs.declared.target.Target.{Target}
 use Rattle.cache_law.specs.declared.vcl.Health.{Health}
 use Rattle.cache_law.specs.declared.vcl.Vcl.{Vcl}
 use Rattle.cache_law.specs.declared.vcl.VclSource.{VclSource}

@@ -7,8 +7,8 @@ use Rattle.std.specs.Str.{bytes_eq}
 use Rattle.directors.specs.declared.director.DirectorKind.{DirectorKind}
 use Rattle.directors.specs.declared.director.DirectorKind.TheVariants.{RoundRobin}
 use Rattle.directors.specs.Choice.{choice}
-use Rattle.cache_law.specs.declared.target.Member.{Member}
-use Rattle.cache_law.specs.declared.target.Target.{Target}
+use Rattle.directors.specs.declared.target.Member.{Member}
+use Rattle.directors.specs.declared.target.Target.{Target}
 use Rattle.cache_law.specs.declared.vcl.Counter.{Counter}
 use Rattle.cache_law.specs.declared.vcl.Health.{Health}
 use Rattle.cache_law.specs.declared.vcl.Health.TheVariants.{Auto, Healthy, Sick}

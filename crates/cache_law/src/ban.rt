@@ -1,9 +1,8 @@
 // Bans as plain data.
 ghost use Rattle.std.specs.Prelude.{◌≡◌, IfOk};
 
-use crate::Shared;
 use std::alloc::{AllocError, Global};
-use units::{Copied, Sequence, Text};
+use units::{Copied, Sequence, Shared, Text};
 use vcl_values::Comparison;
 
 /// What a condition of a ban looks at as a text.

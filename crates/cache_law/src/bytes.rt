@@ -3,7 +3,8 @@ ghost use Rattle.std.specs.Prelude.{◌≡◌, ◌+◌, ◌*◌, ◌-◌, ◌^�
 ghost use Rattle.cache_law.specs.Object.{fields_len, object_len, size_of, texts_len, vary_len};
 ghost use Rattle.cache_law.specs.History.{bytes_of, members_len};
 
-use crate::{Call, Content, Marker, Member, Object, Query, Target, VaryItem, VclSource};
+use crate::{Call, Content, Marker, Object, Query, VaryItem, VclSource};
+use directors::{Member, Target};
 use http_heads::Field;
 use units::Text;
 

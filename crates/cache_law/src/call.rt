@@ -1,8 +1,9 @@
 // The calls of a cache, its replies, and an entry of its history.
-use crate::{Ban, BanLine, Health, Object, ObjectView, Shared, Target, VclLine, VclSource};
+use crate::{Ban, BanLine, Health, Object, ObjectView, VclLine, VclSource};
+use directors::Target;
 use http_heads::Fields;
 use std::alloc::{AllocError, Global};
-use units::{Copied, Sequence, Text};
+use units::{Copied, Sequence, Shared, Text};
 
 /// What a lookup carries beside its key: the request as the policy left it.
 #[derive(Drop)]

@@ -17,11 +17,7 @@ mod matching;
 mod object;
 pub mod rounds;
 mod setting;
-mod shared;
 mod state;
-mod target;
-#[cfg(test)]
-mod tests;
 mod vcl;
 mod vcl_laws;
 
@@ -41,8 +37,6 @@ pub use laws::{
 pub use matching::{can_confirm, is_chosen_by, is_fresh_for, is_in_grace_for, matches};
 pub use object::{Content, Marker, Object, ObjectView, Response, VaryItem, is_in_time};
 pub use setting::{Boot, Params};
-pub use shared::Shared;
 pub use state::{OpenFetch, OpenRound};
-pub use target::{Member, Target};
 pub use vcl::{Counter, ForcedHealth, Health, LoadedVcl, Vcl, VclLine, VclSource, VclState};
 pub use vcl_laws::{rounds_keep_their_vcl, vcl_numbers_rise, vcls_have_own_numbers};

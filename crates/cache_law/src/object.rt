@@ -2,11 +2,10 @@
 ghost use Rattle.std.specs.Prelude.{◌≡◌, ◌^◌, ◌+ℤ◌, ◌≤ℤ◌, neg_ℤ, pos, IfOk};
 ghost use Rattle.cache_law.specs.Object.{in_time, is_marker, key_of, timing_of, vary_of};
 
-use crate::Shared;
 use freshness::Timing;
 use http_heads::Fields;
 use std::alloc::AllocError;
-use units::{Sequence, Text};
+use units::{Sequence, Shared, Text};
 
 /// A field of requests by which a response was chosen, with its values in the request that it answered.
 #[derive(Drop)]

@@ -1,8 +1,9 @@
 //! What goes between the states of a round: the client's request, the fetch that it orders, and what a client or a fetch is
 //! given.
-use crate::{ObjectView, Query, Shared, Target, Told};
+use crate::{ObjectView, Query, Told};
+use directors::Target;
 use http_heads::{Got, RequestHead};
-use units::Text;
+use units::{Shared, Text};
 
 /// What a round begins with: a whole message.
 #[derive(Drop)]

@@ -1,7 +1,6 @@
 // The VCLs that a cache holds, and what belongs to each.
-use crate::Shared;
 use std::alloc::{AllocError, Global};
-use units::{Copied, Sequence, Text};
+use units::{Copied, Sequence, Shared, Text};
 
 /// A VCL as it is loaded: its name, its text, and the names of the backends that the text declares.
 #[derive(Drop)]

@@ -8,9 +8,9 @@ use crate::message::{Message, text_of};
 use crate::orders::{Order, read_order};
 use crate::refusal::{CliAnswer, refusal};
 use crate::sources::source_of;
-use cache_law::{Call, Shared};
+use cache_law::Call;
 use std::alloc::Global;
-use units::Text;
+use units::{Shared, Text};
 use vmod_host::VmodTable;
 
 /// What a line says.

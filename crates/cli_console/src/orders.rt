@@ -11,10 +11,10 @@ use crate::refusal::{CliAnswer, refusal};
 use crate::texts::{both, only};
 use crate::words::split_name;
 use ban_expr::{BanError, read};
-use cache_law::{Call, Health, Shared};
+use cache_law::{Call, Health};
 use cli_words::{Words, WordsError, split};
 use std::alloc::{AllocError, Global};
-use units::Text;
+use units::{Shared, Text};
 
 /// What a line orders.
 #[derive(Drop)]

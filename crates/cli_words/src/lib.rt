@@ -10,6 +10,3 @@ mod writer;
 
 pub use line::{LINE_LIMIT, Words, WordsError, one_list, split};
 pub use writer::write_words;
-
-#[cfg(test)]
-mod tests;

@@ -5,11 +5,11 @@ use Rattle.http_heads.specs.declared.message.ResponseHead.{ResponseHead}
 use Rattle.vcl_context.specs.declared.context.Context.{Context}
 use Rattle.vcl_context.specs.declared.context.ClientRequest.{ClientRequest}
 use Rattle.vcl_context.specs.declared.context.CachedObject.{CachedObject}
-use Rattle.vcl_context.specs.Unfilled.{no_client_request, peer_at, unfilled}
+use Rattle.vcl_context.specs.Initial.{no_client_request, peer_at, empty_context}
 
 -- a request without an option that VCL sets, and nothing else so far
 abbrev pub first_context : List ℕ → RequestHead → Context
-first_context address head = record (unfilled address) { request = record no_client_request { head = head } }
+first_context address head = record (empty_context address) { request = record no_client_request { head = head } }
 
 -- a restarted request, so often: its options and the client's identity are as at first
 abbrev pub request_again : ℕ → ClientRequest → ClientRequest

@@ -1,6 +1,7 @@
 pub mod Contexts
 pub mod Opening
-pub mod Shown
+pub mod FoundObject
 pub mod Wants
 pub mod Graph
 pub mod Answers
+pub mod Forwarded

@@ -4,23 +4,24 @@ ghost use Rattle.std.specs.Option.{option_copied};
 ghost use Rattle.delivery.specs.Finished.{finished};
 ghost use Rattle.client_graph.specs.Wants.{hint_at as hint_in, hint_text as text_of_hint, store_order as store_ordered, pass_order as pass_ordered, order_of as ordered, asks_with};
 
-use crate::{Errand, Held, Round, Spot, Want};
+use crate::{ClientWant, FetchKind, HeldFetch, Round, WaitPoint};
 use cache_law::rounds::{Order, Request};
-use cache_law::{Call, ObjectView, Target};
-use delivery::{failure_page, finish};
+use cache_law::{Call, ObjectView};
+use delivery::{ResponseBody, failure_page, finish};
+use directors::Target;
 use http_heads::RequestHead;
 use std::alloc::{AllocError, Global};
-use units::{Copied, Text, lost};
+use units::{Copied, Text, out_of_memory};
 use vcl_context::Context;
 use vcl_values::Backend;
 
-impl Spot {
+impl WaitPoint {
     /// The backend or director that VCL chose, where a fetch is asked for here.
     pub fn hint(&self) -> Option<&Backend>
         ensures { option_copied result ≡ hint_in self.now }
     {
         match self {
-            Spot::Fetch { context, .. } | Spot::Background { context, .. } => {
+            WaitPoint::Fetch { context, .. } | WaitPoint::Background { context, .. } => {
                 context.request.backend_hint.as_ref()
             }
             _ => None,
@@ -51,7 +52,7 @@ fn request_of(alloc: Global, context: &Context, body: Text) -> Result<Request, A
     ensures { IfOk result (λ request. request ≡ record { head = context.now.request.head; body = body }) }
 {
     let Ok(head) = context.request.head.copied(alloc) else {
-        return Err(lost(body));
+        return Err(out_of_memory(body));
     };
     Ok(Request { head, body })
 }
@@ -62,25 +63,25 @@ fn store_order(
     hint: Option<Target>,
     background: bool,
     round: &Round,
-    held: &Held,
+    held: &HeldFetch,
     context: &Context,
 ) -> Result<Order, AllocError>
     ensures { IfOk result (λ order. order ≡ store_ordered hint background round.now held.now context.now) }
 {
     let Ok(body) = Text::of(alloc, b"") else {
-        return Err(lost(hint));
+        return Err(out_of_memory(hint));
     };
     let Ok(request) = request_of(alloc, context, body) else {
-        return Err(lost(hint));
+        return Err(out_of_memory(hint));
     };
     let Ok(hint_text) = hint_text(alloc, &context.request.backend_hint) else {
-        return Err(lost((hint, request)));
+        return Err(out_of_memory((hint, request)));
     };
     let Ok(looked) = held.query.copy() else {
-        return Err(lost((hint, request, hint_text)));
+        return Err(out_of_memory((hint, request, hint_text)));
     };
     let Ok(stale) = stale_copy(&held.stale) else {
-        return Err(lost((hint, request, hint_text, looked)));
+        return Err(out_of_memory((hint, request, hint_text, looked)));
     };
     Ok(Order {
         number: held.token,
@@ -108,13 +109,13 @@ fn pass_order(
     ensures { IfOk result (λ order. order ≡ pass_ordered hint round.now number moment context.now) }
 {
     let Ok(body) = round.asked.body.copy() else {
-        return Err(lost(hint));
+        return Err(out_of_memory(hint));
     };
     let Ok(request) = request_of(alloc, context, body) else {
-        return Err(lost(hint));
+        return Err(out_of_memory(hint));
     };
     let Ok(hint_text) = hint_text(alloc, &context.request.backend_hint) else {
-        return Err(lost((hint, request)));
+        return Err(out_of_memory((hint, request)));
     };
     Ok(Order {
         number,
@@ -134,14 +135,14 @@ fn order_of(
     alloc: Global,
     hint: Option<Target>,
     round: &Round,
-    errand: &Errand,
+    kind: &FetchKind,
     context: &Context,
 ) -> Result<Order, AllocError>
-    ensures { IfOk result (λ order. order ≡ ordered hint round.now errand.now context.now) }
+    ensures { IfOk result (λ order. order ≡ ordered hint round.now kind.now context.now) }
 {
-    match errand {
-        Errand::Store(held) => store_order(alloc, hint, false, round, held, context),
-        Errand::Pass { number, moment } => {
+    match kind {
+        FetchKind::Store(held) => store_order(alloc, hint, false, round, held, context),
+        FetchKind::Pass { number, moment } => {
             pass_order(alloc, hint, round, *number, *moment, context)
         }
     }
@@ -152,44 +153,47 @@ fn send(
     alloc: Global,
     asked: &RequestHead,
     context: &Context,
-    body: &Text,
-) -> Result<Want, AllocError>
-    ensures { IfOk result (λ want. want ≡ Want.Send (finished asked.now context.now.request.head.fields context.now.response body.now)) }
+    body: &ResponseBody,
+) -> Result<ClientWant, AllocError>
+    ensures { IfOk result (λ want. want ≡ ClientWant.Send (finished asked.now context.now.request.head.fields context.now.response body.now)) }
 {
-    let body = body.copy()?;
+    let body = ResponseBody {
+        text: body.text.copy()?,
+        passed: body.passed,
+    };
     let Ok(head) = context.response.copied(alloc) else {
-        return Err(lost(body));
+        return Err(out_of_memory(body));
     };
     let fields = &context.request.head.fields;
-    Ok(Want::Send(finish(alloc, asked, fields, head, body)?))
+    Ok(ClientWant::Send(finish(alloc, asked, fields, head, body)?))
 }
 
-/// What is wanted where the round rests, by `asks_with` of `specs/Wants.antt`. `hint` is the target that `Spot::hint`
+/// What is wanted where the round rests, by `asks_with` of `specs/Wants.antt`. `hint` is the target that `WaitPoint::hint`
 /// names, where it names one.
 pub fn ask(
     alloc: Global,
     hint: Option<Target>,
     round: &Round,
-    spot: &Spot,
-) -> Result<Want, AllocError>
-    ensures { IfOk result (λ want. want ≡ asks_with hint round.now spot.now) }
+    point: &WaitPoint,
+) -> Result<ClientWant, AllocError>
+    ensures { IfOk result (λ want. want ≡ asks_with hint round.now point.now) }
 {
-    match spot {
-        Spot::Look { query, .. } => Ok(Want::Cache(Call::Lookup(query.copy()?))),
-        Spot::Purge { context } => Ok(Want::Cache(Call::Purge {
+    match point {
+        WaitPoint::Look { query, .. } => Ok(ClientWant::Cache(Call::Lookup(query.copy()?))),
+        WaitPoint::Purge { context } => Ok(ClientWant::Cache(Call::Purge {
             key: context.key.copied(alloc)?,
         })),
-        Spot::Drop { token, .. } => Ok(Want::Cache(Call::Drop { token: *token })),
-        Spot::Draw { .. } => Ok(Want::Cache(Call::Draw)),
-        Spot::Fetch { errand, context } => {
-            Ok(Want::Fetch(order_of(alloc, hint, round, errand, context)?))
+        WaitPoint::Drop { token, .. } => Ok(ClientWant::Cache(Call::Drop { token: *token })),
+        WaitPoint::Draw { .. } => Ok(ClientWant::Cache(Call::Draw)),
+        WaitPoint::Fetch { kind, context } => {
+            Ok(ClientWant::Fetch(order_of(alloc, hint, round, kind, context)?))
         }
-        Spot::Send { context, body } => send(alloc, &round.asked.head, context, body),
-        Spot::Fail { .. } => Ok(Want::Send(failure_page(alloc)?)),
-        Spot::Background { held, context } => Ok(Want::Background(store_order(
+        WaitPoint::Send { context, body } => send(alloc, &round.asked.head, context, body),
+        WaitPoint::Fail { .. } => Ok(ClientWant::Send(failure_page(alloc)?)),
+        WaitPoint::Background { held, context } => Ok(ClientWant::Background(store_order(
             alloc, hint, true, round, held, context,
         )?)),
-        Spot::End => Ok(Want::Cache(Call::End)),
-        Spot::Over => Ok(Want::Done),
+        WaitPoint::End => Ok(ClientWant::Cache(Call::End)),
+        WaitPoint::Over => Ok(ClientWant::Done),
     }
 }

@@ -5,8 +5,8 @@ ghost use Rattle.client_graph.specs.Contexts as due;
 use http_heads::{RequestHead, ResponseHead};
 use std::alloc::{AllocError, Global};
 use std::mem;
-use units::{Sequence, lost};
-use vcl_context::{CachedObject, ClientRequest, Context, peer_at, unfilled};
+use units::{Sequence, out_of_memory};
+use vcl_context::{CachedObject, ClientRequest, Context, empty_context, peer_at};
 
 /// What vcl_recv begins with at first.
 pub fn first_context(
@@ -16,8 +16,8 @@ pub fn first_context(
 ) -> Result<Context, AllocError>
     ensures { IfOk result (λ context. context ≡ due.first_context address head) }
 {
-    let Ok(mut context) = unfilled(alloc, address) else {
-        return Err(lost(head));
+    let Ok(mut context) = empty_context(alloc, address) else {
+        return Err(out_of_memory(head));
     };
     drop(mem::replace(&mut context.request.head, head));
     Ok(context)

@@ -2,14 +2,14 @@
 ghost use Rattle.std.specs.Prelude.{◌≡◌};
 ghost use Rattle.client_graph.specs.Answers.{over as over_next};
 
-use crate::{Next, Round, Spot};
+use crate::{Next, Round, WaitPoint};
 
 /// What can't be answered here ends the round.
 pub fn over<T: Drop>(_at_hand: T, round: Round) -> Next
     ensures { result ≡ over_next round }
 {
     Next::Rest {
-        spot: Spot::Over,
+        point: WaitPoint::Over,
         round,
     }
 }

@@ -1,10 +1,10 @@
 // What a subroutine reads of an object, and the response that is made of it.
 ghost use Rattle.std.specs.Prelude.{◌≡◌, ◌+ℤ◌, ◌-ℤ◌, ◌≤ℤ◌, ◌^◌, neg_ℤ, pos, min, IfOk};
 ghost use Rattle.cache_law.specs.Bans.{status_of as status_in, fields_of as fields_in};
-ghost use Rattle.client_graph.specs.Shown.{reason_in, body_in, in_range as ranged, counted_moment as counted, head_of as head_in, cached, passed as passed_on, opened_of, confirmable as confirms};
+ghost use Rattle.client_graph.specs.FoundObject.{reason_in, body_in, in_range as ranged, counted_moment as counted, head_of as head_in, cached_object, passed_object, opened_of, confirmable as confirms};
 
 use cache_law::{Object, ObjectView, can_confirm};
-use delivery::{Numbers, age_at, open_delivery};
+use delivery::{Numbers, ResponseBody, age_at, open_delivery};
 use freshness::Timing;
 use http_heads::{Fields, ResponseHead};
 use std::alloc::{AllocError, Global};
@@ -41,14 +41,23 @@ fn fields_of(alloc: Global, object: &Object) -> Result<Fields, AllocError>
     }
 }
 
-/// The body of an object.
-pub fn body_of(alloc: Global, object: &Object) -> Result<Text, AllocError>
+fn body_text(alloc: Global, object: &Object) -> Result<Text, AllocError>
     ensures { IfOk result (λ body. body ≡ body_in object.now) }
 {
     match object {
         Object::Ordinary(response) => Ok(response.content.body.copy()?),
         Object::HitForMiss(_) | Object::HitForPass(_) => Text::of(alloc, b""),
     }
+}
+
+/// The body of an object, which is that of a response to a request that was passed or not.
+pub fn body_of(alloc: Global, object: &Object, passed: bool) -> Result<ResponseBody, AllocError>
+    ensures { IfOk result (λ body. body ≡ record { text = body_in object.now; passed = passed }) }
+{
+    Ok(ResponseBody {
+        text: body_text(alloc, object)?,
+        passed,
+    })
 }
 
 fn head_of(alloc: Global, object: &Object) -> Result<ResponseHead, AllocError>
@@ -120,7 +129,7 @@ pub fn cached_at(
     view: &ObjectView,
     moment: u64,
 ) -> Result<CachedObject, AllocError>
-    ensures { IfOk result (λ object. object ≡ cached uncacheable view.now moment) }
+    ensures { IfOk result (λ object. object ≡ cached_object uncacheable view.now moment) }
 {
     let timing = view.object.timing();
     Ok(CachedObject {
@@ -136,7 +145,7 @@ pub fn cached_at(
 
 /// The response to a request that was passed, as an object.
 pub fn passed_at(alloc: Global, view: &ObjectView, moment: u64) -> Result<CachedObject, AllocError>
-    ensures { IfOk result (λ object. object ≡ passed_on view.now moment) }
+    ensures { IfOk result (λ object. object ≡ passed_object view.now moment) }
 {
     let mut object = cached_at(alloc, true, view, moment)?;
     object.hits = 0;

@@ -1,23 +1,22 @@
 // Where a subroutine's word leads.
 ghost use Rattle.std.specs.Prelude.{◌≡◌, ◌<◌, Option, IfOk, option_map};
-ghost use Rattle.client_graph.specs.declared.round.Held.{Held as Open};
+ghost use Rattle.client_graph.specs.declared.round.HeldFetch.{HeldFetch as Open};
 ghost use Rattle.client_graph.specs.Contexts.{without_key};
 ghost use Rattle.client_graph.specs.Graph.{subroutine_of, enter as entered, synthesized, failing, may_restart as may, restarted, restarted_if as restarts_if, common as common_next, giving_up, restarted_late as late, late_restart as late_next, last_restart as last_next, query_of as query_in, delivered_hit as hit_next, leads};
 
 use crate::contexts::{context_again, forget_key, put_bare_response, put_response};
 use crate::finding::{body_of, opened};
-use crate::{Errand, Held, Next, Round, Shown, Spot, State, Wish};
-use cache_law::{Options, Query, RequestView, Shared};
-use delivery::{Failure, Numbers, open_synthetic};
+use crate::{FetchKind, FoundObject, HeldFetch, KeyUse, Next, Round, State, WaitPoint};
+use cache_law::{Options, Query, RequestView};
+use delivery::{Failure, Numbers, ResponseBody, open_synthetic};
 use std::alloc::{AllocError, Global};
 use std::mem;
-use units::{Copied, Text, lost};
-use vcl_context::{Context, given_status, made_body};
+use units::{Copied, Shared, Text, out_of_memory};
+use vcl_context::{Context, Return, body_or_empty, status_or_503};
 use vcl_language::Subroutine;
-use vcl_turns::Return;
 
 /// A round is restarted at most so often.
-pub const MOST_RESTARTS: u32 = 4;
+pub const MAX_RESTARTS: u32 = 4;
 
 impl State {
     /// The subroutine that runs in it.
@@ -59,7 +58,7 @@ fn synthesize(
     ensures { IfOk result (λ next. next ≡ synthesized status reason.now context round) }
 {
     let Ok(response) = open_synthetic(alloc, status, reason, round.number) else {
-        return Err(lost((context, round)));
+        return Err(out_of_memory((context, round)));
     };
     put_bare_response(response, &mut context);
     Ok(enter(State::Synth, context, round))
@@ -75,7 +74,7 @@ pub fn fail(
     ensures { IfOk result (λ next. next ≡ failing failure context round) }
 {
     let Ok(reason) = Text::of(alloc, failure.reason()) else {
-        return Err(lost((context, round)));
+        return Err(out_of_memory((context, round)));
     };
     synthesize(alloc, 503, &reason, context, round)
 }
@@ -83,7 +82,7 @@ pub fn fail(
 fn may_restart(round: &Round) -> bool
     ensures { result ≡ may round.now }
 {
-    round.restarts < MOST_RESTARTS
+    round.restarts < MAX_RESTARTS
 }
 
 fn restart(alloc: Global, mut context: Context, mut round: Round) -> Result<Next, AllocError>
@@ -92,7 +91,7 @@ fn restart(alloc: Global, mut context: Context, mut round: Round) -> Result<Next
 {
     round.restarts += 1;
     let Ok(()) = context_again(alloc, round.restarts, round.peer, &mut context) else {
-        return Err(lost((context, round)));
+        return Err(out_of_memory((context, round)));
     };
     Ok(enter(State::Recv, context, round))
 }
@@ -113,21 +112,21 @@ fn common(alloc: Global, word: &Return, context: Context, round: Round) -> Resul
 {
     match word {
         Return::Synth(status, reason) => {
-            synthesize(alloc, given_status(*status), reason, context, round)
+            synthesize(alloc, status_or_503(*status), reason, context, round)
         }
         Return::Restart => restart_if_allowed(alloc, context, round),
         _ => fail(alloc, Failure::VclFailed, context, round),
     }
 }
 
-fn held_of(mut shown: Shown) -> Option<Held>
-    ensures { result ≡ shown.held }
+fn held_of(mut found: FoundObject) -> Option<HeldFetch>
+    ensures { result ≡ found.held }
 {
-    shown.held.take()
+    found.held.take()
 }
 
 // The token of a fetch that isn't made.
-fn token_of(held: Option<Held>) -> Option<u64>
+fn token_of(held: Option<HeldFetch>) -> Option<u64>
     ensures { result ≡ option_map (λ (fetch : Open). fetch.token) held }
 {
     match held {
@@ -145,7 +144,7 @@ fn give_up_first(token: u64, next: Next) -> Next
             context,
             round,
         } => Next::Rest {
-            spot: Spot::Drop {
+            point: WaitPoint::Drop {
                 token,
                 state,
                 context,
@@ -157,7 +156,7 @@ fn give_up_first(token: u64, next: Next) -> Next
 }
 
 // An open fetch that isn't made is given up first.
-fn give_up(held: Option<Held>, next: Next) -> Next
+fn give_up(held: Option<HeldFetch>, next: Next) -> Next
     ensures { result ≡ giving_up held next }
 {
     match token_of(held) {
@@ -171,11 +170,11 @@ fn restart_late(alloc: Global, context: Context, mut round: Round) -> Result<Nex
     requires { round.restarts < 4 }
     ensures { IfOk result (λ next. next ≡ late context round) }
 {
-    let later = round.later.take();
+    let background = round.background.take();
     let Ok(next) = restart(alloc, context, round) else {
-        return Err(lost(later));
+        return Err(out_of_memory(background));
     };
-    Ok(give_up(later, next))
+    Ok(give_up(background, next))
 }
 
 // `restart` in vcl_deliver.
@@ -197,7 +196,7 @@ fn last_restart(alloc: Global, context: Context, round: Round) -> Result<Next, A
         restart_late(alloc, context, round)
     } else {
         Ok(Next::Rest {
-            spot: Spot::Fail { context },
+            point: WaitPoint::Fail { context },
             round,
         })
     }
@@ -232,58 +231,63 @@ fn shared_query(alloc: Global, context: &Context) -> Result<Shared<Query>, Alloc
 
 // The key is made for a lookup.
 fn look_up(alloc: Global, context: Context, round: Round) -> Result<Next, AllocError>
-    ensures { IfOk result (λ next. next ≡ leads (State.Hash Wish.Lookup) Return.Lookup context round) }
+    ensures { IfOk result (λ next. next ≡ leads (State.Hash KeyUse.Lookup) Return.Lookup context round) }
 {
     let Ok(query) = shared_query(alloc, &context) else {
-        return Err(lost((context, round)));
+        return Err(out_of_memory((context, round)));
     };
     Ok(Next::Rest {
-        spot: Spot::Look { query, context },
+        point: WaitPoint::Look { query, context },
         round,
     })
 }
 
 // The key is made, for a lookup or for a purge.
-fn use_key(alloc: Global, wish: Wish, context: Context, round: Round) -> Result<Next, AllocError>
-    ensures { IfOk result (λ next. next ≡ leads (State.Hash wish) Return.Lookup context round) }
+fn use_key(
+    alloc: Global,
+    key_use: KeyUse,
+    context: Context,
+    round: Round,
+) -> Result<Next, AllocError>
+    ensures { IfOk result (λ next. next ≡ leads (State.Hash key_use) Return.Lookup context round) }
 {
-    match wish {
-        Wish::Lookup => look_up(alloc, context, round),
-        Wish::Purge => Ok(Next::Rest {
-            spot: Spot::Purge { context },
+    match key_use {
+        KeyUse::Lookup => look_up(alloc, context, round),
+        KeyUse::Purge => Ok(Next::Rest {
+            point: WaitPoint::Purge { context },
             round,
         }),
     }
 }
 
 // The fetch is made behind the response.
-fn fetch_later(held: Option<Held>, round: &mut Round)
-    ensures { round.new ≡ record round.old { later = held } }
+fn fetch_in_background(held: Option<HeldFetch>, round: &mut Round)
+    ensures { round.new ≡ record round.old { background = held } }
 {
-    drop(mem::replace(&mut round.later, held));
+    drop(mem::replace(&mut round.background, held));
 }
 
 // An object that was found is delivered.
 fn deliver_hit(
     alloc: Global,
-    shown: Shown,
+    found: FoundObject,
     mut context: Context,
     mut round: Round,
 ) -> Result<Next, AllocError>
-    ensures { IfOk result (λ next. next ≡ hit_next shown context round) }
+    ensures { IfOk result (λ next. next ≡ hit_next found context round) }
 {
     let numbers = Numbers {
         round: round.number,
-        object: Some(shown.view.number),
+        object: Some(found.view.number),
     };
-    let Ok(response) = opened(alloc, numbers, &shown.view, shown.moment) else {
-        return Err(lost((shown, context, round)));
+    let Ok(response) = opened(alloc, numbers, &found.view, found.moment) else {
+        return Err(out_of_memory((found, context, round)));
     };
-    let Ok(body) = body_of(alloc, &shown.view.object) else {
-        return Err(lost((response, shown, context, round)));
+    let Ok(body) = body_of(alloc, &found.view.object, false) else {
+        return Err(out_of_memory((response, found, context, round)));
     };
     put_response(response, &mut context);
-    fetch_later(held_of(shown), &mut round);
+    fetch_in_background(held_of(found), &mut round);
     Ok(enter(State::Deliver(body), context, round))
 }
 
@@ -291,21 +295,25 @@ fn deliver_hit(
 fn send_made(alloc: Global, context: Context, round: Round) -> Result<Next, AllocError>
     ensures { IfOk result (λ next. next ≡ leads State.Synth Return.Deliver context round) }
 {
-    let Ok(body) = made_body(alloc, &context.body) else {
-        return Err(lost((context, round)));
+    let Ok(text) = body_or_empty(alloc, &context.body) else {
+        return Err(out_of_memory((context, round)));
+    };
+    let body = ResponseBody {
+        text,
+        passed: false,
     };
     Ok(Next::Rest {
-        spot: Spot::Send { context, body },
+        point: WaitPoint::Send { context, body },
         round,
     })
 }
 
 // A key is to be made.
-fn make_key(alloc: Global, wish: Wish, mut context: Context, round: Round) -> Next
-    ensures { result ≡ entered (State.Hash wish) (without_key context) round }
+fn make_key(alloc: Global, key_use: KeyUse, mut context: Context, round: Round) -> Next
+    ensures { result ≡ entered (State.Hash key_use) (without_key context) round }
 {
     forget_key(alloc, &mut context);
-    enter(State::Hash(wish), context, round)
+    enter(State::Hash(key_use), context, round)
 }
 
 fn lead_recv(
@@ -317,8 +325,8 @@ fn lead_recv(
     ensures { IfOk result (λ next. next ≡ leads State.Recv word.now context round) }
 {
     match word {
-        Return::Hash => Ok(make_key(alloc, Wish::Lookup, context, round)),
-        Return::Purge => Ok(make_key(alloc, Wish::Purge, context, round)),
+        Return::Hash => Ok(make_key(alloc, KeyUse::Lookup, context, round)),
+        Return::Purge => Ok(make_key(alloc, KeyUse::Purge, context, round)),
         Return::Pass => Ok(enter(State::Pass, context, round)),
         word => common(alloc, word, context, round),
     }
@@ -326,43 +334,43 @@ fn lead_recv(
 
 fn lead_hash(
     alloc: Global,
-    wish: Wish,
+    key_use: KeyUse,
     word: &Return,
     context: Context,
     round: Round,
 ) -> Result<Next, AllocError>
-    ensures { IfOk result (λ next. next ≡ leads (State.Hash wish) word.now context round) }
+    ensures { IfOk result (λ next. next ≡ leads (State.Hash key_use) word.now context round) }
 {
     match word {
-        Return::Lookup => use_key(alloc, wish, context, round),
+        Return::Lookup => use_key(alloc, key_use, context, round),
         word => common(alloc, word, context, round),
     }
 }
 
 fn lead_hit(
     alloc: Global,
-    shown: Shown,
+    found: FoundObject,
     word: &Return,
     context: Context,
     round: Round,
 ) -> Result<Next, AllocError>
-    ensures { IfOk result (λ next. next ≡ leads (State.Hit shown) word.now context round) }
+    ensures { IfOk result (λ next. next ≡ leads (State.Hit found) word.now context round) }
 {
     match word {
-        Return::Deliver => deliver_hit(alloc, shown, context, round),
-        Return::Pass => Ok(give_up(held_of(shown), enter(State::Pass, context, round))),
+        Return::Deliver => deliver_hit(alloc, found, context, round),
+        Return::Pass => Ok(give_up(held_of(found), enter(State::Pass, context, round))),
         word => {
             let Ok(next) = common(alloc, word, context, round) else {
-                return Err(lost(shown));
+                return Err(out_of_memory(found));
             };
-            Ok(give_up(held_of(shown), next))
+            Ok(give_up(held_of(found), next))
         }
     }
 }
 
 fn lead_miss(
     alloc: Global,
-    held: Held,
+    held: HeldFetch,
     word: &Return,
     context: Context,
     round: Round,
@@ -371,8 +379,8 @@ fn lead_miss(
 {
     match word {
         Return::Fetch => Ok(Next::Rest {
-            spot: Spot::Fetch {
-                errand: Errand::Store(held),
+            point: WaitPoint::Fetch {
+                kind: FetchKind::Store(held),
                 context,
             },
             round,
@@ -380,7 +388,7 @@ fn lead_miss(
         Return::Pass => Ok(give_up(Some(held), enter(State::Pass, context, round))),
         word => {
             let Ok(next) = common(alloc, word, context, round) else {
-                return Err(lost(held));
+                return Err(out_of_memory(held));
             };
             Ok(give_up(Some(held), next))
         }
@@ -397,7 +405,7 @@ fn lead_pass(
 {
     match word {
         Return::Fetch => Ok(Next::Rest {
-            spot: Spot::Draw { context },
+            point: WaitPoint::Draw { context },
             round,
         }),
         word => common(alloc, word, context, round),
@@ -406,7 +414,7 @@ fn lead_pass(
 
 fn lead_deliver(
     alloc: Global,
-    body: Text,
+    body: ResponseBody,
     word: &Return,
     context: Context,
     round: Round,
@@ -415,7 +423,7 @@ fn lead_deliver(
 {
     match word {
         Return::Deliver => Ok(Next::Rest {
-            spot: Spot::Send { context, body },
+            point: WaitPoint::Send { context, body },
             round,
         }),
         Return::Restart => {
@@ -441,7 +449,7 @@ fn lead_synth(
         Return::Deliver => send_made(alloc, context, round),
         Return::Restart => last_restart(alloc, context, round),
         _ => Ok(Next::Rest {
-            spot: Spot::Fail { context },
+            point: WaitPoint::Fail { context },
             round,
         }),
     }
@@ -458,9 +466,9 @@ fn lead_by(
 {
     match state {
         State::Recv => lead_recv(alloc, word, context, round),
-        State::Hash(wish) => lead_hash(alloc, wish, word, context, round),
+        State::Hash(key_use) => lead_hash(alloc, key_use, word, context, round),
         State::Purge => common(alloc, word, context, round),
-        State::Hit(shown) => lead_hit(alloc, shown, word, context, round),
+        State::Hit(found) => lead_hit(alloc, found, word, context, round),
         State::Miss(held) => lead_miss(alloc, held, word, context, round),
         State::Pass => lead_pass(alloc, word, context, round),
         State::Deliver(body) => lead_deliver(alloc, body, word, context, round),

@@ -10,13 +10,17 @@ mod asking;
 mod contexts;
 mod dropping;
 mod finding;
+mod forwarding;
 mod leading;
 mod opening;
 mod round;
 mod taking;
 
 pub use asking::ask;
+pub use forwarding::forward;
 pub use leading::lead;
 pub use opening::open;
-pub use round::{Errand, Held, Next, Round, Shown, Spot, State, Want, Wish};
+pub use round::{
+    ClientWant, FetchKind, FoundObject, HeldFetch, KeyUse, Next, Round, State, WaitPoint,
+};
 pub use taking::take;

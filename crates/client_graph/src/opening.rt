@@ -1,27 +1,28 @@
 // Where a round begins.
 ghost use Rattle.std.specs.Prelude.{◌≡◌, IfOk};
-ghost use Rattle.client_graph.specs.Opening.{forwarded_head, opening};
+ghost use Rattle.client_graph.specs.Opening.{first_head as head_at_first, opening};
 
 use crate::contexts::first_context;
+use crate::forwarding::forward;
 use crate::{Next, Round, State};
 use cache_law::rounds::Request;
 use http_heads::RequestHead;
-use message_fields::forward;
+use seen_request::see;
 use std::alloc::{AllocError, Global};
-use units::{Copied, lost};
+use units::out_of_memory;
 
-// The head that VCL gets of the one that came.
-fn head_for(alloc: Global, peer: [u8; 4], head: &RequestHead) -> Result<RequestHead, AllocError>
-    ensures { IfOk result (λ forwarded. forwarded ≡ forwarded_head peer head.now) }
+// The head that vcl_recv gets of the one that came.
+fn first_head(alloc: Global, peer: [u8; 4], head: &RequestHead) -> Result<RequestHead, AllocError>
+    ensures { IfOk result (λ first. first ≡ head_at_first peer head.now) }
 {
     let RequestHead {
         method,
         url,
         version,
         fields,
-    } = head.copied(alloc)?;
+    } = see(alloc, head)?;
     let Ok(fields) = forward(alloc, fields, peer) else {
-        return Err(lost((method, url)));
+        return Err(out_of_memory((method, url)));
     };
     Ok(RequestHead {
         method,
@@ -42,11 +43,11 @@ pub fn open(
 ) -> Result<Next, AllocError>
     ensures { IfOk result (λ next. next ≡ opening number vcl request peer) }
 {
-    let Ok(head) = head_for(alloc, peer, &request.head) else {
-        return Err(lost(request));
+    let Ok(head) = first_head(alloc, peer, &request.head) else {
+        return Err(out_of_memory(request));
     };
     let Ok(context) = first_context(alloc, peer, head) else {
-        return Err(lost(request));
+        return Err(out_of_memory(request));
     };
     Ok(Next::Enter {
         state: State::Recv,
@@ -57,7 +58,7 @@ pub fn open(
             peer,
             asked: request,
             restarts: 0,
-            later: None,
+            background: None,
         },
     })
 }

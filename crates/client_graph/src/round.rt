@@ -1,8 +1,8 @@
 // A round, its states, and where it rests.
 use cache_law::rounds::{Order, Request};
-use cache_law::{Call, ObjectView, Query, Shared};
-use delivery::Delivery;
-use units::Text;
+use cache_law::{Call, ObjectView, Query};
+use delivery::{Delivery, ResponseBody};
+use units::Shared;
 use vcl_context::Context;
 
 /// What a round keeps beside what its subroutines work on.
@@ -18,12 +18,12 @@ pub struct Round {
     /// How often it was restarted, at most 4 times.
     pub restarts: u32,
     /// The fetch that is made behind the response.
-    pub later: Option<Held>,
+    pub background: Option<HeldFetch>,
 }
 
 /// An open fetch that the round holds, by its token.
 #[derive(Drop)]
-pub struct Held {
+pub struct HeldFetch {
     pub token: u64,
     /// The lookup that opened it, and its moment in milliseconds since 1970.
     pub query: Shared<Query>,
@@ -34,17 +34,17 @@ pub struct Held {
 
 /// An object that was found.
 #[derive(Drop)]
-pub struct Shown {
+pub struct FoundObject {
     pub view: ObjectView,
     /// The moment of the lookup, in milliseconds since 1970.
     pub moment: u64,
     /// The fetch of a newer one, where it was told to make one.
-    pub held: Option<Held>,
+    pub held: Option<HeldFetch>,
 }
 
 /// What a key is made for.
 #[derive(Clone, Copy, Debug, PartialEq, Eq)]
-pub enum Wish {
+pub enum KeyUse {
     Lookup,
     Purge,
 }
@@ -53,28 +53,28 @@ pub enum Wish {
 #[derive(Drop)]
 pub enum State {
     Recv,
-    Hash(Wish),
+    Hash(KeyUse),
     Purge,
-    Hit(Shown),
-    Miss(Held),
+    Hit(FoundObject),
+    Miss(HeldFetch),
     Pass,
     /// The body is that of the object that is delivered.
-    Deliver(Text),
+    Deliver(ResponseBody),
     Synth,
 }
 
 /// What is fetched.
 #[derive(Drop)]
-pub enum Errand {
+pub enum FetchKind {
     /// What may be stored.
-    Store(Held),
+    Store(HeldFetch),
     /// The response to a request that is passed, under the number that was drawn at the moment.
     Pass { number: u64, moment: u64 },
 }
 
 /// A place between subroutines, where something is wanted.
 #[derive(Drop)]
-pub enum Spot {
+pub enum WaitPoint {
     /// It looks the key up, again and again while it is told to wait.
     Look {
         query: Shared<Query>,
@@ -95,13 +95,13 @@ pub enum Spot {
         context: Context,
     },
     Fetch {
-        errand: Errand,
+        kind: FetchKind,
         context: Context,
     },
     /// It sends the response that VCL made, with this body.
     Send {
         context: Context,
-        body: Text,
+        body: ResponseBody,
     },
     /// It sends the page of a failed vcl_synth.
     Fail {
@@ -109,7 +109,7 @@ pub enum Spot {
     },
     /// It fetches behind the response.
     Background {
-        held: Held,
+        held: HeldFetch,
         context: Context,
     },
     End,
@@ -127,14 +127,14 @@ pub enum Next {
     },
     /// The round rests.
     Rest {
-        spot: Spot,
+        point: WaitPoint,
         round: Round,
     },
 }
 
 /// What a client wants.
 #[derive(Drop)]
-pub enum Want {
+pub enum ClientWant {
     /// A call of the cache.
     Cache(Call),
     /// A fetch, whose response it waits for.

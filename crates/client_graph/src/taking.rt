@@ -1,22 +1,22 @@
 // Where an answer leads.
 ghost use Rattle.std.specs.Prelude.{◌≡◌, ℕ, true, false, IfOk, option_map};
 ghost use Rattle.vcl_context.specs.declared.context.Context.{Context as Worked};
-ghost use Rattle.client_graph.specs.declared.round.Held.{Held as Open};
+ghost use Rattle.client_graph.specs.declared.round.HeldFetch.{HeldFetch as Open};
 ghost use Rattle.client_graph.specs.Graph.{enter as entered};
 ghost use Rattle.client_graph.specs.Contexts.{marked};
-ghost use Rattle.client_graph.specs.Answers.{held as held_by, hit as hit_next, looked_up as looked, purged as purged_next, dropped as dropped_next, drawn as drawn_next, fetched_object as object_fetched, fetched as fetched_next, sent as sent_next, after_background as behind, takes};
-ghost use Rattle.client_graph.specs.Shown.{confirmable as confirms};
+ghost use Rattle.client_graph.specs.Answers.{held_fetch, hit as hit_next, after_lookup, after_purge, after_drop, after_draw, fetched_object as object_fetched, fetched_body as body_fetched, after_fetch, after_send, after_background as behind, takes};
+ghost use Rattle.client_graph.specs.FoundObject.{confirmable as confirms};
 
 use crate::contexts::{mark, put_object, put_response};
 use crate::dropping::over;
 use crate::finding::{body_of, cached_at, confirmable, opened, passed_at};
 use crate::leading::{enter, fail};
-use crate::{Errand, Held, Next, Round, Shown, Spot, State};
+use crate::{FetchKind, FoundObject, HeldFetch, Next, Round, State, WaitPoint};
 use cache_law::rounds::{FetchOutcome, Given};
-use cache_law::{ObjectView, Query, Reply, Shared};
-use delivery::{Failure, Numbers};
+use cache_law::{ObjectView, Query, Reply};
+use delivery::{Failure, Numbers, ResponseBody};
 use std::alloc::{AllocError, Global};
-use units::{Text, lost};
+use units::{Shared, Text, out_of_memory};
 use vcl_context::{CachedObject, Context};
 
 // The fetch of a newer object, where the lookup gave its token.
@@ -25,17 +25,17 @@ fn held_for(
     view: &ObjectView,
     query: Shared<Query>,
     moment: u64,
-) -> Result<Option<Held>, AllocError>
-    ensures { IfOk result (λ held. held ≡ option_map (λ number. held_by number query moment (confirms view.now)) token) }
+) -> Result<Option<HeldFetch>, AllocError>
+    ensures { IfOk result (λ held. held ≡ option_map (λ number. held_fetch number query moment (confirms view.now)) token) }
 {
     let Some(token) = token else {
         drop(query);
         return Ok(None);
     };
     let Ok(stale) = confirmable(view) else {
-        return Err(lost(query));
+        return Err(out_of_memory(query));
     };
-    Ok(Some(Held {
+    Ok(Some(HeldFetch {
         token,
         query,
         moment,
@@ -56,18 +56,22 @@ fn hit(
     ensures { IfOk result (λ next. next ≡ hit_next view token query context moment round) }
 {
     let Ok(object) = cached_at(alloc, false, &view, moment) else {
-        return Err(lost((view, query, context, round)));
+        return Err(out_of_memory((view, query, context, round)));
     };
     put_object(object, &mut context);
     let Ok(held) = held_for(token, &view, query, moment) else {
-        return Err(lost((view, context, round)));
+        return Err(out_of_memory((view, context, round)));
     };
     mark(false, false, &mut context);
-    Ok(enter(State::Hit(Shown { view, moment, held }), context, round))
+    Ok(enter(
+        State::Hit(FoundObject { view, moment, held }),
+        context,
+        round,
+    ))
 }
 
 // No object was found that is given.
-fn missed(is_hitmiss: bool, held: Held, mut context: Context, round: Round) -> Next
+fn missed(is_hitmiss: bool, held: HeldFetch, mut context: Context, round: Round) -> Next
     ensures { result ≡ entered (State.Miss held) (marked is_hitmiss false context) round }
 {
     mark(is_hitmiss, false, &mut context);
@@ -91,13 +95,13 @@ fn looked_up(
     reply: Reply,
     round: Round,
 ) -> Result<Next, AllocError>
-    ensures { IfOk result (λ next. next ≡ looked query context moment reply round) }
+    ensures { IfOk result (λ next. next ≡ after_lookup query context moment reply round) }
 {
     match reply {
         Reply::Hit(view) => hit(alloc, view, None, query, context, moment, round),
         Reply::Grace { object, token } => hit(alloc, object, token, query, context, moment, round),
         Reply::Miss { token, stale } => {
-            let held = Held {
+            let held = HeldFetch {
                 token,
                 query,
                 moment,
@@ -106,7 +110,7 @@ fn looked_up(
             Ok(missed(false, held, context, round))
         }
         Reply::HitMiss { token } => {
-            let held = Held {
+            let held = HeldFetch {
                 token,
                 query,
                 moment,
@@ -119,7 +123,7 @@ fn looked_up(
             Ok(hit_a_pass(context, round))
         }
         Reply::Wait(_) => Ok(Next::Rest {
-            spot: Spot::Look { query, context },
+            point: WaitPoint::Look { query, context },
             round,
         }),
         other => Ok(over((other, query, context), round)),
@@ -134,7 +138,7 @@ fn take_lookup(
     given: Given,
     round: Round,
 ) -> Result<Next, AllocError>
-    ensures { IfOk result (λ next. next ≡ takes (Spot.Look query context) given round) }
+    ensures { IfOk result (λ next. next ≡ takes (WaitPoint.Look query context) given round) }
 {
     match given {
         Given::Reply(told) => looked_up(alloc, query, context, told.moment, told.reply, round),
@@ -143,7 +147,7 @@ fn take_lookup(
 }
 
 fn purged(context: Context, reply: Reply, round: Round) -> Next
-    ensures { result ≡ purged_next context reply round }
+    ensures { result ≡ after_purge context reply round }
 {
     match reply {
         Reply::Purged(_) => enter(State::Purge, context, round),
@@ -153,7 +157,7 @@ fn purged(context: Context, reply: Reply, round: Round) -> Next
 
 // The key was purged.
 fn take_purge(context: Context, given: Given, round: Round) -> Next
-    ensures { result ≡ takes (Spot.Purge context) given round }
+    ensures { result ≡ takes (WaitPoint.Purge context) given round }
 {
     match given {
         Given::Reply(told) => purged(context, told.reply, round),
@@ -163,7 +167,7 @@ fn take_purge(context: Context, given: Given, round: Round) -> Next
 
 // The fetch is given up.
 fn dropped(state: State, context: Context, reply: Reply, round: Round) -> Next
-    ensures { result ≡ dropped_next state context reply round }
+    ensures { result ≡ after_drop state context reply round }
 {
     match reply {
         Reply::Dropped => Next::Enter {
@@ -176,7 +180,7 @@ fn dropped(state: State, context: Context, reply: Reply, round: Round) -> Next
 }
 
 fn take_drop(state: State, context: Context, given: Given, round: Round) -> Next
-    ensures { (token : ℕ) → result ≡ takes (Spot.Drop token state context) given round }
+    ensures { (token : ℕ) → result ≡ takes (WaitPoint.Drop token state context) given round }
 {
     match given {
         Given::Reply(told) => dropped(state, context, told.reply, round),
@@ -185,12 +189,12 @@ fn take_drop(state: State, context: Context, given: Given, round: Round) -> Next
 }
 
 fn drawn(context: Context, moment: u64, reply: Reply, round: Round) -> Next
-    ensures { result ≡ drawn_next context moment reply round }
+    ensures { result ≡ after_draw context moment reply round }
 {
     match reply {
         Reply::Drawn(number) => Next::Rest {
-            spot: Spot::Fetch {
-                errand: Errand::Pass { number, moment },
+            point: WaitPoint::Fetch {
+                kind: FetchKind::Pass { number, moment },
                 context,
             },
             round,
@@ -201,7 +205,7 @@ fn drawn(context: Context, moment: u64, reply: Reply, round: Round) -> Next
 
 // A number was drawn.
 fn take_number(context: Context, given: Given, round: Round) -> Next
-    ensures { result ≡ takes (Spot.Draw context) given round }
+    ensures { result ≡ takes (WaitPoint.Draw context) given round }
 {
     match given {
         Given::Reply(told) => drawn(context, told.moment, told.reply, round),
@@ -212,33 +216,47 @@ fn take_number(context: Context, given: Given, round: Round) -> Next
 // The object that vcl_deliver reads.
 fn fetched_object(
     alloc: Global,
-    errand: &Errand,
+    kind: &FetchKind,
     uncacheable: bool,
     view: &ObjectView,
     moment: u64,
 ) -> Result<CachedObject, AllocError>
-    ensures { IfOk result (λ object. object ≡ object_fetched errand.now uncacheable view.now moment) }
+    ensures { IfOk result (λ object. object ≡ object_fetched kind.now uncacheable view.now moment) }
 {
-    match errand {
-        Errand::Store(_) => cached_at(alloc, uncacheable, view, moment),
-        Errand::Pass { .. } => passed_at(alloc, view, moment),
+    match kind {
+        FetchKind::Store(_) => cached_at(alloc, uncacheable, view, moment),
+        FetchKind::Pass { .. } => passed_at(alloc, view, moment),
+    }
+}
+
+// The body that is sent of its response.
+fn fetched_body(
+    alloc: Global,
+    kind: &FetchKind,
+    view: &ObjectView,
+) -> Result<ResponseBody, AllocError>
+    ensures { IfOk result (λ body. body ≡ body_fetched kind.now view.now) }
+{
+    match kind {
+        FetchKind::Store(_) => body_of(alloc, &view.object, false),
+        FetchKind::Pass { .. } => body_of(alloc, &view.object, true),
     }
 }
 
 // The response of a fetch is delivered.
 fn deliver_fetched(
     alloc: Global,
-    errand: &Errand,
+    kind: &FetchKind,
     mut context: Context,
     view: &ObjectView,
     moment: u64,
     uncacheable: bool,
     round: Round,
 ) -> Result<Next, AllocError>
-    ensures { IfOk result (λ next. next ≡ fetched_next errand.now context (FetchOutcome.Delivered view.now moment uncacheable) round) }
+    ensures { IfOk result (λ next. next ≡ after_fetch kind.now context (FetchOutcome.Delivered view.now moment uncacheable) round) }
 {
-    let Ok(object) = fetched_object(alloc, errand, uncacheable, view, moment) else {
-        return Err(lost((context, round)));
+    let Ok(object) = fetched_object(alloc, kind, uncacheable, view, moment) else {
+        return Err(out_of_memory((context, round)));
     };
     put_object(object, &mut context);
     let numbers = Numbers {
@@ -246,11 +264,11 @@ fn deliver_fetched(
         object: None,
     };
     let Ok(response) = opened(alloc, numbers, view, moment) else {
-        return Err(lost((context, round)));
+        return Err(out_of_memory((context, round)));
     };
     put_response(response, &mut context);
-    let Ok(body) = body_of(alloc, &view.object) else {
-        return Err(lost((context, round)));
+    let Ok(body) = fetched_body(alloc, kind, view) else {
+        return Err(out_of_memory((context, round)));
     };
     Ok(enter(State::Deliver(body), context, round))
 }
@@ -258,19 +276,19 @@ fn deliver_fetched(
 // The fetch is over.
 fn fetched(
     alloc: Global,
-    errand: &Errand,
+    kind: &FetchKind,
     context: Context,
     outcome: &FetchOutcome,
     round: Round,
 ) -> Result<Next, AllocError>
-    ensures { IfOk result (λ next. next ≡ fetched_next errand.now context outcome.now round) }
+    ensures { IfOk result (λ next. next ≡ after_fetch kind.now context outcome.now round) }
 {
     match outcome {
         FetchOutcome::Delivered {
             object,
             moment,
             uncacheable,
-        } => deliver_fetched(alloc, errand, context, object, *moment, *uncacheable, round),
+        } => deliver_fetched(alloc, kind, context, object, *moment, *uncacheable, round),
         FetchOutcome::Failed => fail(alloc, Failure::FetchFailed, context, round),
         FetchOutcome::Ended => Ok(over(context, round)),
     }
@@ -278,43 +296,43 @@ fn fetched(
 
 fn take_outcome(
     alloc: Global,
-    errand: Errand,
+    kind: FetchKind,
     context: Context,
     given: Given,
     round: Round,
 ) -> Result<Next, AllocError>
-    ensures { IfOk result (λ next. next ≡ takes (Spot.Fetch errand context) given round) }
+    ensures { IfOk result (λ next. next ≡ takes (WaitPoint.Fetch kind context) given round) }
 {
     match given {
         Given::Fetched(outcome) => {
-            let next = fetched(alloc, &errand, context, &outcome, round);
-            drop((errand, outcome));
+            let next = fetched(alloc, &kind, context, &outcome, round);
+            drop((kind, outcome));
             next
         }
-        other => Ok(over((other, errand, context), round)),
+        other => Ok(over((other, kind, context), round)),
     }
 }
 
 // The response was sent.
 fn sent(context: Context, mut round: Round) -> Next
-    ensures { result ≡ sent_next context round.later round }
+    ensures { result ≡ after_send context round.background round }
 {
-    let Some(held) = round.later.take() else {
+    let Some(held) = round.background.take() else {
         drop(context);
         return Next::Rest {
-            spot: Spot::End,
+            point: WaitPoint::End,
             round,
         };
     };
     Next::Rest {
-        spot: Spot::Background { held, context },
+        point: WaitPoint::Background { held, context },
         round,
     }
 }
 
 // The response was sent, if that is what is given.
 fn sent_if(given: Given, context: Context, round: Round) -> Next
-    ensures { result ≡ takes (Spot.Fail context) given round }
+    ensures { result ≡ takes (WaitPoint.Fail context) given round }
 {
     match given {
         Given::Sent => sent(context, round),
@@ -327,7 +345,7 @@ fn after_background(outcome: FetchOutcome, round: Round) -> Next
 {
     match outcome {
         FetchOutcome::Ended => Next::Rest {
-            spot: Spot::End,
+            point: WaitPoint::End,
             round,
         },
         other => over(other, round),
@@ -335,7 +353,7 @@ fn after_background(outcome: FetchOutcome, round: Round) -> Next
 }
 
 fn take_background(given: Given, round: Round) -> Next
-    ensures { (held : Open) (context : Worked) → result ≡ takes (Spot.Background held context) given round }
+    ensures { (held : Open) (context : Worked) → result ≡ takes (WaitPoint.Background held context) given round }
 {
     match given {
         Given::Fetched(outcome) => after_background(outcome, round),
@@ -344,28 +362,28 @@ fn take_background(given: Given, round: Round) -> Next
 }
 
 /// Where an answer leads from a place, by `takes` of `specs/Answers.antt`.
-pub fn take(alloc: Global, spot: Spot, given: Given, round: Round) -> Result<Next, AllocError>
-    ensures { IfOk result (λ next. next ≡ takes spot given round) }
+pub fn take(alloc: Global, point: WaitPoint, given: Given, round: Round) -> Result<Next, AllocError>
+    ensures { IfOk result (λ next. next ≡ takes point given round) }
 {
-    match spot {
-        Spot::Look { query, context } => take_lookup(alloc, query, context, given, round),
-        Spot::Purge { context } => Ok(take_purge(context, given, round)),
-        Spot::Drop {
+    match point {
+        WaitPoint::Look { query, context } => take_lookup(alloc, query, context, given, round),
+        WaitPoint::Purge { context } => Ok(take_purge(context, given, round)),
+        WaitPoint::Drop {
             token: _,
             state,
             context,
         } => Ok(take_drop(state, context, given, round)),
-        Spot::Draw { context } => Ok(take_number(context, given, round)),
-        Spot::Fetch { errand, context } => take_outcome(alloc, errand, context, given, round),
-        Spot::Send { context, body } => {
+        WaitPoint::Draw { context } => Ok(take_number(context, given, round)),
+        WaitPoint::Fetch { kind, context } => take_outcome(alloc, kind, context, given, round),
+        WaitPoint::Send { context, body } => {
             drop(body);
             Ok(sent_if(given, context, round))
         }
-        Spot::Fail { context } => Ok(sent_if(given, context, round)),
-        Spot::Background { held, context } => {
+        WaitPoint::Fail { context } => Ok(sent_if(given, context, round)),
+        WaitPoint::Background { held, context } => {
             drop((held, context));
             Ok(take_background(given, round))
         }
-        Spot::End | Spot::Over => Ok(over(given, round)),
+        WaitPoint::End | WaitPoint::Over => Ok(over(given, round)),
     }
 }

@@ -1,3 +1,4 @@
+pub mod BanWords
 pub mod Lowering
 pub mod OneWant
 pub mod Tidy

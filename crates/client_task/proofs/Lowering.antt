@@ -1,11 +1,11 @@
 -- Each arrow of the client's graph leads to where fewer subroutines may still run.
 use Rattle.std.proofs.Common.{◌≡◌, ℕ, ◌+◌, ◌*◌, ◌-◌, ◌<◌, Bool, true, false, Option, Some, None, refl, sym, subst, arith}
 use Rattle.vcl_context.specs.declared.context.Context.{Context}
-use Rattle.vcl_turns.specs.declared.turn.Return.{Return}
-use Rattle.vcl_turns.specs.declared.turn.Return.TheVariants as word
+use Rattle.vcl_context.specs.declared.turn.Return.{Return}
+use Rattle.vcl_context.specs.declared.turn.Return.TheVariants as word
 use Rattle.client_graph.specs.declared.round.Round.{Round}
-use Rattle.client_graph.specs.declared.round.Held.{Held}
-use Rattle.client_graph.specs.declared.round.Wish.TheVariants as wish
+use Rattle.client_graph.specs.declared.round.HeldFetch.{HeldFetch}
+use Rattle.client_graph.specs.declared.round.KeyUse.TheVariants as key_use
 use Rattle.client_graph.specs.declared.round.State.{State}
 use Rattle.client_graph.specs.declared.round.State.TheVariants as state
 use Rattle.client_graph.specs.declared.round.Next.{Next}
@@ -24,17 +24,17 @@ common-lower word.Restart c r k h = restart-lower (may_restart r) c r k refl h
 common-lower w c r k h = omega (arith, h)
 
 -- giving up a fetch rests
-giving-lower : (held : Option Held) (next : Next) (k : ℕ) → weight_of next < k → weight_of (giving_up held next) < k
+giving-lower : (held : Option HeldFetch) (next : Next) (k : ℕ) → weight_of next < k → weight_of (giving_up held next) < k
 giving-lower None next k h = h
 giving-lower (Some held) (Enter s c r) k h = omega (arith, h)
-giving-lower (Some held) (Rest spot r) k h = h
+giving-lower (Some held) (Rest point r) k h = h
 
 late-lower : (b : Bool) (c : Context) (r : Round) → may_restart r ≡ b → weight_of (late_restart b c r) < 8 * (4 - r.restarts) + 2
-late-lower true c r e = giving-lower r.later (restarted c (record r { later = None })) (8 * (4 - r.restarts) + 2) (let few : r.restarts < 4 = ltb-true r.restarts 4 e in omega (arith, few))
+late-lower true c r e = giving-lower r.background (restarted c (record r { background = None })) (8 * (4 - r.restarts) + 2) (let few : r.restarts < 4 = ltb-true r.restarts 4 e in omega (arith, few))
 late-lower false c r e = omega arith
 
 last-lower : (b : Bool) (c : Context) (r : Round) → may_restart r ≡ b → weight_of (last_restart b c r) < 8 * (4 - r.restarts) + 1
-last-lower true c r e = giving-lower r.later (restarted c (record r { later = None })) (8 * (4 - r.restarts) + 1) (let few : r.restarts < 4 = ltb-true r.restarts 4 e in omega (arith, few))
+last-lower true c r e = giving-lower r.background (restarted c (record r { background = None })) (8 * (4 - r.restarts) + 1) (let few : r.restarts < 4 = ltb-true r.restarts 4 e in omega (arith, few))
 last-lower false c r e = omega arith
 
 pub leads-lower : (s : State) (w : Return) (c : Context) (r : Round) → weight_of (leads s w c r) < weight s r
@@ -42,13 +42,13 @@ leads-lower state.Recv word.Hash c r = omega arith
 leads-lower state.Recv word.Purge c r = omega arith
 leads-lower state.Recv word.Pass c r = omega arith
 leads-lower state.Recv w c r = common-lower w c r 7 (omega arith)
-leads-lower (state.Hash wish.Lookup) word.Lookup c r = omega arith
-leads-lower (state.Hash wish.Purge) word.Lookup c r = omega arith
-leads-lower (state.Hash wish.Lookup) w c r = common-lower w c r 6 (omega arith)
-leads-lower (state.Hash wish.Purge) w c r = common-lower w c r 6 (omega arith)
-leads-lower (state.Hit shown) word.Deliver c r = omega arith
-leads-lower (state.Hit shown) word.Pass c r = giving-lower shown.held (enter state.Pass c r) (weight (state.Hit shown) r) (omega arith)
-leads-lower (state.Hit shown) w c r = giving-lower shown.held (common w c r) (weight (state.Hit shown) r) (common-lower w c r 5 (omega arith))
+leads-lower (state.Hash key_use.Lookup) word.Lookup c r = omega arith
+leads-lower (state.Hash key_use.Purge) word.Lookup c r = omega arith
+leads-lower (state.Hash key_use.Lookup) w c r = common-lower w c r 6 (omega arith)
+leads-lower (state.Hash key_use.Purge) w c r = common-lower w c r 6 (omega arith)
+leads-lower (state.Hit found) word.Deliver c r = omega arith
+leads-lower (state.Hit found) word.Pass c r = giving-lower found.held (enter state.Pass c r) (weight (state.Hit found) r) (omega arith)
+leads-lower (state.Hit found) w c r = giving-lower found.held (common w c r) (weight (state.Hit found) r) (common-lower w c r 5 (omega arith))
 leads-lower (state.Miss held) word.Fetch c r = omega arith
 leads-lower (state.Miss held) word.Pass c r = omega arith
 leads-lower (state.Miss held) w c r = giving-lower (Some held) (common w c r) (weight (state.Miss held) r) (common-lower w c r 4 (omega arith))

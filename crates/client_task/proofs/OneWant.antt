@@ -1,24 +1,23 @@
 -- After the same givens a round stands at one place and wants one thing.
 use Rattle.std.specs.Prelude.{⊤}
-use Rattle.std.proofs.Common.{◌≡◌, ℕ, List, [], ◌∷◌, refl, sym, ◌∙◌, ap, subst, inl, inr}
-use Rattle.cli_words.proofs.Reading.{words_same}
+use Rattle.std.proofs.Common.{◌≡◌, ℕ, List, [], ◌∷◌, refl, sym, ◌∙◌, ap, subst}
 use Rattle.ban_expr.proofs.Ones.{one_reading, refusal_reads}
 use Rattle.ban_expr.specs.Reading.{Reads, IsRefusal}
 use Rattle.cache_law.specs.declared.ban.Ban.{Ban}
 use Rattle.cache_law.specs.declared.ban.Condition.{Condition}
 use Rattle.cache_law.specs.declared.rounds.Given.{Given}
 use Rattle.vcl_context.specs.declared.context.Context.{Context}
-use Rattle.vcl_turns.specs.declared.turn.Return.{Return}
-use Rattle.vcl_turns.specs.declared.turn.Command.{Command}
-use Rattle.vcl_turns.specs.declared.turn.Command.TheVariants as command
-use Rattle.vcl_turns.specs.declared.turn.Turn.{Turn}
-use Rattle.vcl_turns.specs.declared.turn.Turn.TheVariants as turn
+use Rattle.vcl_context.specs.declared.turn.Return.{Return}
+use Rattle.vcl_context.specs.declared.turn.Command.{Command}
+use Rattle.vcl_context.specs.declared.turn.Command.TheVariants as command
+use Rattle.vcl_context.specs.declared.turn.Turn.{Turn}
+use Rattle.vcl_context.specs.declared.turn.Turn.TheVariants as turn
 use Rattle.vcl_runs.specs.Runs.{Ran}
 use Rattle.client_graph.specs.declared.round.Round.{Round}
 use Rattle.client_graph.specs.declared.round.State.{State}
 use Rattle.client_graph.specs.declared.round.Next.{Next}
-use Rattle.client_graph.specs.declared.round.Want.{Want}
-use Rattle.client_graph.specs.declared.round.Want.TheVariants.{Cache}
+use Rattle.client_graph.specs.declared.round.ClientWant.{ClientWant}
+use Rattle.client_graph.specs.declared.round.ClientWant.TheVariants.{Cache}
 use Rattle.cache_law.specs.declared.call.Call.{Call}
 use Rattle.cache_law.specs.declared.call.Call.TheVariants as call
 use Rattle.client_graph.specs.Graph.{leads}
@@ -35,18 +34,16 @@ ban_with words conditions = record { words = words; conditions = conditions }
 -- a text says one ban
 one-ban : (text : List ℕ) (a b : Ban) → IsBan text a → IsBan text b → b ≡ a
 one-ban text a b p q =
-    let words : b.words ≡ a.words = words_same b.words a.words text q.words.1 p.words.1 in
+    let words : b.words ≡ a.words = q.words ∙ sym p.words in
     let read : Reads a.words b.conditions = subst (λ (w : List (List ℕ)). Reads w b.conditions) words q.conditions in
     let conditions : b.conditions ≡ a.conditions = one_reading a.words b.conditions a.conditions read p.conditions in
     ap (λ (x : List (List ℕ)). ban_with x b.conditions) words ∙ ap (ban_with a.words) conditions
 
 -- and one that says a ban isn't one that says none
 ban-is-one : (text : List ℕ) (a : Ban) → IsBan text a → IsNoBan text → ⊥
-ban-is-one text a p (inl none) = none a.words p.words
-ban-is-one text a p (inr h) =
-    let same : h.0 ≡ a.words = words_same h.0 a.words text h.1.1 p.words.1 in
-    let refused : IsRefusal a.words h.2.0 = subst (λ (w : List (List ℕ)). IsRefusal w h.2.0) same h.2.2 in
-    h.2.1 (refusal_reads a.words h.2.0 a.conditions refused p.conditions)
+ban-is-one text a p h =
+    let refused : IsRefusal a.words h.0 = subst (λ (w : List (List ℕ)). IsRefusal w h.0) (sym p.words) h.2 in
+    h.1 (refusal_reads a.words h.0 a.conditions refused p.conditions)
 
 -- a command asks for one call, or for none
 asks-one : (command : Command) (asked other : Asked) (call later : Call) → Asks command asked call → Asks command other later → (other ≡ asked) × (later ≡ call)
@@ -59,7 +56,7 @@ asks-something (command.Ban text) asked call p q = ban-is-one text p.0 p.1 q
 asks-something (command.Xkey keys soft) asked call p q = q
 
 -- what lies behind a turn
-abbrev BehindEnd : Evaluator → State → Round → Node → Want → Turn → Type 0
+abbrev BehindEnd : Evaluator → State → Round → Node → ClientWant → Turn → Type 0
 BehindEnd e s r n w (turn.End word context) = Settles e (Moves (leads s word context r)) n w
 BehindEnd e s r n w (turn.Need command) = ⊥
 
@@ -79,8 +76,8 @@ not-both : (e : Evaluator) → OneTurn e → (ran : Ran) (command : Command) (wo
     → e.turns ran (turn.End word context) → e.turns ran (turn.Need command) → ⊥
 not-both e o ran command word context p q = subst IsNeed (o ran (turn.End word context) (turn.Need command) p q) tt
 
-pub settles-one : (e : Evaluator) → OneTurn e → {step : Step} {n m : Node} {w v : Want} → Settles e step n w → Settles e step m v → (m ≡ n) × (v ≡ w)
-settles-one e o (rests spot round) (rests other later) = (refl, refl)
+pub settles-one : (e : Evaluator) → OneTurn e → {step : Step} {n m : Node} {w v : ClientWant} → Settles e step n w → Settles e step m v → (m ≡ n) × (v ≡ w)
+settles-one e o (rests point round) (rests other later) = (refl, refl)
 settles-one e o (enters p) (enters q) = settles-one e o p q
 settles-one e o {m = m} {v = v} (ends {state = s} {ran = ran} {round = r} word context t p) (ends other later u q) =
     settles-one e o p (subst (BehindEnd e s r m v) (o ran (turn.End word context) (turn.End other later) t u) q)
@@ -104,7 +101,7 @@ reaches-one e o opening (given ∷ givens) n m p q =
     let same : q.0 ≡ p.0 = reaches-one e o opening givens p.0 q.0 p.2 q.2 in
     (settles-one e o p.3 (subst (λ (x : Node). Settles e (step_of x given) m q.1) same q.3)).0
 
-pub wants-one : (e : Evaluator) → OneTurn e → (opening : Next) (givens : List Given) (w v : Want) → Wants e opening givens w → Wants e opening givens v → v ≡ w
+pub wants-one : (e : Evaluator) → OneTurn e → (opening : Next) (givens : List Given) (w v : ClientWant) → Wants e opening givens w → Wants e opening givens v → v ≡ w
 wants-one e o opening [] w v p q = absurd p
 wants-one e o opening (given ∷ givens) w v p q =
     let same : q.0 ≡ p.0 = reaches-one e o opening givens p.0 q.0 p.2 q.2 in

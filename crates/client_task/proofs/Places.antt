@@ -1,8 +1,8 @@
 -- Which node a place is.
 use Rattle.std.specs.Prelude.{⊤}
 use Rattle.std.proofs.Common.{◌≡◌, ◌≢◌, ℕ, min, List, [], ◌∷◌, Option, Some, None, refl, sym, ◌∙◌, ap, subst, arith}
-use Rattle.vcl_turns.specs.declared.turn.Answer.{Answer}
-use Rattle.vcl_turns.specs.declared.turn.Answer.TheVariants.{Number}
+use Rattle.vcl_context.specs.declared.turn.Answer.{Answer}
+use Rattle.vcl_context.specs.declared.turn.Answer.TheVariants.{Number}
 use Rattle.vcl_runs.specs.Runs.{Ran, answered}
 use Rattle.cache_law.specs.declared.cache.Told.{Told}
 use Rattle.cache_law.specs.declared.call.Reply.{Reply}
@@ -11,7 +11,7 @@ use Rattle.cache_law.specs.declared.rounds.Given.{Given}
 use Rattle.cache_law.specs.declared.rounds.Given.TheVariants as gifts
 use Rattle.client_graph.specs.declared.round.Round.{Round}
 use Rattle.client_graph.specs.declared.round.State.{State}
-use Rattle.client_graph.specs.declared.round.Spot.{Spot}
+use Rattle.client_graph.specs.declared.round.WaitPoint.{WaitPoint}
 use Rattle.client_graph.specs.declared.round.Next.{Next}
 use Rattle.client_graph.specs.Answers.{takes, over}
 use Rattle.client_task.specs.declared.settling.Settled.{Settled}
@@ -31,14 +31,14 @@ pub at-before : {M : Type 0} (stands : M → Ran → Type 0) (fits : M → Answe
     → P (Before next) → AtEachNode stands fits (places.Before next) P
 at-before stands fits next P h (Before other) same = subst (λ (n : Next). P (Before n)) same h
 at-before stands fits next P h (Inside asked state ran round) same = absurd same
-at-before stands fits next P h (Between spot round) same = absurd same
+at-before stands fits next P h (Between point round) same = absurd same
 
-pub at-between : {M : Type 0} (stands : M → Ran → Type 0) (fits : M → Answer → Type 0) (spot : Spot) (round : Round) (P : Node → Type 0)
-    → P (Between spot round) → AtEachNode stands fits (places.Between spot round) P
-at-between stands fits spot round P h (Before other) same = absurd same
-at-between stands fits spot round P h (Inside asked state ran other) same = absurd same
-at-between stands fits spot round P h (Between one other) same =
-    subst (λ (r : Round). P (Between one r)) same.1 (subst (λ (s : Spot). P (Between s round)) same.0 h)
+pub at-between : {M : Type 0} (stands : M → Ran → Type 0) (fits : M → Answer → Type 0) (point : WaitPoint) (round : Round) (P : Node → Type 0)
+    → P (Between point round) → AtEachNode stands fits (places.Between point round) P
+at-between stands fits point round P h (Before other) same = absurd same
+at-between stands fits point round P h (Inside asked state ran other) same = absurd same
+at-between stands fits point round P h (Between one other) same =
+    subst (λ (r : Round). P (Between one r)) same.1 (subst (λ (s : WaitPoint). P (Between s round)) same.0 h)
 
 pub at-inside : {M : Type 0} (stands : M → Ran → Type 0) (fits : M → Answer → Type 0) (asked : Asked) (state : State) (run : M) (round : Round) (P : Node → Type 0)
     → ((ran : Ran) → stands run ran → P (Inside asked state ran round)) → AtEachNode stands fits (places.Inside asked state run round) P
@@ -46,21 +46,21 @@ at-inside stands fits asked state run round P h (Before other) same = absurd sam
 at-inside stands fits asked state run round P h (Inside one other ran later) same =
     subst (λ (r : Round). P (Inside one other ran r)) same.2
     (subst (λ (s : State). P (Inside one s ran round)) same.1 (subst (λ (a : Asked). P (Inside a state ran round)) same.0 (h ran same.3)))
-at-inside stands fits asked state run round P h (Between spot other) same = absurd same
+at-inside stands fits asked state run round P h (Between point other) same = absurd same
 
 -- a place that is a node may go on, and is ready where a subroutine asked
 pub goes-on : {M : Type 0} (stands : M → Ran → Type 0) (fits : M → Answer → Type 0) (place : Place M) (node : Node)
     → IsAt stands fits place node → MayGoOn stands fits place
 goes-on stands fits (places.Before next) node h = (node, h)
 goes-on stands fits (places.Inside asked state run round) node h = (node, h)
-goes-on stands fits (places.Between spot round) node h = (node, h)
+goes-on stands fits (places.Between point round) node h = (node, h)
 goes-on stands fits places.Broken node h = tt
 
 pub stood-inside : {M : Type 0} (stands : M → Ran → Type 0) (fits : M → Answer → Type 0) (asked : Asked) (state : State) (run : M) (round : Round) (node : Node)
     → IsAt stands fits (places.Inside asked state run round) node → ((ran : Ran) × stands run ran) × IsReady (fits run) asked
 stood-inside stands fits asked state run round (Before other) h = absurd h
 stood-inside stands fits asked state run round (Inside one other ran later) h = ((ran, h.3), h.4)
-stood-inside stands fits asked state run round (Between spot other) h = absurd h
+stood-inside stands fits asked state run round (Between point other) h = absurd h
 
 -- What settles the next step at each node that a place is, is where the round stands next, and what it wants.
 abbrev pub SettlesEach : {M : Type 0} → Evaluator → (M → Ran → Type 0) → (M → Answer → Type 0) → Place M → Given → Settled M → Type 0
@@ -84,7 +84,7 @@ pub goes-on-next : {M : Type 0} (e : Evaluator) (stands : M → Ran → Type 0) 
     → SettlesEach e stands fits place given settled → MayGoOn stands fits place → place ≢ places.Broken → MayGoOn stands fits settled.place
 goes-on-next e stands fits (places.Before next) given settled h may n = let s = h may.0 may.1 in goes-on stands fits settled.place s.0 s.1
 goes-on-next e stands fits (places.Inside asked state run round) given settled h may n = let s = h may.0 may.1 in goes-on stands fits settled.place s.0 s.1
-goes-on-next e stands fits (places.Between spot round) given settled h may n = let s = h may.0 may.1 in goes-on stands fits settled.place s.0 s.1
+goes-on-next e stands fits (places.Between point round) given settled h may n = let s = h may.0 may.1 in goes-on stands fits settled.place s.0 s.1
 goes-on-next e stands fits places.Broken given settled h may n = absurd (n refl)
 
 abbrev IsBroken : {M : Type 0} → Place M → Type 0
@@ -97,8 +97,8 @@ not-broken-before {M} at next same broken = subst (λ (p : Place M). IsBroken p)
 pub not-broken-inside : {M : Type 0} (at : Place M) (asked : Asked) (state : State) (run : M) (round : Round) → at ≡ places.Inside asked state run round → at ≡ places.Broken → ⊥
 not-broken-inside {M} at asked state run round same broken = subst (λ (p : Place M). IsBroken p) same (subst (λ (p : Place M). IsBroken p) (sym broken) tt)
 
-pub not-broken-between : {M : Type 0} (at : Place M) (spot : Spot) (round : Round) → at ≡ places.Between spot round → at ≡ places.Broken → ⊥
-not-broken-between {M} at spot round same broken = subst (λ (p : Place M). IsBroken p) same (subst (λ (p : Place M). IsBroken p) (sym broken) tt)
+pub not-broken-between : {M : Type 0} (at : Place M) (point : WaitPoint) (round : Round) → at ≡ places.Between point round → at ≡ places.Broken → ⊥
+not-broken-between {M} at point round same broken = subst (λ (p : Place M). IsBroken p) same (subst (λ (p : Place M). IsBroken p) (sym broken) tt)
 
 -- what settles where a place of each kind leads settles it at each node that the place is
 pub settles-before : {M : Type 0} (e : Evaluator) (stands : M → Ran → Type 0) (fits : M → Answer → Type 0) (at : Place M) (next : Next) (given : Given) (settled : Settled M)
@@ -107,11 +107,11 @@ settles-before {M} e stands fits at next given settled same h =
     subst (λ (p : Place M). SettlesEach e stands fits p given settled) (sym same)
     (at-before stands fits next (λ node. SettlesAt e stands fits (step_of node given) settled) h)
 
-pub settles-between : {M : Type 0} (e : Evaluator) (stands : M → Ran → Type 0) (fits : M → Answer → Type 0) (at : Place M) (spot : Spot) (round : Round) (next : Next) (given : Given) (settled : Settled M)
-    → at ≡ places.Between spot round → next ≡ takes spot given round → SettlesAt e stands fits (Moves next) settled → SettlesEach e stands fits at given settled
-settles-between {M} e stands fits at spot round next given settled same led h =
+pub settles-between : {M : Type 0} (e : Evaluator) (stands : M → Ran → Type 0) (fits : M → Answer → Type 0) (at : Place M) (point : WaitPoint) (round : Round) (next : Next) (given : Given) (settled : Settled M)
+    → at ≡ places.Between point round → next ≡ takes point given round → SettlesAt e stands fits (Moves next) settled → SettlesEach e stands fits at given settled
+settles-between {M} e stands fits at point round next given settled same led h =
     subst (λ (p : Place M). SettlesEach e stands fits p given settled) (sym same)
-    (at-between stands fits spot round (λ node. SettlesAt e stands fits (step_of node given) settled)
+    (at-between stands fits point round (λ node. SettlesAt e stands fits (step_of node given) settled)
     (subst (λ (n : Next). SettlesAt e stands fits (Moves n) settled) led h))
 
 pub settles-inside : {M : Type 0} (e : Evaluator) (stands : M → Ran → Type 0) (fits : M → Answer → Type 0) (at : Place M) (asked : Asked) (state : State) (run : M) (round : Round) (given : Given) (settled : Settled M)

@@ -8,9 +8,9 @@ use Rattle.client_graph.specs.Graph.{subroutine_of}
 
 pub no-init : (s : State) → has Init (subroutine_of s) ≡ false
 no-init state.Recv = refl
-no-init (state.Hash wish) = refl
+no-init (state.Hash key_use) = refl
 no-init state.Purge = refl
-no-init (state.Hit shown) = refl
+no-init (state.Hit found) = refl
 no-init (state.Miss held) = refl
 no-init state.Pass = refl
 no-init (state.Deliver body) = refl

@@ -1,6 +1,5 @@
 -- What a subroutine's command asks of the cache (vcl(7), "ban"; vmod_xkey(3)).
-use Rattle.std.specs.Prelude.{◌≡◌, ◌≢◌, ◌⊎◌, ℕ, ℤ, pos, min, List, filter, Option, Some, None}
-use Rattle.cli_words.specs.Words.{HasWords}
+use Rattle.std.specs.Prelude.{◌≡◌, ◌≢◌, ℕ, ℤ, pos, min, List, filter, Option, Some, None}
 use Rattle.ban_expr.specs.Reading.{Reads, IsRefusal}
 use Rattle.ban_expr.specs.declared.error.BanError.{BanError}
 use Rattle.ban_expr.specs.declared.error.BanError.TheVariants.{NoMemory}
@@ -9,27 +8,28 @@ use Rattle.cache_law.specs.declared.call.Call.{Call}
 use Rattle.cache_law.specs.declared.call.Call.TheVariants as call
 use Rattle.cache_law.specs.declared.call.Reply.{Reply}
 use Rattle.cache_law.specs.declared.call.Reply.TheVariants.{Banned, Purged}
-use Rattle.message_fields.specs.declared.parts.Separators.TheVariants.{CommasAndBlanks}
-use Rattle.message_fields.specs.Lists.{parts, is_full}
-use Rattle.vcl_turns.specs.declared.turn.Answer.{Answer}
-use Rattle.vcl_turns.specs.declared.turn.Command.{Command}
-use Rattle.vcl_turns.specs.declared.turn.Command.TheVariants as command
-use Rattle.vcl_turns.specs.declared.turn.Answer.TheVariants.{Done, Number}
+use Rattle.http_heads.specs.declared.parts.Separators.TheVariants.{CommasAndBlanks}
+use Rattle.http_heads.specs.Lists.{parts, is_full}
+use Rattle.vcl_context.specs.declared.turn.Answer.{Answer}
+use Rattle.vcl_context.specs.declared.turn.Command.{Command}
+use Rattle.vcl_context.specs.declared.turn.Command.TheVariants as command
+use Rattle.vcl_context.specs.declared.turn.Answer.TheVariants.{Done, Number}
+use Rattle.client_task.specs.BanWords.{words_of}
 use Rattle.client_task.specs.declared.place.Asked.{Asked}
 use Rattle.client_task.specs.declared.place.Asked.TheVariants as asked
 
 -- the text is this ban
 pub record IsBan (text : List ℕ) (ban : Ban) : Type 0 where
-  pub words : HasWords text ban.words
+  pub words : ban.words ≡ words_of text
   pub conditions : Reads ban.words ban.conditions
 
 -- the words say no ban
 abbrev pub SayNone : List (List ℕ) → Type 0
 SayNone words = (error : BanError) × (error ≢ NoMemory) × IsRefusal words error
 
--- the text is no ban: it has no words, or they say none
+-- the text is no ban
 abbrev pub IsNoBan : List ℕ → Type 0
-IsNoBan text = ((words : List (List ℕ)) → HasWords text words → ⊥) ⊎ ((words : List (List ℕ)) × HasWords text words × SayNone words)
+IsNoBan text = SayNone (words_of text)
 
 -- the keys of a purge
 abbrev pub keys_of : List ℕ → List (List ℕ)

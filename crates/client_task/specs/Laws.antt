@@ -10,21 +10,21 @@ use Rattle.cache_law.specs.declared.rounds.Given.TheVariants as given
 use Rattle.client_graph.specs.declared.round.Round.{Round}
 use Rattle.client_graph.specs.declared.round.Next.{Next}
 use Rattle.client_graph.specs.declared.round.Next.TheVariants.{Enter, Rest}
-use Rattle.client_graph.specs.declared.round.Want.{Want}
-use Rattle.client_graph.specs.declared.round.Want.TheVariants as want
+use Rattle.client_graph.specs.declared.round.ClientWant.{ClientWant}
+use Rattle.client_graph.specs.declared.round.ClientWant.TheVariants as want
 
 abbrev pub round_of : Next → Round
 round_of (Enter state context round) = round
-round_of (Rest spot round) = round
+round_of (Rest point round) = round
 
 -- a fetch is asked for under the VCL of this number
-abbrev pub IsUnder : ℕ → Want → Type 0
+abbrev pub IsUnder : ℕ → ClientWant → Type 0
 IsUnder vcl (want.Fetch order) = order.vcl ≡ vcl
 IsUnder vcl (want.Background order) = order.vcl ≡ vcl
 IsUnder vcl want = ⊤
 
 -- the round's end is asked for, or nothing more
-abbrev pub IsLast : Want → Type 0
+abbrev pub IsLast : ClientWant → Type 0
 IsLast (want.Cache call.End) = ⊤
 IsLast want.Done = ⊤
 IsLast want = ⊥
@@ -46,7 +46,7 @@ IsAnswer call.End reply.Ended = ⊤
 IsAnswer call reply = ⊥
 
 -- What is given answers what was wanted. A fetch that is waited for comes to a response or fails, another one just ends.
-abbrev pub AnswersIt : Want → Given → Type 0
+abbrev pub AnswersIt : ClientWant → Given → Type 0
 AnswersIt (want.Cache call) (given.Reply told) = IsAnswer call told.reply
 AnswersIt (want.Fetch order) (given.Fetched (Delivered view moment uncacheable)) = ⊤
 AnswersIt (want.Fetch order) (given.Fetched Failed) = ⊤

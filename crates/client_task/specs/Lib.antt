@@ -1,3 +1,4 @@
+pub mod BanWords
 pub mod Commands
 pub mod Rounds
 pub mod Standing

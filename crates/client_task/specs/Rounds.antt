@@ -2,24 +2,24 @@
 use Rattle.std.specs.Prelude.{◌≡◌, List, [], ◌∷◌, Option, Some, None}
 use Rattle.vcl_values.specs.declared.value.Backend.{Backend}
 use Rattle.vcl_context.specs.declared.context.Context.{Context}
-use Rattle.vcl_turns.specs.declared.turn.Answer.{Answer}
-use Rattle.vcl_turns.specs.declared.turn.Answer.TheVariants.{Done}
-use Rattle.vcl_turns.specs.declared.turn.Return.{Return}
-use Rattle.vcl_turns.specs.declared.turn.Command.{Command}
-use Rattle.vcl_turns.specs.declared.turn.Turn.{Turn}
-use Rattle.vcl_turns.specs.declared.turn.Turn.TheVariants as turn
+use Rattle.vcl_context.specs.declared.turn.Answer.{Answer}
+use Rattle.vcl_context.specs.declared.turn.Answer.TheVariants.{Done}
+use Rattle.vcl_context.specs.declared.turn.Return.{Return}
+use Rattle.vcl_context.specs.declared.turn.Command.{Command}
+use Rattle.vcl_context.specs.declared.turn.Turn.{Turn}
+use Rattle.vcl_context.specs.declared.turn.Turn.TheVariants as turn
 use Rattle.vcl_runs.specs.Runs.{Ran, begun, answered}
 use Rattle.cache_law.specs.declared.call.Call.{Call}
-use Rattle.cache_law.specs.declared.target.Target.{Target}
+use Rattle.directors.specs.declared.target.Target.{Target}
 use Rattle.cache_law.specs.declared.rounds.Given.{Given}
 use Rattle.cache_law.specs.declared.rounds.Given.TheVariants as given
 use Rattle.client_graph.specs.declared.round.Round.{Round}
 use Rattle.client_graph.specs.declared.round.State.{State}
-use Rattle.client_graph.specs.declared.round.Spot.{Spot}
+use Rattle.client_graph.specs.declared.round.WaitPoint.{WaitPoint}
 use Rattle.client_graph.specs.declared.round.Next.{Next}
 use Rattle.client_graph.specs.declared.round.Next.TheVariants.{Enter, Rest}
-use Rattle.client_graph.specs.declared.round.Want.{Want}
-use Rattle.client_graph.specs.declared.round.Want.TheVariants.{Cache}
+use Rattle.client_graph.specs.declared.round.ClientWant.{ClientWant}
+use Rattle.client_graph.specs.declared.round.ClientWant.TheVariants.{Cache}
 use Rattle.client_graph.specs.Graph.{subroutine_of, leads}
 use Rattle.client_graph.specs.Wants.{asks}
 use Rattle.client_graph.specs.Answers.{takes, over}
@@ -30,7 +30,7 @@ use Rattle.client_task.specs.Commands.{Asks, AsksNothing, answer_to}
 pub data Node : Type 0 where
   Before : Next → Node
   Inside : Asked → State → Ran → Round → Node
-  Between : Spot → Round → Node
+  Between : WaitPoint → Round → Node
 
 -- how it goes on: a subroutine goes on as far as it was answered, or something comes next
 pub data Step : Type 0 where
@@ -46,19 +46,19 @@ abbrev pub evaluator : {P : Type 0} → (P → Ran → Turn → Type 0) → (P �
 evaluator turns targets program = record { turns = turns program; target = targets program }
 
 -- A step settles where something is wanted. A subroutine that asks for nothing goes on at once.
-pub data Settles (e : Evaluator) : Step → Node → Want → Type 0 where
-  rests : (spot : Spot) (round : Round) → Settles e (Moves (Rest spot round)) (Between spot round) (asks e.target round spot)
-  enters : {state : State} {context : Context} {round : Round} {node : Node} {want : Want}
+pub data Settles (e : Evaluator) : Step → Node → ClientWant → Type 0 where
+  rests : (point : WaitPoint) (round : Round) → Settles e (Moves (Rest point round)) (Between point round) (asks e.target round point)
+  enters : {state : State} {context : Context} {round : Round} {node : Node} {want : ClientWant}
       → Settles e (Runs state (begun (subroutine_of state) context) round) node want
       → Settles e (Moves (Enter state context round)) node want
-  ends : {state : State} {ran : Ran} {round : Round} {node : Node} {want : Want} (word : Return) (context : Context)
+  ends : {state : State} {ran : Ran} {round : Round} {node : Node} {want : ClientWant} (word : Return) (context : Context)
       → e.turns ran (turn.End word context)
       → Settles e (Moves (leads state word context round)) node want
       → Settles e (Runs state ran round) node want
   stops : {state : State} {ran : Ran} {round : Round} (command : Command) (asked : Asked) (call : Call)
       → e.turns ran (turn.Need command) → Asks command asked call
       → Settles e (Runs state ran round) (Inside asked state ran round) (Cache call)
-  skips : {state : State} {ran : Ran} {round : Round} {node : Node} {want : Want} (command : Command)
+  skips : {state : State} {ran : Ran} {round : Round} {node : Node} {want : ClientWant} (command : Command)
       → e.turns ran (turn.Need command) → AsksNothing command
       → Settles e (Runs state (answered Done ran) round) node want
       → Settles e (Runs state ran round) node want
@@ -72,17 +72,17 @@ goes_on state ran round None = Moves (over round)
 abbrev pub step_of : Node → Given → Step
 step_of (Before next) given = Moves next
 step_of (Inside asked state ran round) (given.Reply told) = goes_on state ran round (answer_to asked told.reply)
-step_of (Between spot round) given = Moves (takes spot given round)
+step_of (Between point round) given = Moves (takes point given round)
 step_of (Inside asked state ran round) given = Moves (over round)
 
 -- After these givens, the newest first, a round that opens so stands here.
 abbrev pub Reaches : Evaluator → Next → List Given → Node → Type 0
 Reaches e opening [] node = node ≡ Before opening
 Reaches e opening (given ∷ givens) node =
-    (before : Node) × (want : Want) × Reaches e opening givens before × Settles e (step_of before given) node want
+    (before : Node) × (want : ClientWant) × Reaches e opening givens before × Settles e (step_of before given) node want
 
 -- And this is what it wants.
-abbrev pub Wants : Evaluator → Next → List Given → Want → Type 0
+abbrev pub Wants : Evaluator → Next → List Given → ClientWant → Type 0
 Wants e opening [] want = ⊥
 Wants e opening (given ∷ givens) want =
     (before : Node) × (node : Node) × Reaches e opening givens before × Settles e (step_of before given) node want

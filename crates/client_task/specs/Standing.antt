@@ -1,18 +1,18 @@
 -- How a client is tied to where its round stands.
 use Rattle.std.specs.Prelude.{◌≡◌, ⊤, ℕ, pos, ◌<◌, ◌^◌, ◌*◌, ◌+◌, ◌-◌, List}
-use Rattle.vcl_turns.specs.declared.turn.Answer.{Answer}
-use Rattle.vcl_turns.specs.declared.turn.Answer.TheVariants.{Done, Number}
+use Rattle.vcl_context.specs.declared.turn.Answer.{Answer}
+use Rattle.vcl_context.specs.declared.turn.Answer.TheVariants.{Done, Number}
 use Rattle.vcl_runs.specs.Runs.{Ran}
 use Rattle.cache_law.specs.declared.rounds.Given.{Given}
 use Rattle.client_graph.specs.declared.round.Round.{Round}
 use Rattle.client_graph.specs.declared.round.State.{State}
 use Rattle.client_graph.specs.declared.round.State.TheVariants as state
-use Rattle.client_graph.specs.declared.round.Want.{Want}
+use Rattle.client_graph.specs.declared.round.ClientWant.{ClientWant}
 use Rattle.client_graph.specs.declared.round.Next.{Next}
 use Rattle.client_graph.specs.declared.round.Next.TheVariants.{Enter, Rest}
 use Rattle.client_task.specs.declared.settling.Settled.{Settled}
-use Rattle.client_task.specs.declared.settling.Gone.{Gone}
-use Rattle.client_task.specs.declared.settling.Gone.TheVariants.{Stops, Leads}
+use Rattle.client_task.specs.declared.settling.RunStep.{RunStep}
+use Rattle.client_task.specs.declared.settling.RunStep.TheVariants.{Stops, Leads}
 use Rattle.client_task.specs.declared.place.Asked.{Asked}
 use Rattle.client_task.specs.declared.place.Asked.TheVariants as asked
 use Rattle.client_task.specs.declared.place.Place.{Place}
@@ -29,7 +29,7 @@ abbrev pub IsAt : {M : Type 0} → (M → Ran → Type 0) → (M → Answer → 
 IsAt stands fits (place.Before next) (Before other) = next ≡ other
 IsAt stands fits (place.Inside asked state run round) (Inside other_asked other ran other_round) =
     (asked ≡ other_asked) × (state ≡ other) × (round ≡ other_round) × stands run ran × IsReady (fits run) asked
-IsAt stands fits (place.Between spot round) (Between other other_round) = (spot ≡ other) × (round ≡ other_round)
+IsAt stands fits (place.Between point round) (Between other other_round) = (point ≡ other) × (round ≡ other_round)
 IsAt stands fits place node = ⊥
 
 -- after these givens the place is where the round stands
@@ -40,15 +40,15 @@ StandsAt e stands fits opening givens place = (node : Node) × Reaches e opening
 abbrev pub SettlesAt : {M : Type 0} → Evaluator → (M → Ran → Type 0) → (M → Answer → Type 0) → Step → Settled M → Type 0
 SettlesAt e stands fits step settled = (node : Node) × IsAt stands fits settled.place node × Settles e step node settled.want
 
-abbrev pub Went : {M : Type 0} → Evaluator → (M → Ran → Type 0) → (M → Answer → Type 0) → Step → Gone M → Type 0
+abbrev pub Went : {M : Type 0} → Evaluator → (M → Ran → Type 0) → (M → Answer → Type 0) → Step → RunStep M → Type 0
 Went e stands fits step (Stops settled) = SettlesAt e stands fits step settled
-Went e stands fits step (Leads next) = (node : Node) (want : Want) → Settles e (Moves next) node want → Settles e step node want
+Went e stands fits step (Leads next) = (node : Node) (want : ClientWant) → Settles e (Moves next) node want → Settles e step node want
 
 -- a state's place in a round, which falls along its arrows
 abbrev pub rank : State → ℕ
 rank state.Recv = 7
-rank (state.Hash wish) = 6
-rank (state.Hit shown) = 5
+rank (state.Hash key_use) = 6
+rank (state.Hit found) = 5
 rank (state.Miss held) = 4
 rank state.Purge = 4
 rank state.Pass = 3
@@ -61,10 +61,10 @@ weight state round = 8 * (4 - round.restarts) + rank state
 
 abbrev pub weight_of : Next → ℕ
 weight_of (Enter state context round) = weight state round
-weight_of (Rest spot round) = 0
+weight_of (Rest point round) = 0
 
 -- fewer may run than before
-abbrev pub Lowers : {M : Type 0} → ℕ → Gone M → Type 0
+abbrev pub Lowers : {M : Type 0} → ℕ → RunStep M → Type 0
 Lowers before (Stops settled) = ⊤
 Lowers before (Leads next) = weight_of next < before
 

@@ -10,7 +10,7 @@ use crate::Place;
 use crate::place::Kept;
 use crate::settling::take_up;
 use cache_law::rounds::{Given, Request};
-use client_graph::{Want, open};
+use client_graph::{ClientWant, open};
 use std::alloc::{AllocError, Global};
 use vcl_runs::Runner;
 
@@ -46,7 +46,7 @@ impl<M: Runner> Client<M> {
         alloc: Global,
         program: &M::Program,
         given: Given,
-    ) -> Result<Want, AllocError>
+    ) -> Result<ClientWant, AllocError>
         requires { MayGoOn (λ run ran. M.stands run program.now ran) M.fits self.old.place }
         ensures stands { OnOk result ((opened : Opened) (givens : List Gift)
             → StandsAt (evaluator M.turns M.targets program.now) (λ run ran. M.stands run program.now ran) M.fits opened givens self.old.place

@@ -1,20 +1,20 @@
 // What a subroutine's command asks of the cache.
 ghost use Rattle.std.specs.Prelude.{◌≡◌, IfOk, MatchOption, List, ℕ};
-ghost use Rattle.cli_words.specs.Words.{HasWords};
+ghost use Rattle.client_task.specs.BanWords.{words_of};
 ghost use Rattle.client_task.specs.Commands.{IsBan, IsNoBan, SayNone, Asks, AsksNothing, keys_of as keys_in, counted as counts, answer_to as answers};
 
 use crate::Asked;
+use crate::ban_words::words_between_blanks;
 use ban_expr::{BanError, read};
-use cache_law::{Ban, Call, Reply, Shared};
-use cli_words::{Words, WordsError, split};
-use message_fields::{Separators, split_list};
+use cache_law::{Ban, Call, Reply};
+use http_heads::{Separators, split_list};
 use std::alloc::{AllocError, Global};
-use units::{Sequence, Text};
-use vcl_turns::{Answer, Command};
+use units::{Sequence, Shared, Text};
+use vcl_context::{Answer, Command};
 
 // The ban that the words say, if they say one.
-fn ban_of_words(alloc: Global, words: &Words) -> Result<Option<Ban>, AllocError>
-    ensures { IfOk result (λ found. MatchOption found (SayNone words.now) (λ ban. (text : List ℕ) → HasWords text words.now → IsBan text ban)) }
+fn ban_of_words(alloc: Global, words: &Sequence<Text>) -> Result<Option<Ban>, AllocError>
+    ensures { IfOk result (λ found. MatchOption found (SayNone words.now) (λ ban. (text : List ℕ) → words.now ≡ words_of text → IsBan text ban)) }
 {
     match read(alloc, words) {
         Ok(ban) => Ok(Some(ban)),
@@ -27,11 +27,8 @@ fn ban_of_words(alloc: Global, words: &Words) -> Result<Option<Ban>, AllocError>
 fn ban_of(alloc: Global, text: &Text) -> Result<Option<Ban>, AllocError>
     ensures { IfOk result (λ found. MatchOption found (IsNoBan text.now) (λ ban. IsBan text.now ban)) }
 {
-    match split(alloc, text) {
-        Ok(words) => ban_of_words(alloc, &words),
-        Err(WordsError::Syntax) => Ok(None),
-        Err(WordsError::NoMemory) => Err(AllocError),
-    }
+    let words = words_between_blanks(alloc, text.bytes())?;
+    ban_of_words(alloc, &words)
 }
 
 // The keys of a purge.

@@ -6,8 +6,8 @@ ghost use Rattle.cache_law.specs.declared.call.Query.{Query as Sought};
 ghost use Rattle.vcl_context.specs.declared.context.Context.{Context as Worked};
 ghost use Rattle.client_graph.specs.declared.round.Next.{Next as Opened};
 ghost use Rattle.client_graph.specs.declared.round.Round.{Round as Going};
-ghost use Rattle.client_graph.specs.declared.round.Spot.TheVariants.{Look};
-ghost use Rattle.client_graph.specs.declared.round.Want.{Want as Wish};
+ghost use Rattle.client_graph.specs.declared.round.WaitPoint.TheVariants.{Look};
+ghost use Rattle.client_graph.specs.declared.round.ClientWant.{ClientWant as Wanted};
 ghost use Rattle.client_graph.specs.Opening.{opening};
 ghost use Rattle.client_task.specs.Laws.{AnswersIt, IsLast, IsUnder};
 ghost use Rattle.client_task.specs.Rounds.{Between, Reaches, Wants, evaluator};
@@ -16,7 +16,7 @@ use vcl_runs::Runner;
 
 /// After the same givens a round wants the same.
 pub fn one_want<M: Runner>(program: &M::Program)
-    ensures { (opened : Opened) (givens : List Gift) (one other : Wish)
+    ensures { (opened : Opened) (givens : List Gift) (one other : Wanted)
         → Wants (evaluator M.turns M.targets program.now) opened givens one
         → Wants (evaluator M.turns M.targets program.now) opened givens other
         → other ≡ one }
@@ -24,33 +24,33 @@ pub fn one_want<M: Runner>(program: &M::Program)
 
 /// Behind its end a round wants nothing.
 pub fn nothing_behind_the_end<M: Runner>(program: &M::Program)
-    ensures { (opened : Opened) (givens : List Gift) (given : Gift) (want later : Wish)
+    ensures { (opened : Opened) (givens : List Gift) (given : Gift) (want later : Wanted)
         → IsLast want
         → Wants (evaluator M.turns M.targets program.now) opened givens want
         → Wants (evaluator M.turns M.targets program.now) opened (given ∷ givens) later
-        → later ≡ Wish.Done }
+        → later ≡ Wanted.Done }
 {}
 
 /// A round whose wants are answered goes on to its end.
 pub fn goes_on_to_its_end<M: Runner>(program: &M::Program)
-    ensures { (opened : Opened) (givens : List Gift) (given : Gift) (want later : Wish)
+    ensures { (opened : Opened) (givens : List Gift) (given : Gift) (want later : Wanted)
         → (IsLast want → ⊥)
         → AnswersIt want given
         → Wants (evaluator M.turns M.targets program.now) opened givens want
         → Wants (evaluator M.turns M.targets program.now) opened (given ∷ givens) later
-        → later ≢ Wish.Done }
+        → later ≢ Wanted.Done }
 {}
 
 /// A round that looks a key up has no fetch to make behind its response.
 pub fn looks_up_without_a_fetch<M: Runner>(program: &M::Program)
     ensures { (number vcl : ℕ) (request : Asking) (peer : List ℕ) (givens : List Gift) (query : Sought) (context : Worked) (round : Going)
         → Reaches (evaluator M.turns M.targets program.now) (opening number vcl request peer) givens (Between (Look query context) round)
-        → round.later ≡ None }
+        → round.background ≡ None }
 {}
 
 /// All fetches of a round are asked for under the VCL that it began with.
 pub fn one_vcl<M: Runner>(program: &M::Program)
-    ensures { (number vcl : ℕ) (request : Asking) (peer : List ℕ) (givens : List Gift) (want : Wish)
+    ensures { (number vcl : ℕ) (request : Asking) (peer : List ℕ) (givens : List Gift) (want : Wanted)
         → Wants (evaluator M.turns M.targets program.now) (opening number vcl request peer) givens want
         → IsUnder vcl want }
 {}

@@ -2,9 +2,10 @@
 //!
 //! Contract for the layer above: after the answers that it was given, a client wants what `specs/Rounds.antt` says of them, by
 //! the tables of `client_graph` and the turns of its subroutines. After the same answers there is one want. It knows the
-//! evaluator as a `Runner`, and the cache by its calls and replies alone.
+//! evaluator as a `Runner`, and the cache by its calls and replies alone. The text of VCL's `ban` is read by `specs/BanWords.antt`.
 #![tactic(auto)]
 
+mod ban_words;
 mod client;
 mod commands;
 mod laws;

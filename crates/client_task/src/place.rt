@@ -2,7 +2,7 @@
 ghost use Rattle.std.specs.Prelude.{◌≡◌, IfOk};
 ghost use Rattle.client_task.specs.declared.place.Place.{Place as Placed};
 
-use client_graph::{Next, Round, Spot, State};
+use client_graph::{Next, Round, State, WaitPoint};
 use std::alloc::{AllocError, Global};
 use std::marker::Model;
 use std::mem;
@@ -28,7 +28,7 @@ pub enum Place<M> {
     },
     /// Between subroutines.
     Between {
-        spot: Spot,
+        point: WaitPoint,
         round: Round,
     },
     /// Memory was wanting.

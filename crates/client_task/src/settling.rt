@@ -8,25 +8,24 @@ ghost use Rattle.client_task.specs.Standing.{IsAt, IsReady, MayGoOn, Went, Settl
 
 use crate::commands::{Asking, answer_to, take_command};
 use crate::{Asked, Place};
-use cache_law::Target;
 use cache_law::rounds::Given;
-use client_graph::{Next, Round, Spot, State, Want, ask, lead, take};
+use client_graph::{ClientWant, Next, Round, State, WaitPoint, ask, lead, take};
+use directors::Target;
 use std::alloc::{AllocError, Global};
-use units::lost;
-use vcl_context::Context;
+use units::out_of_memory;
+use vcl_context::{Answer, Context, Turn};
 use vcl_runs::Runner;
-use vcl_turns::{Answer, Turn};
 
 /// A place, and what is wanted there.
 #[derive(Drop)]
 pub(crate) struct Settled<M> {
     pub place: Place<M>,
-    pub want: Want,
+    pub want: ClientWant,
 }
 
 /// Where a run of a subroutine comes to.
 #[derive(Drop)]
-pub(crate) enum Gone<M> {
+pub(crate) enum RunStep<M> {
     /// It asks for something.
     Stops(Settled<M>),
     /// It ended, and this comes next.
@@ -34,18 +33,18 @@ pub(crate) enum Gone<M> {
 }
 
 // A run that asks for a call.
-fn stop<M>(asking: Asking, state: State, run: M, round: Round) -> Gone<M>
-    ensures { result ≡ Gone.Stops (record { place = Place.Inside asking.asked state run round; want = Want.Cache asking.call }) }
+fn stop<M>(asking: Asking, state: State, run: M, round: Round) -> RunStep<M>
+    ensures { result ≡ RunStep.Stops (record { place = Place.Inside asking.asked state run round; want = ClientWant.Cache asking.call }) }
 {
     let Asking { asked, call } = asking;
-    Gone::Stops(Settled {
+    RunStep::Stops(Settled {
         place: Place::Inside {
             asked,
             state,
             run,
             round,
         },
-        want: Want::Cache(call),
+        want: ClientWant::Cache(call),
     })
 }
 
@@ -57,21 +56,21 @@ fn go<M: Runner>(
     mut run: M,
     round: Round,
     mut answer: Answer,
-) -> Result<Gone<M>, AllocError>
+) -> Result<RunStep<M>, AllocError>
     requires stands { (ran : Ran) × M.stands run program.now ran }
     requires fits { M.fits run answer }
-    ensures went { IfOk result (λ gone. (ran : Ran) → M.stands run program.now ran
-        → Went (evaluator M.turns M.targets program.now) (λ run ran. M.stands run program.now ran) M.fits (Runs state (answered answer ran) round) gone) }
+    ensures went { IfOk result (λ run_step. (ran : Ran) → M.stands run program.now ran
+        → Went (evaluator M.turns M.targets program.now) (λ run ran. M.stands run program.now ran) M.fits (Runs state (answered answer ran) round) run_step) }
     ensures lowers { IfOk result (Lowers (weight state round)) }
 {
     'runs: loop {
         let Ok(turn) = run.resume(alloc, program, answer) else {
-            return Err(lost((state, run, round)));
+            return Err(out_of_memory((state, run, round)));
         };
         match turn {
             Turn::Need(command) => {
                 let Ok(found) = take_command(alloc, command) else {
-                    return Err(lost((state, run, round)));
+                    return Err(out_of_memory((state, run, round)));
                 };
                 match found {
                     Some(asking) => return Ok(stop(asking, state, run, round)),
@@ -81,7 +80,7 @@ fn go<M: Runner>(
             Turn::End(word, context) => {
                 drop(run);
                 let next = lead(alloc, state, word, context, round)?;
-                return Ok(Gone::Leads(next));
+                return Ok(RunStep::Leads(next));
             }
         }
     }
@@ -94,12 +93,12 @@ fn begin<M: Runner>(
     state: State,
     context: Context,
     round: Round,
-) -> Result<Gone<M>, AllocError>
+) -> Result<RunStep<M>, AllocError>
     ensures went { IfOk result (Went (evaluator M.turns M.targets program.now) (λ run ran. M.stands run program.now ran) M.fits (Moves (Next.Enter state context round))) }
     ensures lowers { IfOk result (Lowers (weight state round)) }
 {
     let Ok(run) = M::start(alloc, program, state.subroutine(), context) else {
-        return Err(lost((state, round)));
+        return Err(out_of_memory((state, round)));
     };
     go(alloc, program, state, run, round, Answer::Begin)
 }
@@ -108,11 +107,11 @@ fn begin<M: Runner>(
 fn hint_of<M: Runner>(
     alloc: Global,
     program: &M::Program,
-    spot: &Spot,
+    point: &WaitPoint,
 ) -> Result<Option<Target>, AllocError>
-    ensures { IfOk result (λ hint. hint ≡ option_and_then (M.targets program.now) (hint_at spot.now)) }
+    ensures { IfOk result (λ hint. hint ≡ option_and_then (M.targets program.now) (hint_at point.now)) }
 {
-    match spot.hint() {
+    match point.hint() {
         Some(backend) => M::target(alloc, program, backend),
         None => Ok(None),
     }
@@ -121,19 +120,19 @@ fn hint_of<M: Runner>(
 fn rest<M: Runner>(
     alloc: Global,
     program: &M::Program,
-    spot: Spot,
+    point: WaitPoint,
     round: Round,
 ) -> Result<Settled<M>, AllocError>
-    ensures { IfOk result (SettlesAt (evaluator M.turns M.targets program.now) (λ run ran. M.stands run program.now ran) M.fits (Moves (Next.Rest spot round))) }
+    ensures { IfOk result (SettlesAt (evaluator M.turns M.targets program.now) (λ run ran. M.stands run program.now ran) M.fits (Moves (Next.Rest point round))) }
 {
-    let Ok(hint) = hint_of::<M>(alloc, program, &spot) else {
-        return Err(lost((spot, round)));
+    let Ok(hint) = hint_of::<M>(alloc, program, &point) else {
+        return Err(out_of_memory((point, round)));
     };
-    let Ok(want) = ask(alloc, hint, &round, &spot) else {
-        return Err(lost((spot, round)));
+    let Ok(want) = ask(alloc, hint, &round, &point) else {
+        return Err(out_of_memory((point, round)));
     };
     Ok(Settled {
-        place: Place::Between { spot, round },
+        place: Place::Between { point, round },
         want,
     })
 }
@@ -148,16 +147,16 @@ fn settle<M: Runner>(
 {
     'states: loop {
         match next {
-            Next::Rest { spot, round } => return rest(alloc, program, spot, round),
+            Next::Rest { point, round } => return rest(alloc, program, point, round),
             Next::Enter {
                 state,
                 context,
                 round,
             } => {
-                let gone = begin(alloc, program, state, context, round)?;
-                match gone {
-                    Gone::Stops(settled) => return Ok(settled),
-                    Gone::Leads(later) => next = later,
+                let run_step = begin(alloc, program, state, context, round)?;
+                match run_step {
+                    RunStep::Stops(settled) => return Ok(settled),
+                    RunStep::Leads(later) => next = later,
                 }
             }
         }
@@ -177,10 +176,10 @@ fn go_on<M: Runner>(
     ensures { IfOk result (λ settled. (ran : Ran) → M.stands run program.now ran
         → SettlesAt (evaluator M.turns M.targets program.now) (λ run ran. M.stands run program.now ran) M.fits (Runs state (answered answer ran) round) settled) }
 {
-    let gone = go(alloc, program, state, run, round, answer)?;
-    match gone {
-        Gone::Stops(settled) => Ok(settled),
-        Gone::Leads(next) => settle(alloc, program, next),
+    let run_step = go(alloc, program, state, run, round, answer)?;
+    match run_step {
+        RunStep::Stops(settled) => Ok(settled),
+        RunStep::Leads(next) => settle(alloc, program, next),
     }
 }
 
@@ -191,7 +190,7 @@ fn end_round<M: Runner>(
 ) -> Result<Settled<M>, AllocError>
     ensures { IfOk result (SettlesAt (evaluator M.turns M.targets program.now) (λ run ran. M.stands run program.now ran) M.fits (Moves (over round))) }
 {
-    rest(alloc, program, Spot::Over, round)
+    rest(alloc, program, WaitPoint::Over, round)
 }
 
 // A subroutine that asked for something is given this.
@@ -251,10 +250,10 @@ pub(crate) fn take_up<M: Runner>(
             run,
             round,
         } => answer_run(alloc, program, asked, state, run, round, given),
-        Place::Between { spot, round } => {
-            let next = take(alloc, spot, given, round)?;
+        Place::Between { point, round } => {
+            let next = take(alloc, point, given, round)?;
             settle(alloc, program, next)
         }
-        Place::Broken => Err(lost(given)),
+        Place::Broken => Err(out_of_memory(given)),
     }
 }

@@ -56,7 +56,7 @@ pub longer_one : (input more : List ℕ) (request : Request) (rest : List ℕ) �
 longer_one input more request rest x = record {
   count = x.count;
   has = longer_head requests input more request.0 x.count x.has;
-  one_host = x.one_host;
+  one_site = x.one_site;
   framing = x.framing;
   frames = x.frames;
   begins = subst (λ (t : List ℕ). BeginsWith x.framing t request.1 (rest ++ more)) (sym (drop-append-le x.count input more (head_within input request.0 x.count x.has)))
@@ -114,7 +114,7 @@ behind_head input head count request rest more has x =
     let same = one_request (input ++ more) head request.0 count x.count (longer_head requests input more head count has) x.has in
     (same.0, ap (λ (n : ℕ). drop n (input ++ more)) (sym same.1) ∙ drop-append-le count input more (head_within input head count has))
 
--- the head has two Host fields, or its fields frame no body
+-- the head says more than one site, or its fields frame no body
 pub never_of_head : (input : List ℕ) (head : RequestHead) (count : ℕ) → HasRequest input head count
     → ((request : Request) (rest more : List ℕ) → head ≡ request.0 → BeginsRequest (input ++ more) request rest → ⊥) → NeverBegins input
 never_of_head input head count has none more request rest x = none request rest more (behind_head input head count request rest more has x).0 x

@@ -1,10 +1,10 @@
 -- What the parts of a reading tell of the next request.
-use Rattle.std.proofs.Common.{◌≡◌, ◌≢◌, ℕ, ◌+◌, ◌<◌, List, [], ◌∷◌, ◌++◌, length, drop, Option, Some, Ok, Err, true, false, refl, sym, ◌∙◌, ap, subst, arith}
+use Rattle.std.proofs.Common.{◌≡◌, ◌≢◌, ℕ, ◌+◌, ◌<◌, Bool, List, [], ◌∷◌, ◌++◌, length, drop, Option, Some, Ok, Err, true, false, refl, sym, ◌∙◌, ap, subst, arith}
+use Rattle.std.proofs.lemmas.Bool.{true≢false}
 use Rattle.std.proofs.lemmas.List.{append-nil, append_assoc, drop-append-le}
 use Rattle.http_bodies.specs.Framings.{Frames}
 use Rattle.http_bodies.specs.declared.framing.Framing.{Framing}
 use Rattle.http_bodies.specs.declared.framing.Kind.TheVariants as kinds
-use Rattle.http_heads.specs.Fields.{count_of}
 use Rattle.http_heads.specs.Heads.{requests, HasRequest, AnswersRequest}
 use Rattle.http_heads.specs.declared.message.RequestHead.{RequestHead}
 use Rattle.http_heads.proofs.SentFacts.{longer_head}
@@ -15,7 +15,8 @@ use Rattle.message_reader.specs.declared.stop.Stop.{Stop}
 use Rattle.message_reader.specs.declared.stop.Stop.TheVariants.{Read, Early, BadHead, BadBody, TooLarge, NoMemory}
 use Rattle.wire.specs.Flow.{Flow}
 use Rattle.wire.proofs.Flowing.{Moves-none, Moves-trans}
-use Rattle.connection.specs.Requests.{host_name, body_limit, BeginsRequest, NeverBegins}
+use Rattle.seen_request.specs.Sites.{is_of_one_site}
+use Rattle.connection.specs.Requests.{body_limit, BeginsRequest, NeverBegins}
 use Rattle.connection.specs.Reading.{RequestTold, MoreTold, FramedTold}
 use Rattle.connection.proofs.ReadingFacts.{head_within, no_head, never_head, never_of_head, never_body, no_body}
 
@@ -100,10 +101,14 @@ head_failed first second third held now rest left stop one two =
 
 -- ---- its fields
 
--- two Host fields
-two_hosts : (input : List ℕ) (head : RequestHead) (count : ℕ) → HasRequest input head count → 1 < count_of host_name head.fields → NeverBegins input
-two_hosts input head count has two =
-    never_of_head input head count has (λ request rest more same x. omega (arith, two, x.one_host, ap (λ (h : RequestHead). count_of host_name h.fields) same))
+not_both : (b : Bool) → b ≡ true → b ≡ false → ⊥
+not_both b is other = true≢false (sym is ∙ other)
+
+-- two sites, or an empty one
+other_sites : (input : List ℕ) (head : RequestHead) (count : ℕ) → HasRequest input head count → is_of_one_site head ≡ false → NeverBegins input
+other_sites input head count has other =
+    never_of_head input head count has
+    (λ request rest more same x. not_both (is_of_one_site request.0) x.one_site (subst (λ (h : RequestHead). is_of_one_site h ≡ false) same other))
 
 -- no framing
 no_framing : (input : List ℕ) (head : RequestHead) (count : ℕ) → HasRequest input head count → ((framing : Framing) → ¬ (Frames kinds.Request head.fields framing)) → NeverBegins input
@@ -112,8 +117,8 @@ no_framing input head count has none =
     (λ request rest more same x. none x.framing (subst (λ (h : RequestHead). Frames kinds.Request h.fields x.framing) (sym same) x.frames))
 
 unframed_told : (flow : Option Flow) (left : List ℕ) (head : RequestHead) (count : ℕ) (stop : Stop) (input : List ℕ) → HasRequest input head count
-    → FramedTold head.fields (Err stop) → RequestTold flow left (Err stop) input
-unframed_told flow left head count BadHead input has told = two_hosts input head count has told
+    → FramedTold head (Err stop) → RequestTold flow left (Err stop) input
+unframed_told flow left head count BadHead input has told = other_sites input head count has told
 unframed_told flow left head count BadBody input has told = no_framing input head count has told
 unframed_told flow left head count Read input has told = absurd told
 unframed_told flow left head count Early input has told = absurd told
@@ -121,7 +126,7 @@ unframed_told flow left head count TooLarge input has told = absurd told
 unframed_told flow left head count NoMemory input has told = absurd told
 
 pub fields_failed : (before after : Option Flow) (held rest left : List ℕ) (head : RequestHead) (stop : Stop) → Hears before after held (HeadFound head rest)
-    → FramedTold head.fields (Err stop) → Hears before after held (RequestTold after left (Err stop))
+    → FramedTold head (Err stop) → Hears before after held (RequestTold after left (Err stop))
 fields_failed before after held rest left head stop found told =
     (found.0, found.1, unframed_told after left head found.2.1 stop (held ++ found.0) found.2.2 told)
 
@@ -151,7 +156,7 @@ behind first second third held rest head says one two =
     longer_some (byte ∷ front) more some is = cc
 
 pub whole_request : (first second third : Option Flow) (held rest left : List ℕ) (head : RequestHead) (framing : Framing) (body : List ℕ)
-    → Hears first second held (HeadFound head rest) → FramedTold head.fields (Ok framing) → Hears second third rest (BodyTold framing body_limit third left (Ok body))
+    → Hears first second held (HeadFound head rest) → FramedTold head (Ok framing) → Hears second third rest (BodyTold framing body_limit third left (Ok body))
     → Hears first third held (RequestTold third left (Ok (Some (head, body))))
 whole_request first second third held rest left head framing body found framed told =
     let all = behind first second third held rest head (BodyTold framing body_limit third left (Ok body)) found told in
@@ -159,7 +164,7 @@ whole_request first second third held rest left head framing body found framed t
     let request : BeginsRequest (held ++ all.0) (head, body) left = record {
       count = all.2.1;
       has = all.2.2;
-      one_host = framed.0;
+      one_site = framed.0;
       framing = framing;
       frames = framed.1;
       begins = has.begins;
@@ -177,7 +182,7 @@ body_told flow left head count framing NoMemory input some has frames told = tt
 body_told flow left head count framing BadHead input some has frames told = absurd told
 
 pub body_failed : (first second third : Option Flow) (held rest left : List ℕ) (head : RequestHead) (framing : Framing) (stop : Stop)
-    → Hears first second held (HeadFound head rest) → FramedTold head.fields (Ok framing) → Hears second third rest (BodyTold framing body_limit third left (Err stop))
+    → Hears first second held (HeadFound head rest) → FramedTold head (Ok framing) → Hears second third rest (BodyTold framing body_limit third left (Err stop))
     → Hears first third held (RequestTold third left (Err stop))
 body_failed first second third held rest left head framing stop found framed told =
     let all = behind first second third held rest head (BodyTold framing body_limit third left (Err stop)) found told in

@@ -1,14 +1,14 @@
 -- What is told of the next request.
-use Rattle.std.specs.Prelude.{◌≡◌, ◌≢◌, ◌<◌, ◌≤◌, Bool, true, false, ℕ, List, [], Result, Ok, Err, Option, Some, None}
+use Rattle.std.specs.Prelude.{◌≡◌, ◌≢◌, Bool, true, false, ℕ, List, [], Result, Ok, Err, Option, Some, None}
 use Rattle.http_bodies.specs.Framings.{Frames}
 use Rattle.http_bodies.specs.declared.framing.Framing.{Framing}
 use Rattle.http_bodies.specs.declared.framing.Kind.TheVariants as kinds
-use Rattle.http_heads.specs.Fields.{count_of}
-use Rattle.http_heads.specs.declared.fields.Field.{Field}
+use Rattle.http_heads.specs.declared.message.RequestHead.{RequestHead}
+use Rattle.seen_request.specs.Sites.{is_of_one_site}
 use Rattle.message_reader.specs.declared.stop.Stop.{Stop}
 use Rattle.message_reader.specs.declared.stop.Stop.TheVariants.{Read, Early, BadHead, BadBody, TooLarge, NoMemory}
 use Rattle.wire.specs.Flow.{Flow, IsOver}
-use Rattle.connection.specs.Requests.{Request, host_name, BeginsRequest, LacksRequest, NeverBegins}
+use Rattle.connection.specs.Requests.{Request, BeginsRequest, LacksRequest, NeverBegins}
 
 -- the input ends inside a request
 abbrev pub EndsInside : Option Flow → List ℕ → Type 0
@@ -37,12 +37,12 @@ MoreTold flow rest (Err BadHead) input = ⊥
 MoreTold flow rest (Err BadBody) input = ⊥
 MoreTold flow rest (Err TooLarge) input = ⊥
 
--- the fields of a request frame its body and have one Host at most; or they have two; or they frame no body
-abbrev pub FramedTold : List Field → Result Framing Stop → Type 0
-FramedTold fields (Ok framing) = (count_of host_name fields ≤ 1) × Frames kinds.Request fields framing
-FramedTold fields (Err BadHead) = 1 < count_of host_name fields
-FramedTold fields (Err BadBody) = (framing : Framing) → ¬ (Frames kinds.Request fields framing)
-FramedTold fields (Err Read) = ⊥
-FramedTold fields (Err Early) = ⊥
-FramedTold fields (Err TooLarge) = ⊥
-FramedTold fields (Err NoMemory) = ⊥
+-- the head of a request says one site at most and its fields frame its body; or it doesn't; or they frame none
+abbrev pub FramedTold : RequestHead → Result Framing Stop → Type 0
+FramedTold head (Ok framing) = (is_of_one_site head ≡ true) × Frames kinds.Request head.fields framing
+FramedTold head (Err BadHead) = is_of_one_site head ≡ false
+FramedTold head (Err BadBody) = (framing : Framing) → ¬ (Frames kinds.Request head.fields framing)
+FramedTold head (Err Read) = ⊥
+FramedTold head (Err Early) = ⊥
+FramedTold head (Err TooLarge) = ⊥
+FramedTold head (Err NoMemory) = ⊥

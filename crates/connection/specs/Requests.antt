@@ -1,12 +1,12 @@
 -- The requests in the bytes of a connection, one behind another (RFC 9112, sections 2.2, 3.2 and 6.3).
-use Rattle.std.specs.Prelude.{◌≡◌, ℕ, ◌≤◌, List, [], ◌∷◌, ◌++◌, length, drop, codes}
+use Rattle.std.specs.Prelude.{◌≡◌, ℕ, ◌≤◌, true, List, [], ◌∷◌, ◌++◌, length, drop}
 use Rattle.http_bodies.specs.Bodies.{BeginsWith}
 use Rattle.http_bodies.specs.Framings.{Frames}
 use Rattle.http_bodies.specs.declared.framing.Framing.{Framing}
 use Rattle.http_bodies.specs.declared.framing.Kind.TheVariants as kinds
-use Rattle.http_heads.specs.Fields.{count_of}
 use Rattle.http_heads.specs.Heads.{HasRequest}
 use Rattle.http_heads.specs.declared.message.RequestHead.{RequestHead}
+use Rattle.seen_request.specs.Sites.{is_of_one_site}
 
 -- a request: its head and its body
 abbrev pub Request : Type 0
@@ -16,14 +16,11 @@ Request = RequestHead × List ℕ
 abbrev pub body_limit : ℕ
 body_limit = 1048576
 
-abbrev pub host_name : List ℕ
-host_name = codes "host"
-
--- the input begins with this request, which has one Host field at most, and `rest` stands behind it
+-- the input begins with this request, which says one site at most, and `rest` stands behind it
 pub record BeginsRequest (input : List ℕ) (request : Request) (rest : List ℕ) : Type 0 where
   pub count : ℕ
   pub has : HasRequest input request.0 count
-  pub one_host : count_of host_name request.0.fields ≤ 1
+  pub one_site : is_of_one_site request.0 ≡ true
   pub framing : Framing
   pub frames : Frames kinds.Request request.0.fields framing
   pub begins : BeginsWith framing (drop count input) request.1 rest

@@ -5,14 +5,15 @@ ghost use Rattle.message_reader.specs.Inputs.{Hears};
 ghost use Rattle.connection.specs.Reading.{RequestTold, MoreTold, FramedTold};
 
 use http_bodies::{Framing, Kind, frame};
-use http_heads::{Fields, RequestHead};
+use http_heads::RequestHead;
 use message_reader::{Intake, Stop, fill, read_body, read_head};
+use seen_request::is_of_one_site;
 use std::alloc::Global;
 use units::Text;
 use wire::Link;
 
 /// The most bytes of a request's body.
-const LONGEST_BODY: u64 = 1_048_576;
+const MAX_BODY: u64 = 1_048_576;
 
 // Whether a byte is held or comes.
 fn has_more<L: Link>(link: &mut L, held: &mut Intake, room: &mut [u8]) -> Result<bool, Stop>
@@ -30,19 +31,19 @@ fn has_more<L: Link>(link: &mut L, held: &mut Intake, room: &mut [u8]) -> Result
     Ok(count > 0)
 }
 
-// Where the body of a request with these fields ends. A request with two Host fields is refused (RFC 9112, section 3.2).
-fn frame_request(fields: &Fields) -> Result<Framing, Stop>
-    ensures { FramedTold fields.now result }
+// Where the body of the request with this head ends. One that says two sites, or an empty one, is refused.
+fn frame_request(head: &RequestHead) -> Result<Framing, Stop>
+    ensures { FramedTold head.now result }
 {
-    if fields.count(b"host") > 1 {
+    if !is_of_one_site(head) {
         return Err(Stop::BadHead);
     }
-    frame(fields, Kind::Request).map_err(|_| Stop::BadBody)
+    frame(&head.fields, Kind::Request).map_err(|_| Stop::BadBody)
 }
 
 /// Reads the next request, whose body has at most 1,048,576 bytes. What stands behind it is held. None is the end of the
 /// input between requests. `Early`, `BadHead`, `BadBody` and `TooLarge` say that no request stands there: the input ends
-/// inside it; its head is refused or has two Host fields; its fields frame no body, or the body breaks; it is too large.
+/// inside it; its head is refused, has two Host fields or an absolute target without an authority; its fields frame no body, or the body breaks; it is too large.
 pub fn read_request<L: Link>(
     alloc: Global,
     link: &mut L,
@@ -60,7 +61,7 @@ pub fn read_request<L: Link>(
         return Ok(None);
     }
     let head: RequestHead = read_head(alloc, link, held, room)?;
-    let framing = frame_request(&head.fields)?;
-    let body = read_body(alloc, link, held, room, framing, LONGEST_BODY)?;
+    let framing = frame_request(&head)?;
+    let body = read_body(alloc, link, held, room, framing, MAX_BODY)?;
     Ok(Some((head, body)))
 }

@@ -8,9 +8,10 @@ use Rattle.http_heads.specs.declared.message.ResponseHead.{ResponseHead}
 use Rattle.http_bodies.specs.declared.framing.Framing.TheVariants.{Length}
 use Rattle.http_bodies.specs.declared.framing.Kind.TheVariants.{Reply, NoBody}
 use Rattle.http_bodies.specs.Framings.{Says, reply_kind}
-use Rattle.message_fields.specs.Framed.{of_length}
-use Rattle.message_fields.proofs.FramedFacts.{says_length_of_reply, says_length_closing}
+use Rattle.http_bodies.specs.Framed.{of_length}
+use Rattle.http_bodies.proofs.FramedFacts.{says_length_of_reply, says_length_closing}
 use Rattle.delivery.specs.declared.finishing.Delivery.{Delivery}
+use Rattle.delivery.specs.declared.finishing.ResponseBody.{ResponseBody}
 use Rattle.delivery.specs.Finished.{is_head, is_confirmed, is_bodiless, asks_to_close, settled, framed, ended, sent_body, sent_head, finished}
 use Rattle.delivery.specs.Sent.{IsFramedAsSent}
 
@@ -40,14 +41,14 @@ settled_final asked conditions head final = elim (by_bit (is_confirmed asked con
 at_least : (n k : ℕ) → k < n + 1 → nat_lt n k ≡ false
 at_least n k large = grind (arith, nat_tests)
 
-or_false : (a b : Bool) → (a || b) ≡ false → b ≡ false
+or_false : (a b : Bool) → (a || b) ≡ false → (a ≡ false) × (b ≡ false)
 or_false true b e = absurd (cc)
-or_false false b e = e
+or_false false b e = (refl, e)
 
 -- what is sent of a settled response
-module _ (asked : RequestHead) (head : ResponseHead) (body : List ℕ) (small : length body < 2 ^ 64) (final : 199 < head.status) where
+module _ (asked : RequestHead) (head : ResponseHead) (body : ResponseBody) (small : length body.text < 2 ^ 64) (final : 199 < head.status) where
   abbrev sent : Delivery
-  sent = record { head = sent_head asked (length body) head; body = sent_body asked head.status body }
+  sent = record { head = sent_head asked body head; body = sent_body asked head.status body.text }
 
   above : nat_lt 99 head.status ≡ true
   above = below 99 head.status (omega (arith, final))
@@ -67,15 +68,15 @@ module _ (asked : RequestHead) (head : ResponseHead) (body : List ℕ) (small : 
 
   framed_some : (is_head asked || is_bodiless head.status) ≡ false → IsFramedAsSent asked sent
   framed_some some =
-      let has : is_bodiless head.status ≡ false = or_false (is_head asked) (is_bodiless head.status) some in
-      let says : Says Reply (ended asked (framed head.status (length body) head.fields)) (Length (length body)) =
-      rw has (ended_says asked (length body) head.fields small) in
+      let both : (is_head asked ≡ false) × (is_bodiless head.status ≡ false) = or_false (is_head asked) (is_bodiless head.status) some in
+      let says : Says Reply (ended asked (framed asked head.status body head.fields)) (Length (length body.text)) =
+      rw (both.1, both.0) (ended_says asked (length body.text) head.fields small) in
       record { frames = rw (kind_is, some) says; body = rw some (refl, refl) }
 
   framed_sent : IsFramedAsSent asked sent
   framed_sent = elim (by_bit (is_head asked || is_bodiless head.status)) [ inl none ↦ framed_none none | inr some ↦ framed_some some ]
 
-pub finished_framed : (asked : RequestHead) (conditions : List Field) (head : ResponseHead) (body : List ℕ) → length body < 2 ^ 64 → 199 < head.status
+pub finished_framed : (asked : RequestHead) (conditions : List Field) (head : ResponseHead) (body : ResponseBody) → length body.text < 2 ^ 64 → 199 < head.status
     → IsFramedAsSent asked (finished asked conditions head body)
 finished_framed asked conditions head body small final =
     framed_sent asked (settled asked conditions head) body small (settled_final asked conditions head final)

@@ -8,9 +8,9 @@ use Rattle.std.proofs.lemmas.List.Elements.{All-append, All-cons, All-nil, All-p
 use Rattle.std.proofs.lemmas.List.Sums.{AllPass-from_list_all}
 use Rattle.httparse.specs.Grammar.{IsToken, AllPass, is_token_byte, is_value_byte, trim_ows}
 use Rattle.http_heads.specs.declared.fields.Field.{Field}
-use Rattle.http_heads.specs.Fields.{field, appended}
+use Rattle.http_heads.specs.Fields.{field, appended, without}
 use Rattle.http_heads.specs.Printed.{IsPlainField, IsResponseShape}
-use Rattle.message_fields.proofs.PlainFacts.{plain_number, number_ink, number_stands, trim_ink, trim_between}
+use Rattle.http_bodies.proofs.PlainFacts.{others_plain, plain_number, number_ink, number_stands, trim_ink, trim_between}
 use Rattle.delivery.specs.declared.opening.Numbers.{Numbers}
 use Rattle.delivery.specs.Opened.{object_text, numbers_text, opened, opened_synthetic}
 
@@ -49,8 +49,9 @@ opened_shape status reason fields numbers age low stands each small other young 
   version = inr refl;
   status = low;
   reason = stands;
-  fields = All-push IsPlainField (appended (codes "X-Varnish") (numbers_text numbers) fields) (field (codes "Age") (decimal age))
-      (All-push IsPlainField fields (field (codes "X-Varnish") (numbers_text numbers)) each (numbers_plain numbers small other))
+  fields = All-push IsPlainField (without (codes "Age") (appended (codes "X-Varnish") (numbers_text numbers) fields)) (field (codes "Age") (decimal age))
+      (others_plain (codes "Age") (appended (codes "X-Varnish") (numbers_text numbers) fields)
+      (All-push IsPlainField fields (field (codes "X-Varnish") (numbers_text numbers)) each (numbers_plain numbers small other)))
       (plain_number (codes "Age") age young age_token);
 }
 

@@ -10,8 +10,9 @@ use Rattle.http_heads.specs.declared.message.RequestHead.{RequestHead}
 use Rattle.http_heads.specs.declared.message.ResponseHead.{ResponseHead}
 use Rattle.http_heads.specs.Fields.{field, without}
 use Rattle.http_heads.specs.Printed.{IsPlainField, IsResponseShape}
-use Rattle.message_fields.proofs.PlainFacts.{others_plain, unframed_plain, of_length_plain}
-use Rattle.delivery.specs.Finished.{is_confirmed, is_bodiless, asks_to_close, settled, framed, ended, sent_head, finished}
+use Rattle.http_bodies.proofs.PlainFacts.{others_plain, unframed_plain, of_length_plain}
+use Rattle.delivery.specs.declared.finishing.ResponseBody.{ResponseBody}
+use Rattle.delivery.specs.Finished.{is_confirmed, says_no_length, asks_to_close, settled, framed, ended, sent_head, finished}
 
 by_bit : (b : Bool) → (b ≡ true) ⊎ (b ≡ false)
 by_bit true = inl refl
@@ -32,10 +33,11 @@ close_plain = record {
   trimmed = close_trimmed;
 }
 
-framed_plain : (status len : ℕ) (fields : List Field) → len < 2 ^ 64 → All IsPlainField fields → All IsPlainField (framed status len fields)
-framed_plain status len fields small each = elim (by_bit (is_bodiless status)) [
+framed_plain : (asked : RequestHead) (status : ℕ) (body : ResponseBody) (fields : List Field) → length body.text < 2 ^ 64 → All IsPlainField fields
+    → All IsPlainField (framed asked status body fields)
+framed_plain asked status body fields small each = elim (by_bit (says_no_length asked status body)) [
   | inl none ↦ rw none (unframed_plain fields each)
-  | inr some ↦ rw some (of_length_plain len fields small each)
+  | inr some ↦ rw some (of_length_plain (length body.text) fields small each)
 ]
 
 ended_plain : (asked : RequestHead) (fields : List Field) → All IsPlainField fields → All IsPlainField (ended asked fields)
@@ -55,15 +57,16 @@ settled_shape asked conditions head shape = elim (by_bit (is_confirmed asked con
   | inr other ↦ rw other shape
 ]
 
-sent_shape : (asked : RequestHead) (len : ℕ) (head : ResponseHead) → len < 2 ^ 64 → IsResponseShape head → IsResponseShape (sent_head asked len head)
-sent_shape asked len head small shape = record {
+sent_shape : (asked : RequestHead) (body : ResponseBody) (head : ResponseHead) → length body.text < 2 ^ 64 → IsResponseShape head
+    → IsResponseShape (sent_head asked body head)
+sent_shape asked body head small shape = record {
   version = inr refl;
   status = shape.status;
   reason = shape.reason;
-  fields = ended_plain asked (framed head.status len head.fields) (framed_plain head.status len head.fields small shape.fields);
+  fields = ended_plain asked (framed asked head.status body head.fields) (framed_plain asked head.status body head.fields small shape.fields);
 }
 
-pub finished_shape : (asked : RequestHead) (conditions : List Field) (head : ResponseHead) (body : List ℕ) → length body < 2 ^ 64 → IsResponseShape head
+pub finished_shape : (asked : RequestHead) (conditions : List Field) (head : ResponseHead) (body : ResponseBody) → length body.text < 2 ^ 64 → IsResponseShape head
     → IsResponseShape (finished asked conditions head body).head
 finished_shape asked conditions head body small shape =
-    sent_shape asked (length body) (settled asked conditions head) small (settled_shape asked conditions head shape)
+    sent_shape asked body (settled asked conditions head) small (settled_shape asked conditions head shape)

@@ -6,9 +6,10 @@ use Rattle.http_heads.specs.declared.message.RequestHead.{RequestHead}
 use Rattle.http_heads.specs.declared.message.ResponseHead.{ResponseHead}
 use Rattle.http_heads.specs.Fields.{replaced}
 use Rattle.freshness.specs.Validators.{is_unchanged}
-use Rattle.message_fields.specs.Framed.{unframed, of_length}
-use Rattle.message_fields.specs.Lists.{is_listed}
+use Rattle.http_bodies.specs.Framed.{unframed, of_length}
+use Rattle.http_heads.specs.Lists.{is_listed}
 use Rattle.delivery.specs.declared.finishing.Delivery.{Delivery}
+use Rattle.delivery.specs.declared.finishing.ResponseBody.{ResponseBody}
 
 abbrev pub is_head : RequestHead → Bool
 is_head asked = bytes_eq asked.method (codes "HEAD")
@@ -29,9 +30,17 @@ settled asked conditions head =
 abbrev pub is_bodiless : ℕ → Bool
 is_bodiless status = status == 204 || status == 304
 
--- with the length of the body, where the status has one
-abbrev pub framed : ℕ → ℕ → List Field → List Field
-framed status len fields = if is_bodiless status then unframed fields else of_length len fields
+-- HEAD was passed, and no body came: the length that the response to GET has isn't known (RFC 9110, section 8.6)
+abbrev pub is_length_unknown : RequestHead → ResponseBody → Bool
+is_length_unknown asked body = is_head asked && (body.passed && length body.text == 0)
+
+-- no length is said where it isn't known, and where the status has none
+abbrev pub says_no_length : RequestHead → ℕ → ResponseBody → Bool
+says_no_length asked status body = is_bodiless status || is_length_unknown asked body
+
+-- with the length of the body, where it is said
+abbrev pub framed : RequestHead → ℕ → ResponseBody → List Field → List Field
+framed asked status body fields = if says_no_length asked status body then unframed fields else of_length (length body.text) fields
 
 -- the request asks that the connection is closed behind the response
 abbrev pub asks_to_close : RequestHead → Bool
@@ -45,14 +54,14 @@ ended asked fields = if asks_to_close asked then replaced (codes "Connection") (
 abbrev pub sent_body : RequestHead → ℕ → List ℕ → List ℕ
 sent_body asked status body = if is_head asked || is_bodiless status then [] else body
 
--- of a settled response with a body of such a length
-abbrev pub sent_head : RequestHead → ℕ → ResponseHead → ResponseHead
-sent_head asked len head =
-    record { version = 11; status = head.status; reason = head.reason; fields = ended asked (framed head.status len head.fields) }
+-- of a settled response with this body
+abbrev pub sent_head : RequestHead → ResponseBody → ResponseHead → ResponseHead
+sent_head asked body head =
+    record { version = 11; status = head.status; reason = head.reason; fields = ended asked (framed asked head.status body head.fields) }
 
 -- what is sent to the request that came, by its conditions as VCL left them
-abbrev pub finished : RequestHead → List Field → ResponseHead → List ℕ → Delivery
+abbrev pub finished : RequestHead → List Field → ResponseHead → ResponseBody → Delivery
 finished asked conditions head body = record {
-  head = sent_head asked (length body) (settled asked conditions head);
-  body = sent_body asked (settled asked conditions head).status body;
+  head = sent_head asked body (settled asked conditions head);
+  body = sent_body asked (settled asked conditions head).status body.text;
 }

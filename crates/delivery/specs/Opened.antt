@@ -3,7 +3,7 @@ use Rattle.std.specs.Prelude.{ℕ, ℤ, List, [], ◌++◌, ◌/◌, ◌-ℤ◌,
 use Rattle.std.specs.Fmt.{decimal}
 use Rattle.http_heads.specs.declared.fields.Field.{Field}
 use Rattle.http_heads.specs.declared.message.ResponseHead.{ResponseHead}
-use Rattle.http_heads.specs.Fields.{appended}
+use Rattle.http_heads.specs.Fields.{appended, replaced}
 use Rattle.delivery.specs.declared.opening.Numbers.{Numbers}
 
 -- whole seconds, none where less than nothing has passed
@@ -24,13 +24,14 @@ object_text (Some number) = codes " " ++ decimal number
 abbrev pub numbers_text : Numbers → List ℕ
 numbers_text numbers = decimal numbers.round ++ object_text numbers.object
 
--- the status, reason and fields of an object or a reply, its numbers, and its age (RFC 9111, section 5.1)
+-- The status, reason and fields of an object or a reply, its numbers, and its age (RFC 9111, section 5.1), which stands in the
+-- place of each age that the backend told (section 4): the object's origin has that one already.
 abbrev pub opened : ℕ → List ℕ → List Field → Numbers → ℕ → ResponseHead
 opened status reason fields numbers age = record {
   version = 11;
   status = status;
   reason = reason;
-  fields = appended (codes "Age") (decimal age) (appended (codes "X-Varnish") (numbers_text numbers) fields);
+  fields = replaced (codes "Age") (decimal age) (appended (codes "X-Varnish") (numbers_text numbers) fields);
 }
 
 -- a response that no backend made has its number alone

@@ -2,11 +2,11 @@
 ghost use Rattle.std.specs.Prelude.{◌≡◌, ◌||◌, ◌&&◌, ◌==◌, ◌<◌, ◌^◌, codes, length, IfOk};
 ghost use Rattle.std.specs.Str.{bytes_eq};
 ghost use Rattle.http_heads.specs.Printed.{IsResponseShape};
-ghost use Rattle.delivery.specs.Finished.{is_get_or_head, is_head as to_head, is_confirmed as confirms, settled, is_bodiless as bodiless, framed, ended, asks_to_close as asks, sent_body as body_sent, finished};
+ghost use Rattle.delivery.specs.Finished.{is_get_or_head, is_head as to_head, is_confirmed as confirms, settled, is_bodiless as bodiless, is_length_unknown as length_unknown, says_no_length as says_none, framed, ended, asks_to_close as asks, sent_body as body_sent, finished};
 
 use freshness::not_modified;
-use http_heads::{Fields, RequestHead, ResponseHead};
-use message_fields::{is_listed, unframed, with_length, with_only_field};
+use http_bodies::{unframed, with_length};
+use http_heads::{Fields, RequestHead, ResponseHead, is_listed, with_only_field};
 use std::alloc::{AllocError, Global};
 use units::Text;
 
@@ -15,6 +15,14 @@ use units::Text;
 pub struct Delivery {
     pub head: ResponseHead,
     pub body: Text,
+}
+
+/// The body of a response as VCL left it.
+#[derive(Drop)]
+pub struct ResponseBody {
+    pub text: Text,
+    /// The response is a backend's to a request that was passed, so that HEAD may have been asked for it.
+    pub passed: bool,
 }
 
 fn is_head(asked: &RequestHead) -> bool
@@ -61,14 +69,33 @@ fn is_bodiless(status: u16) -> bool
     status == 204 || status == 304
 }
 
-// The fields with the body's length, where one may be said.
-fn frame_fields(alloc: Global, status: u16, len: u64, fields: Fields) -> Result<Fields, AllocError>
-    ensures { IfOk result (λ all. all ≡ framed status len fields) }
+// Whether the length that GET would have isn't known (RFC 9110, section 8.6).
+fn is_length_unknown(asked: &RequestHead, body: &ResponseBody) -> bool
+    ensures { result ≡ length_unknown asked.now body.now }
 {
-    if is_bodiless(status) {
+    is_head(asked) && body.passed && body.text.bytes().is_empty()
+}
+
+fn says_no_length(asked: &RequestHead, status: u16, body: &ResponseBody) -> bool
+    ensures { result ≡ says_none asked.now status body.now }
+{
+    is_bodiless(status) || is_length_unknown(asked, body)
+}
+
+// The fields with the body's length, where one may be said.
+fn frame_fields(
+    alloc: Global,
+    asked: &RequestHead,
+    status: u16,
+    body: &ResponseBody,
+    fields: Fields,
+) -> Result<Fields, AllocError>
+    ensures { IfOk result (λ all. all ≡ framed asked.now status body.now fields) }
+{
+    if says_no_length(asked, status, body) {
         return Ok(unframed(fields));
     }
-    with_length(alloc, fields, len)
+    with_length(alloc, fields, body.text.bytes().len() as u64)
 }
 
 fn asks_to_close(asked: &RequestHead) -> bool
@@ -107,20 +134,19 @@ pub fn finish(
     asked: &RequestHead,
     conditions: &Fields,
     head: ResponseHead,
-    body: Text,
+    body: ResponseBody,
 ) -> Result<Delivery, AllocError>
     ensures { IfOk result (λ sent. sent ≡ finished asked.now conditions.now head body) }
 {
-    let len = body.bytes().len() as u64;
     let head = settle(alloc, asked, conditions, head)?;
     let status = head.status;
-    let fields = frame_fields(alloc, status, len, head.fields)?;
+    let fields = frame_fields(alloc, asked, status, &body, head.fields)?;
     let head = ResponseHead {
         version: 11,
         status,
         reason: head.reason,
         fields: end_fields(alloc, asked, fields)?,
     };
-    let body = sent_body(alloc, asked, status, body)?;
+    let body = sent_body(alloc, asked, status, body.text)?;
     Ok(Delivery { head, body })
 }

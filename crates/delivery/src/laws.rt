@@ -5,6 +5,7 @@ ghost use Rattle.http_heads.specs.declared.fields.Field.{Field as One};
 ghost use Rattle.http_heads.specs.declared.message.RequestHead.{RequestHead as Request};
 ghost use Rattle.http_heads.specs.declared.message.ResponseHead.{ResponseHead as Response};
 ghost use Rattle.http_heads.specs.Printed.{IsPlainField, IsResponseShape};
+ghost use Rattle.delivery.specs.declared.finishing.ResponseBody.{ResponseBody as Left};
 ghost use Rattle.delivery.specs.declared.opening.Numbers.{Numbers as Carried};
 ghost use Rattle.delivery.specs.Opened.{opened, opened_synthetic};
 ghost use Rattle.delivery.specs.Finished.{finished};
@@ -23,8 +24,8 @@ pub fn opened_as_read()
 /// of what is sent: `print_delivery` says that the client reads that head then. Where the status is one of a final
 /// response, the head and the client's own request say that the body ends where the one that was sent does.
 pub fn sent_as_meant()
-    ensures shape { (asked : Request) (conditions : List One) (head : Response) (body : List ℕ) → length body < 2 ^ 64 → IsResponseShape head
+    ensures shape { (asked : Request) (conditions : List One) (head : Response) (body : Left) → length body.text < 2 ^ 64 → IsResponseShape head
         → IsResponseShape (finished asked conditions head body).head }
-    ensures frames { (asked : Request) (conditions : List One) (head : Response) (body : List ℕ) → length body < 2 ^ 64 → 199 < head.status
+    ensures frames { (asked : Request) (conditions : List One) (head : Response) (body : Left) → length body.text < 2 ^ 64 → 199 < head.status
         → IsFramedAsSent asked (finished asked conditions head body) }
 {}

@@ -11,8 +11,8 @@ mod opening;
 mod pages;
 mod printing;
 
-pub use finishing::{Delivery, finish};
+pub use finishing::{Delivery, ResponseBody, finish};
 pub use laws::{opened_as_read, sent_as_meant};
 pub use opening::{Numbers, age_at, open_delivery, open_synthetic};
-pub use pages::{Failure, default_reason, failure_page};
+pub use pages::{Failure, failure_page};
 pub use printing::{closes, print_delivery};

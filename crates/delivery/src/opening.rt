@@ -1,11 +1,12 @@
 // The responses that vcl_deliver and vcl_synth begin with.
-ghost use Rattle.std.specs.Prelude.{◌≡◌, All, IfOk, ℤ};
+ghost use Rattle.std.specs.Prelude.{◌≡◌, All, IfOk, ℤ, codes};
+ghost use Rattle.std.specs.Fmt.{decimal};
+ghost use Rattle.http_heads.specs.Fields.{replaced};
 ghost use Rattle.delivery.specs.Opened.{age_of, numbers_text, opened, opened_synthetic};
 
-use http_heads::{Fields, ResponseHead};
-use message_fields::{with_field, with_number};
+use http_heads::{Fields, ResponseHead, with_field, with_number, with_only_field};
 use std::alloc::{AllocError, Global};
-use units::{Copied, Text, push_number};
+use units::{Copied, Text, push_number, write_number};
 
 /// The numbers that a response carries.
 #[derive(Clone, Copy, Debug)]
@@ -40,7 +41,16 @@ fn write_numbers(alloc: Global, numbers: Numbers) -> Result<Text, AllocError>
     Text::from_vec(out)
 }
 
-/// The response of an object, or of a fetch that isn't stored, as vcl_deliver gets it.
+// The fields with this age, and no other.
+fn with_age(alloc: Global, fields: Fields, age: u64) -> Result<Fields, AllocError>
+    ensures { IfOk result (λ all. all ≡ replaced (codes "Age") (decimal age) fields) }
+{
+    let digits = write_number(alloc, age)?;
+    with_only_field(alloc, fields, b"Age", digits.bytes())
+}
+
+/// The response of an object, or of a fetch that isn't stored, as vcl_deliver gets it. Its age stands in the place of each one
+/// that the backend told.
 pub fn open_delivery(
     alloc: Global,
     status: u16,
@@ -57,7 +67,7 @@ pub fn open_delivery(
         version: 11,
         status,
         reason: reason.copy()?,
-        fields: with_number(alloc, fields, b"Age", age)?,
+        fields: with_age(alloc, fields, age)?,
     })
 }
 

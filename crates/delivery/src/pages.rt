@@ -1,29 +1,11 @@
-// The reasons of statuses, why a response comes that VCL didn't ask for, and the one that no VCL has a part in.
+// Why a response comes that VCL didn't ask for, and the one that no VCL has a part in.
 ghost use Rattle.std.specs.Prelude.{◌≡◌, IfOk};
-ghost use Rattle.delivery.specs.Pages.{default_reason as usual_reason, reason_of, failed};
+ghost use Rattle.delivery.specs.Pages.{reason_of, failed};
 
 use crate::Delivery;
-use http_heads::{Fields, ResponseHead};
-use message_fields::with_field;
+use http_heads::{Fields, ResponseHead, with_field};
 use std::alloc::{AllocError, Global};
 use units::Text;
-
-/// The reason of a status where VCL gives none.
-pub fn default_reason(status: u16) -> &'static [u8]
-    ensures { result.now ≡ usual_reason status }
-{
-    match status {
-        200 => b"OK",
-        400 => b"Bad Request",
-        403 => b"Forbidden",
-        404 => b"Not Found",
-        405 => b"Method Not Allowed",
-        500 => b"Internal Server Error",
-        501 => b"Not Implemented",
-        503 => b"Service Unavailable",
-        _ => b"Unknown",
-    }
-}
 
 /// Why a response with status 503 comes that VCL didn't ask for.
 #[derive(Clone, Copy, Debug, PartialEq, Eq)]

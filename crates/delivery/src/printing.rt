@@ -2,12 +2,11 @@
 ghost use Rattle.std.specs.Prelude.{◌≡◌, ◌++◌, ℕ, List, length, IfOk, codes};
 ghost use Rattle.http_heads.specs.Heads.{HasResponse};
 ghost use Rattle.http_heads.specs.Printed.{IsResponseMessage, response_text};
-ghost use Rattle.message_fields.specs.Lists.{is_listed as lists_it};
+ghost use Rattle.http_heads.specs.Lists.{is_listed as lists_it};
 ghost use Rattle.delivery.specs.Sent.{delivery_text};
 
 use crate::Delivery;
-use http_heads::print_response;
-use message_fields::is_listed;
+use http_heads::{is_listed, print_response};
 use std::alloc::{AllocError, Global};
 use units::Text;
 

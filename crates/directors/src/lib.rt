@@ -6,8 +6,8 @@
 
 mod director;
 mod key;
-#[cfg(test)]
-mod tests;
+mod target;
 
 pub use director::{DirectorKind, Members, choose, one_choice};
 pub use key::key_word;
+pub use target::{Member, Target};

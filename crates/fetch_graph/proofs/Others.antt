@@ -7,12 +7,12 @@ use Rattle.cache_law.specs.declared.rounds.Given.{Given}
 use Rattle.cache_law.specs.declared.rounds.Given.TheVariants as given
 use Rattle.http_heads.specs.declared.exchange.Got.{Got}
 use Rattle.vcl_context.specs.declared.context.Context.{Context}
-use Rattle.vcl_turns.specs.declared.turn.Return.{Return}
-use Rattle.vcl_turns.specs.declared.turn.Return.TheVariants as word
+use Rattle.vcl_context.specs.declared.turn.Return.{Return}
+use Rattle.vcl_context.specs.declared.turn.Return.TheVariants as word
 use Rattle.fetch_graph.specs.declared.fetch.Arrived.{Arrived}
 use Rattle.fetch_graph.specs.declared.fetch.Fetch.{Fetch}
 use Rattle.fetch_graph.specs.declared.fetch.Insertion.{Insertion}
-use Rattle.fetch_graph.specs.declared.fetch.Spot.TheVariants as spot
+use Rattle.fetch_graph.specs.declared.fetch.WaitPoint.TheVariants as point
 use Rattle.fetch_graph.specs.Graph.{abandoned, behind_request, behind_response, behind_error}
 use Rattle.fetch_graph.specs.Answers.{over, picked, inserted, takes}
 
@@ -60,19 +60,19 @@ error-other origin w c f a b = refl
 
 -- ---- what doesn't answer what is wanted at a place
 
-pub pick-given : (c : Context) (g : Given) (f : Fetch) → ((t : Told) → g ≡ given.Reply t → ⊥) → over f ≡ takes (spot.Pick c) g f
+pub pick-given : (c : Context) (g : Given) (f : Fetch) → ((t : Told) → g ≡ given.Reply t → ⊥) → over f ≡ takes (point.Pick c) g f
 pick-given c (given.Reply t) f other = absurd (other t refl)
 pick-given c g f other = refl
 
-pub ask-given : (c : Context) (g : Given) (f : Fetch) → ((t : Got) → g ≡ given.Exchange t → ⊥) → over f ≡ takes (spot.Ask c) g f
+pub ask-given : (c : Context) (g : Given) (f : Fetch) → ((t : Got) → g ≡ given.Exchange t → ⊥) → over f ≡ takes (point.Ask c) g f
 ask-given c (given.Exchange t) f other = absurd (other t refl)
 ask-given c g f other = refl
 
-pub insert-given : (i : Insertion) (c : Context) (g : Given) (f : Fetch) → ((t : Told) → g ≡ given.Reply t → ⊥) → over f ≡ takes (spot.Insert i c) g f
+pub insert-given : (i : Insertion) (c : Context) (g : Given) (f : Fetch) → ((t : Told) → g ≡ given.Reply t → ⊥) → over f ≡ takes (point.Insert i c) g f
 insert-given i c (given.Reply t) f other = absurd (other t refl)
 insert-given i c g f other = refl
 
-pub drop-given : (g : Given) (f : Fetch) → over f ≡ takes spot.Drop g f
+pub drop-given : (g : Given) (f : Fetch) → over f ≡ takes point.Drop g f
 drop-given given.Start f = refl
 drop-given (given.Reply t) f = refl
 drop-given (given.Exchange t) f = refl

@@ -14,8 +14,8 @@ use Rattle.backend_request.specs.Timed.{timed}
 use Rattle.fetch_graph.specs.declared.fetch.Fetch.{Fetch}
 use Rattle.fetch_graph.specs.declared.fetch.State.TheVariants as state
 use Rattle.fetch_graph.specs.declared.fetch.Insertion.{Insertion}
-use Rattle.fetch_graph.specs.declared.fetch.Spot.{Spot}
-use Rattle.fetch_graph.specs.declared.fetch.Spot.TheVariants as spot
+use Rattle.fetch_graph.specs.declared.fetch.WaitPoint.{WaitPoint}
+use Rattle.fetch_graph.specs.declared.fetch.WaitPoint.TheVariants as point
 use Rattle.fetch_graph.specs.declared.fetch.Next.{Next}
 use Rattle.fetch_graph.specs.declared.fetch.Next.TheVariants.{Rest}
 use Rattle.fetch_graph.specs.Contexts.{with_head, with_response, age_at, response_with}
@@ -24,11 +24,11 @@ use Rattle.fetch_graph.specs.Graph.{enter, failing, nothing, outcome_of}
 
 -- what can't be answered here ends the fetch
 abbrev pub over : Fetch → Next
-over fetch = Rest (spot.Over (nothing fetch)) fetch
+over fetch = Rest (point.Over (nothing fetch)) fetch
 
 -- a backend is asked, or none is healthy
 abbrev pub chosen : Option (List ℕ) → Context → ℕ → Fetch → Next
-chosen (Some name) context moment fetch = Rest (spot.Ask context) (record fetch { moment = moment; picked = Some name })
+chosen (Some name) context moment fetch = Rest (point.Ask context) (record fetch { moment = moment; picked = Some name })
 chosen None context moment fetch = failing context (record fetch { moment = moment })
 
 abbrev pub picked : Context → ℕ → Reply → Fetch → Next
@@ -56,16 +56,16 @@ exchanged context exchange.NoMemory fetch = over fetch
 
 -- The insertion was answered. Where the stale object is gone, the backend is asked once more, without a condition.
 abbrev pub inserted : Insertion → Context → ℕ → Reply → Fetch → Next
-inserted insertion context moment (reply.Stored number) fetch = Rest (spot.Over (outcome_of fetch insertion.delivered moment insertion.is_marker)) fetch
-inserted insertion context moment reply.NotInTime fetch = Rest (spot.Over (outcome_of fetch insertion.delivered moment insertion.is_marker)) fetch
-inserted insertion context moment reply.NoRoom fetch = Rest (spot.Over (outcome_of fetch insertion.delivered moment insertion.is_marker)) fetch
-inserted insertion context moment reply.Refused fetch = Rest (spot.Over (outcome_of fetch insertion.delivered moment insertion.is_marker)) fetch
-inserted insertion context moment reply.StaleGone fetch = Rest (spot.Ask (with_head (unconditional context.fetch_request.head) context)) fetch
+inserted insertion context moment (reply.Stored number) fetch = Rest (point.Over (outcome_of fetch insertion.delivered moment insertion.is_marker)) fetch
+inserted insertion context moment reply.NotInTime fetch = Rest (point.Over (outcome_of fetch insertion.delivered moment insertion.is_marker)) fetch
+inserted insertion context moment reply.NoRoom fetch = Rest (point.Over (outcome_of fetch insertion.delivered moment insertion.is_marker)) fetch
+inserted insertion context moment reply.Refused fetch = Rest (point.Over (outcome_of fetch insertion.delivered moment insertion.is_marker)) fetch
+inserted insertion context moment reply.StaleGone fetch = Rest (point.Ask (with_head (unconditional context.fetch_request.head) context)) fetch
 inserted insertion context moment other fetch = over fetch
 
 -- where an answer leads from a place; one that doesn't answer what is wanted there ends the fetch
-abbrev pub takes : Spot → Given → Fetch → Next
-takes (spot.Pick context) (given.Reply told) fetch = picked context told.moment told.reply fetch
-takes (spot.Ask context) (given.Exchange got) fetch = exchanged context got.exchange (record fetch { moment = got.moment })
-takes (spot.Insert insertion context) (given.Reply told) fetch = inserted insertion context told.moment told.reply fetch
-takes spot given fetch = over fetch
+abbrev pub takes : WaitPoint → Given → Fetch → Next
+takes (point.Pick context) (given.Reply told) fetch = picked context told.moment told.reply fetch
+takes (point.Ask context) (given.Exchange got) fetch = exchanged context got.exchange (record fetch { moment = got.moment })
+takes (point.Insert insertion context) (given.Reply told) fetch = inserted insertion context told.moment told.reply fetch
+takes point given fetch = over fetch

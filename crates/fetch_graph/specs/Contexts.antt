@@ -11,12 +11,12 @@ use Rattle.vcl_values.specs.declared.value.Backend.{Backend}
 use Rattle.vcl_context.specs.declared.context.Context.{Context}
 use Rattle.vcl_context.specs.declared.context.FetchRequest.{FetchRequest}
 use Rattle.vcl_context.specs.declared.context.FetchResponse.{FetchResponse}
-use Rattle.vcl_context.specs.Unfilled.{unfilled}
-use Rattle.cache_law.specs.declared.target.Target.{Target}
+use Rattle.vcl_context.specs.Initial.{empty_context}
+use Rattle.directors.specs.declared.target.Target.{Target}
 
 -- the request of a fetch for the client of this address, and nothing else so far
 abbrev pub first_context : List ℕ → FetchRequest → Context
-first_context address request = record (unfilled address) { fetch_request = request }
+first_context address request = record (empty_context address) { fetch_request = request }
 
 -- the response that a subroutine makes, without a body of VCL's own so far
 abbrev pub with_response : FetchResponse → Context → Context

@@ -13,8 +13,8 @@ use Rattle.vcl_context.specs.declared.context.Context.{Context}
 use Rattle.vcl_context.specs.declared.context.FetchResponse.{FetchResponse}
 use Rattle.vcl_language.specs.declared.scope.Subroutine.{Subroutine}
 use Rattle.vcl_language.specs.declared.scope.Subroutine.TheVariants as subroutine
-use Rattle.vcl_turns.specs.declared.turn.Return.{Return}
-use Rattle.vcl_turns.specs.declared.turn.Return.TheVariants as word
+use Rattle.vcl_context.specs.declared.turn.Return.{Return}
+use Rattle.vcl_context.specs.declared.turn.Return.TheVariants as word
 use Rattle.delivery.specs.declared.pages.Failure.TheVariants.{FetchFailed}
 use Rattle.delivery.specs.Pages.{reason_of}
 use Rattle.backend_request.specs.Timed.{timed, error_head}
@@ -23,13 +23,13 @@ use Rattle.fetch_graph.specs.declared.fetch.Fetch.{Fetch}
 use Rattle.fetch_graph.specs.declared.fetch.Arrived.{Arrived}
 use Rattle.fetch_graph.specs.declared.fetch.State.{State}
 use Rattle.fetch_graph.specs.declared.fetch.State.TheVariants as state
-use Rattle.fetch_graph.specs.declared.fetch.Kept.{Kept}
-use Rattle.fetch_graph.specs.declared.fetch.Kept.TheVariants as kept
-use Rattle.fetch_graph.specs.declared.fetch.Spot.TheVariants as spot
+use Rattle.fetch_graph.specs.declared.fetch.StoreAs.{StoreAs}
+use Rattle.fetch_graph.specs.declared.fetch.StoreAs.TheVariants as store_as
+use Rattle.fetch_graph.specs.declared.fetch.WaitPoint.TheVariants as point
 use Rattle.fetch_graph.specs.declared.fetch.Next.{Next}
 use Rattle.fetch_graph.specs.declared.fetch.Next.TheVariants.{Enter, Rest}
 use Rattle.fetch_graph.specs.Contexts.{with_response, tried, age_at, response_with}
-use Rattle.vcl_context.specs.Unfilled.{uncounted, made_body, given_status}
+use Rattle.vcl_context.specs.Initial.{uncounted, body_or_empty, status_or_503}
 use Rattle.fetch_graph.specs.Opening.{purpose_of}
 
 -- the subroutine that runs in a state
@@ -60,8 +60,8 @@ nothing fetch = if fetch.order.background then Ended else Failed
 
 -- what opened the fetch is closed, if it was a lookup
 abbrev pub given_up : Option Query → Fetch → Next
-given_up None fetch = Rest (spot.Over (nothing fetch)) fetch
-given_up (Some query) fetch = Rest spot.Drop fetch
+given_up None fetch = Rest (point.Over (nothing fetch)) fetch
+given_up (Some query) fetch = Rest point.Drop fetch
 
 abbrev pub abandoned : Fetch → Next
 abandoned fetch = given_up fetch.order.looked fetch
@@ -97,21 +97,21 @@ abbrev pub marked_response : ℤ → Response → Response
 marked_response ttl response = record response { timing = record { origin = response.timing.origin; ttl = ttl; grace = pos 0; keep = pos 0 } }
 
 -- what the cache gets of a response
-abbrev pub object_for : Kept → Response → Object
-object_for kept.Whole response = Ordinary response
-object_for kept.HitForMiss response = HitForMiss (marker_of response response.timing.ttl)
-object_for (kept.HitForPass ttl) response = HitForPass (marker_of response ttl)
+abbrev pub object_for : StoreAs → Response → Object
+object_for store_as.Whole response = Ordinary response
+object_for store_as.HitForMiss response = HitForMiss (marker_of response response.timing.ttl)
+object_for (store_as.HitForPass ttl) response = HitForPass (marker_of response ttl)
 
 -- and what is delivered
-abbrev pub shown_for : Kept → Response → Response
-shown_for kept.Whole response = response
-shown_for kept.HitForMiss response = marked_response response.timing.ttl response
-shown_for (kept.HitForPass ttl) response = marked_response ttl response
+abbrev pub shown_for : StoreAs → Response → Response
+shown_for store_as.Whole response = response
+shown_for store_as.HitForMiss response = marked_response response.timing.ttl response
+shown_for (store_as.HitForPass ttl) response = marked_response ttl response
 
-abbrev pub is_marked : Kept → Bool
-is_marked kept.Whole = false
-is_marked kept.HitForMiss = true
-is_marked (kept.HitForPass ttl) = true
+abbrev pub is_marked : StoreAs → Bool
+is_marked store_as.Whole = false
+is_marked store_as.HitForMiss = true
+is_marked (store_as.HitForPass ttl) = true
 
 -- the object that takes the place of a confirmed one names it
 abbrev pub confirmed_number : Bool → Option ObjectView → Option ℕ
@@ -126,40 +126,40 @@ outcome_of fetch object moment uncacheable =
     if fetch.order.background then Ended else Delivered (view_of fetch.order.number object) moment uncacheable
 
 -- a response that may be stored is handed to the cache first
-unfoldable pub handed : Option Query → Kept → Response → Context → Fetch → Next
-handed None kept response context fetch = Rest (spot.Over (outcome_of fetch (Ordinary response) fetch.moment true)) fetch
-handed (Some query) kept response context fetch =
-    Rest (spot.Insert (record {
-      object = object_for kept response;
-      delivered = Ordinary (shown_for kept response);
-      is_marker = is_marked kept;
+unfoldable pub handed : Option Query → StoreAs → Response → Context → Fetch → Next
+handed None store_as response context fetch = Rest (point.Over (outcome_of fetch (Ordinary response) fetch.moment true)) fetch
+handed (Some query) store_as response context fetch =
+    Rest (point.Insert (record {
+      object = object_for store_as response;
+      delivered = Ordinary (shown_for store_as response);
+      is_marker = is_marked store_as;
       stale = confirmed_number context.fetch_response.was_304 fetch.order.stale;
     }) context) fetch
 
 -- the response that VCL left is delivered, with the body and the origin of what arrived
-unfoldable pub delivered : Kept → Arrived → Context → Fetch → Next
-delivered kept arrived context fetch =
-    handed fetch.order.looked kept
+unfoldable pub delivered : StoreAs → Arrived → Context → Fetch → Next
+delivered store_as arrived context fetch =
+    handed fetch.order.looked store_as
     (response_of fetch.order.looked context.fetch_response.head arrived.body (timing_left arrived.origin context.fetch_response)) context fetch
 
 -- what vcl_backend_error made, with its own body
 abbrev pub made_at : ℤ → Context → Arrived
-made_at origin context = record { body = made_body context.body; origin = origin }
+made_at origin context = record { body = body_or_empty context.body; origin = origin }
 
 -- by `deliver`: whole, or that it isn't kept
-abbrev pub kept_by : FetchResponse → Kept
-kept_by response = if response.uncacheable then kept.HitForMiss else kept.Whole
+abbrev pub kept_by : FetchResponse → StoreAs
+kept_by response = if response.uncacheable then store_as.HitForMiss else store_as.Whole
 
 -- Where a subroutine's word leads. What isn't a word there is as `abandon` is.
 abbrev pub behind_request : Return → Context → Fetch → Next
-behind_request word.Fetch context fetch = Rest (spot.Pick context) fetch
-behind_request (word.Error status reason) context fetch = erring (given_status status) reason context fetch
+behind_request word.Fetch context fetch = Rest (point.Pick context) fetch
+behind_request (word.Error status reason) context fetch = erring (status_or_503 status) reason context fetch
 behind_request word context fetch = abandoned fetch
 
 abbrev pub behind_response : Arrived → Return → Context → Fetch → Next
 behind_response arrived word.Deliver context fetch = delivered (kept_by context.fetch_response) arrived context fetch
-behind_response arrived (word.PassFor ttl) context fetch = delivered (kept.HitForPass ttl) arrived context fetch
-behind_response arrived (word.Error status reason) context fetch = erring (given_status status) reason context fetch
+behind_response arrived (word.PassFor ttl) context fetch = delivered (store_as.HitForPass ttl) arrived context fetch
+behind_response arrived (word.Error status reason) context fetch = erring (status_or_503 status) reason context fetch
 behind_response arrived word.Retry context fetch = retried_if (may_retry fetch) context fetch
 behind_response arrived word context fetch = abandoned fetch
 

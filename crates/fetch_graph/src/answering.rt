@@ -9,14 +9,14 @@ use crate::contexts::{response_at, set_head, set_response};
 use crate::keeping::{nothing, outcome_of};
 use crate::leading::{enter, fail};
 use crate::opening::{content_of, purpose_of};
-use crate::{Arrived, Fetch, Insertion, Next, Spot, State};
+use crate::{Arrived, Fetch, Insertion, Next, State, WaitPoint};
 use backend_request::{Received, receive, timed, unconditional};
 use cache_law::Reply;
 use cache_law::rounds::Given;
 use http_heads::{Exchange, ResponseHead};
 use std::alloc::{AllocError, Global};
 use std::mem;
-use units::{Copied, Text, lost};
+use units::{Copied, Text, out_of_memory};
 use vcl_context::Context;
 
 // What can't be answered here ends the fetch. What else was held is let go.
@@ -24,7 +24,7 @@ fn over<V: Drop>(_held: V, fetch: Fetch) -> Next
     ensures { result ≡ over_next fetch }
 {
     Next::Rest {
-        spot: Spot::Over(nothing(&fetch)),
+        point: WaitPoint::Over(nothing(&fetch)),
         fetch,
     }
 }
@@ -44,7 +44,7 @@ fn choose(
         Some(name) => {
             drop(mem::replace(&mut fetch.picked, Some(name)));
             Ok(Next::Rest {
-                spot: Spot::Ask { context },
+                point: WaitPoint::Ask { context },
                 fetch,
             })
         }
@@ -92,7 +92,7 @@ fn respond(response: Received, mut context: Context, fetch: Fetch) -> Result<Nex
         was_304,
         &fetch.picked,
     ) else {
-        return Err(lost((body, context, fetch)));
+        return Err(out_of_memory((body, context, fetch)));
     };
     set_response(response, &mut context);
     let state = State::Response(Arrived {
@@ -133,7 +133,7 @@ fn replied(
         head,
         body,
     ) else {
-        return Err(lost((context, fetch)));
+        return Err(out_of_memory((context, fetch)));
     };
     arrived(alloc, received, context, fetch)
 }
@@ -156,21 +156,21 @@ fn exchange_over(
 
 // The backend is asked once more, without a condition.
 fn ask_again(alloc: Global, mut context: Context, fetch: Fetch) -> Result<Next, AllocError>
-    ensures { IfOk result (λ next. next ≡ Next.Rest (Spot.Ask (other_head (without_conditions context.fetch_request.head) context)) fetch) }
+    ensures { IfOk result (λ next. next ≡ Next.Rest (WaitPoint.Ask (other_head (without_conditions context.fetch_request.head) context)) fetch) }
 {
     let Ok(head) = context.fetch_request.head.copied(alloc) else {
-        return Err(lost((context, fetch)));
+        return Err(out_of_memory((context, fetch)));
     };
     set_head(unconditional(head), &mut context);
     Ok(Next::Rest {
-        spot: Spot::Ask { context },
+        point: WaitPoint::Ask { context },
         fetch,
     })
 }
 
 // The response is delivered, whether the cache keeps it or not.
 fn delivered<V: Drop>(_held: V, insertion: Insertion, moment: u64, fetch: Fetch) -> Next
-    ensures { result ≡ Next.Rest (Spot.Over (outcome_due fetch insertion.delivered moment insertion.is_marker)) fetch }
+    ensures { result ≡ Next.Rest (WaitPoint.Over (outcome_due fetch insertion.delivered moment insertion.is_marker)) fetch }
 {
     let Insertion {
         object,
@@ -181,7 +181,7 @@ fn delivered<V: Drop>(_held: V, insertion: Insertion, moment: u64, fetch: Fetch)
     drop(object);
     let outcome = outcome_of(&fetch, delivered, moment, is_marker);
     Next::Rest {
-        spot: Spot::Over(outcome),
+        point: WaitPoint::Over(outcome),
         fetch,
     }
 }
@@ -216,7 +216,7 @@ fn take_pick(
     given: Given,
     fetch: Fetch,
 ) -> Result<Next, AllocError>
-    ensures { IfOk result (λ next. next ≡ takes (Spot.Pick context) given fetch) }
+    ensures { IfOk result (λ next. next ≡ takes (WaitPoint.Pick context) given fetch) }
 {
     match given {
         Given::Reply(told) => picked(alloc, context, told.moment, told.reply, fetch),
@@ -231,7 +231,7 @@ fn take_exchange(
     given: Given,
     mut fetch: Fetch,
 ) -> Result<Next, AllocError>
-    ensures { IfOk result (λ next. next ≡ takes (Spot.Ask context) given fetch) }
+    ensures { IfOk result (λ next. next ≡ takes (WaitPoint.Ask context) given fetch) }
 {
     match given {
         Given::Exchange(got) => {
@@ -250,7 +250,7 @@ fn take_insertion(
     given: Given,
     fetch: Fetch,
 ) -> Result<Next, AllocError>
-    ensures { IfOk result (λ next. next ≡ takes (Spot.Insert insertion context) given fetch) }
+    ensures { IfOk result (λ next. next ≡ takes (WaitPoint.Insert insertion context) given fetch) }
 {
     match given {
         Given::Reply(told) => {
@@ -261,16 +261,16 @@ fn take_insertion(
 }
 
 /// Where an answer leads from a place, by `takes` of `specs/Answers.antt`.
-pub fn take(alloc: Global, spot: Spot, given: Given, fetch: Fetch) -> Result<Next, AllocError>
-    ensures { IfOk result (λ next. next ≡ takes spot given fetch) }
+pub fn take(alloc: Global, point: WaitPoint, given: Given, fetch: Fetch) -> Result<Next, AllocError>
+    ensures { IfOk result (λ next. next ≡ takes point given fetch) }
 {
-    match spot {
-        Spot::Pick { context } => take_pick(alloc, context, given, fetch),
-        Spot::Ask { context } => take_exchange(alloc, context, given, fetch),
-        Spot::Insert { insertion, context } => {
+    match point {
+        WaitPoint::Pick { context } => take_pick(alloc, context, given, fetch),
+        WaitPoint::Ask { context } => take_exchange(alloc, context, given, fetch),
+        WaitPoint::Insert { insertion, context } => {
             take_insertion(alloc, insertion, context, given, fetch)
         }
-        Spot::Drop => Ok(over(given, fetch)),
-        Spot::Over(outcome) => Ok(over((outcome, given), fetch)),
+        WaitPoint::Drop => Ok(over(given, fetch)),
+        WaitPoint::Over(outcome) => Ok(over((outcome, given), fetch)),
     }
 }

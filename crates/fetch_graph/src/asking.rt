@@ -1,19 +1,19 @@
 // What is wanted where a fetch rests.
 ghost use Rattle.std.specs.Prelude.{◌≡◌, IfOk};
 ghost use Rattle.backend_request.specs.Asked.{finished_request};
-ghost use Rattle.vcl_context.specs.Unfilled.{made_body as body_made};
+ghost use Rattle.vcl_context.specs.Initial.{body_or_empty as body_made};
 ghost use Rattle.fetch_graph.specs.Opening.{purpose_of as purpose_in};
 ghost use Rattle.fetch_graph.specs.Wants.{key_text as text_of_key, word_for as word_of, asks};
 
 use crate::opening::purpose_of;
-use crate::{Fetch, Spot, Want};
+use crate::{Fetch, FetchWant, WaitPoint};
 use backend_request::finish_request;
+use cache_law::Call;
 use cache_law::rounds::FetchOutcome;
-use cache_law::{Call, Shared, Target};
-use directors::{DirectorKind, key_word};
+use directors::{DirectorKind, Target, key_word};
 use std::alloc::{AllocError, Global};
-use units::{Copied, Text};
-use vcl_context::{Context, made_body};
+use units::{Copied, Shared, Text};
+use vcl_context::{Context, body_or_empty};
 use vcl_values::Backend;
 
 fn key_text(alloc: Global, backend: &Option<Backend>) -> Result<Text, AllocError>
@@ -41,24 +41,24 @@ fn pick(
     drawn: u64,
     fetch: &Fetch,
     context: &Context,
-) -> Result<Want, AllocError>
-    ensures { IfOk result (λ want. want ≡ asks target drawn fetch.now (Spot.Pick context.now)) }
+) -> Result<FetchWant, AllocError>
+    ensures { IfOk result (λ want. want ≡ asks target drawn fetch.now (WaitPoint.Pick context.now)) }
 {
     let text = key_text(alloc, &context.fetch_request.backend)?;
     let word = word_for(target.kind, &text, drawn);
-    Ok(Want::Cache(Call::Pick {
+    Ok(FetchWant::Cache(Call::Pick {
         vcl: fetch.order.vcl,
         target: Shared::new(alloc, target)?,
         word,
     }))
 }
 
-fn ask_backend(alloc: Global, fetch: &Fetch, context: &Context) -> Result<Want, AllocError>
-    ensures { IfOk result (λ want. want ≡ Want.Ask (body_made fetch.now.picked) (finished_request (purpose_in fetch.now.order.looked) fetch.now.order.request.body context.now.fetch_request.head)) }
+fn ask_backend(alloc: Global, fetch: &Fetch, context: &Context) -> Result<FetchWant, AllocError>
+    ensures { IfOk result (λ want. want ≡ FetchWant.Ask (body_made fetch.now.picked) (finished_request (purpose_in fetch.now.order.looked) fetch.now.order.request.body context.now.fetch_request.head)) }
 {
     let head = context.fetch_request.head.copied(alloc)?;
-    Ok(Want::Ask {
-        backend: made_body(alloc, &fetch.picked)?,
+    Ok(FetchWant::Ask {
+        backend: body_or_empty(alloc, &fetch.picked)?,
         request: finish_request(
             alloc,
             head,
@@ -93,21 +93,21 @@ pub fn ask(
     target: Target,
     drawn: u64,
     fetch: &Fetch,
-    spot: &Spot,
-) -> Result<Want, AllocError>
-    ensures { IfOk result (λ want. want ≡ asks target drawn fetch.now spot.now) }
+    point: &WaitPoint,
+) -> Result<FetchWant, AllocError>
+    ensures { IfOk result (λ want. want ≡ asks target drawn fetch.now point.now) }
 {
-    match spot {
-        Spot::Pick { context } => pick(alloc, target, drawn, fetch, context),
-        Spot::Ask { context } => ask_backend(alloc, fetch, context),
-        Spot::Insert { insertion, .. } => Ok(Want::Cache(Call::Insert {
+    match point {
+        WaitPoint::Pick { context } => pick(alloc, target, drawn, fetch, context),
+        WaitPoint::Ask { context } => ask_backend(alloc, fetch, context),
+        WaitPoint::Insert { insertion, .. } => Ok(FetchWant::Cache(Call::Insert {
             token: fetch.order.number,
             object: insertion.object.copy()?,
             stale: insertion.stale,
         })),
-        Spot::Drop => Ok(Want::Cache(Call::Drop {
+        WaitPoint::Drop => Ok(FetchWant::Cache(Call::Drop {
             token: fetch.order.number,
         })),
-        Spot::Over(outcome) => Ok(Want::Done(outcome_copy(outcome)?)),
+        WaitPoint::Over(outcome) => Ok(FetchWant::Done(outcome_copy(outcome)?)),
     }
 }

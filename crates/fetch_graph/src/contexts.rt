@@ -3,14 +3,13 @@ ghost use Rattle.std.specs.Prelude.{◌≡◌, ◌==◌, option_map, IfOk};
 ghost use Rattle.std.specs.List.{list_all};
 ghost use Rattle.fetch_graph.specs.Contexts as due;
 
-use cache_law::{Member, Target};
-use directors::DirectorKind;
+use directors::{DirectorKind, Member, Target};
 use freshness::Timing;
 use http_heads::{RequestHead, ResponseHead};
 use std::alloc::{AllocError, Global};
 use std::mem;
-use units::{Text, lost};
-use vcl_context::{Context, FetchRequest, FetchResponse, unfilled};
+use units::{Text, out_of_memory};
+use vcl_context::{Context, FetchRequest, FetchResponse, empty_context};
 use vcl_values::Backend;
 
 /// The last moment that is counted: the end of the year 9999.
@@ -24,8 +23,8 @@ pub fn first_context(
 ) -> Result<Context, AllocError>
     ensures { IfOk result (λ context. context ≡ due.first_context address fetch_request) }
 {
-    let Ok(mut context) = unfilled(alloc, address) else {
-        return Err(lost(fetch_request));
+    let Ok(mut context) = empty_context(alloc, address) else {
+        return Err(out_of_memory(fetch_request));
     };
     drop(mem::replace(&mut context.fetch_request, fetch_request));
     Ok(context)

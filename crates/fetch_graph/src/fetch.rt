@@ -1,8 +1,8 @@
 // A fetch, its states, and where it rests.
 use cache_law::rounds::{FetchOutcome, Order};
-use cache_law::{Call, Object, Response, Shared};
+use cache_law::{Call, Object, Response};
 use http_heads::BackendRequest;
-use units::Text;
+use units::{Shared, Text};
 use vcl_context::Context;
 
 /// What a fetch keeps beside what its subroutines work on.
@@ -38,7 +38,7 @@ pub enum State {
 
 /// What is kept of a response.
 #[derive(Clone, Copy, Debug, PartialEq, Eq)]
-pub enum Kept {
+pub enum StoreAs {
     Whole,
     /// That requests of the key fetch each for itself.
     HitForMiss,
@@ -59,7 +59,7 @@ pub struct Insertion {
 
 /// A place between subroutines, where something is wanted.
 #[derive(Drop)]
-pub enum Spot {
+pub enum WaitPoint {
     /// It has a backend picked.
     Pick {
         context: Context,
@@ -90,14 +90,14 @@ pub enum Next {
     },
     /// The fetch rests.
     Rest {
-        spot: Spot,
+        point: WaitPoint,
         fetch: Fetch,
     },
 }
 
 /// What a fetch wants.
 #[derive(Drop)]
-pub enum Want {
+pub enum FetchWant {
     /// A call of the cache.
     Cache(Call),
     /// An exchange with the backend of this name.

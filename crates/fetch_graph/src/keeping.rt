@@ -4,13 +4,13 @@ ghost use Rattle.backend_request.specs.Stored.{response_of};
 ghost use Rattle.cache_law.specs.declared.call.Query.{Query as Looked};
 ghost use Rattle.fetch_graph.specs.Graph.{timing_left as times_left, marked_response as marked, object_for as object_to_keep, shown_for as shown_with, is_marked as marks, confirmed_number as confirmed, outcome_of as outcome_with, handed, delivered, kept_by as kept_of, nothing as none_came};
 
-use crate::{Arrived, Fetch, Insertion, Kept, Next, Spot};
+use crate::{Arrived, Fetch, Insertion, Next, StoreAs, WaitPoint};
 use backend_request::{make_marker, make_response};
 use cache_law::rounds::FetchOutcome;
-use cache_law::{Object, ObjectView, Query, Response, Shared};
+use cache_law::{Object, ObjectView, Query, Response};
 use freshness::Timing;
 use std::alloc::{AllocError, Global};
-use units::{Copied, lost};
+use units::{Copied, Shared, out_of_memory};
 use vcl_context::{Context, FetchResponse};
 
 // The times that VCL left.
@@ -25,20 +25,20 @@ fn timing_left(origin: i64, response: &FetchResponse) -> Timing
     }
 }
 
-fn object_for(alloc: Global, kept: Kept, response: &Response) -> Result<Object, AllocError>
-    ensures { IfOk result (λ object. object ≡ object_to_keep kept response.now) }
+fn object_for(alloc: Global, store_as: StoreAs, response: &Response) -> Result<Object, AllocError>
+    ensures { IfOk result (λ object. object ≡ object_to_keep store_as response.now) }
 {
-    match kept {
-        Kept::Whole => Ok(Object::Ordinary(Response {
+    match store_as {
+        StoreAs::Whole => Ok(Object::Ordinary(Response {
             timing: response.timing,
             content: response.content.copy()?,
         })),
-        Kept::HitForMiss => Ok(Object::HitForMiss(make_marker(
+        StoreAs::HitForMiss => Ok(Object::HitForMiss(make_marker(
             alloc,
             response,
             response.timing.ttl,
         )?)),
-        Kept::HitForPass(ttl) => Ok(Object::HitForPass(make_marker(alloc, response, ttl)?)),
+        StoreAs::HitForPass(ttl) => Ok(Object::HitForPass(make_marker(alloc, response, ttl)?)),
     }
 }
 
@@ -58,22 +58,22 @@ fn marked_response(ttl: i64, response: Response) -> Response
     }
 }
 
-fn shown_for(kept: Kept, response: Response) -> Response
-    ensures { result ≡ shown_with kept response }
+fn shown_for(store_as: StoreAs, response: Response) -> Response
+    ensures { result ≡ shown_with store_as response }
 {
-    match kept {
-        Kept::Whole => response,
-        Kept::HitForMiss => marked_response(response.timing.ttl, response),
-        Kept::HitForPass(ttl) => marked_response(ttl, response),
+    match store_as {
+        StoreAs::Whole => response,
+        StoreAs::HitForMiss => marked_response(response.timing.ttl, response),
+        StoreAs::HitForPass(ttl) => marked_response(ttl, response),
     }
 }
 
-fn is_marked(kept: Kept) -> bool
-    ensures { result ≡ marks kept }
+fn is_marked(store_as: StoreAs) -> bool
+    ensures { result ≡ marks store_as }
 {
-    match kept {
-        Kept::Whole => false,
-        Kept::HitForMiss | Kept::HitForPass(_) => true,
+    match store_as {
+        StoreAs::Whole => false,
+        StoreAs::HitForMiss | StoreAs::HitForPass(_) => true,
     }
 }
 
@@ -124,31 +124,35 @@ pub(crate) fn outcome_of(
     }
 }
 
-fn shared_for(alloc: Global, kept: Kept, response: &Response) -> Result<Shared<Object>, AllocError>
-    ensures { IfOk result (λ object. object ≡ object_to_keep kept response.now) }
+fn shared_for(
+    alloc: Global,
+    store_as: StoreAs,
+    response: &Response,
+) -> Result<Shared<Object>, AllocError>
+    ensures { IfOk result (λ object. object ≡ object_to_keep store_as response.now) }
 {
-    Shared::new(alloc, object_for(alloc, kept, response)?)
+    Shared::new(alloc, object_for(alloc, store_as, response)?)
 }
 
 // What the cache gets, and what is delivered.
 fn insertion_of(
     alloc: Global,
-    kept: Kept,
+    store_as: StoreAs,
     response: Response,
     stale: Option<u64>,
 ) -> Result<Insertion, AllocError>
-    ensures { IfOk result (λ insertion. insertion ≡ record { object = object_to_keep kept response; delivered = Object.Ordinary (shown_with kept response); is_marker = marks kept; stale = stale }) }
+    ensures { IfOk result (λ insertion. insertion ≡ record { object = object_to_keep store_as response; delivered = Object.Ordinary (shown_with store_as response); is_marker = marks store_as; stale = stale }) }
 {
-    let Ok(object) = shared_for(alloc, kept, &response) else {
-        return Err(lost(response));
+    let Ok(object) = shared_for(alloc, store_as, &response) else {
+        return Err(out_of_memory(response));
     };
-    let Ok(delivered) = Shared::new(alloc, Object::Ordinary(shown_for(kept, response))) else {
-        return Err(lost(object));
+    let Ok(delivered) = Shared::new(alloc, Object::Ordinary(shown_for(store_as, response))) else {
+        return Err(out_of_memory(object));
     };
     Ok(Insertion {
         object,
         delivered,
-        is_marker: is_marked(kept),
+        is_marker: is_marked(store_as),
         stale,
     })
 }
@@ -160,15 +164,15 @@ fn deliver_passed(
     context: Context,
     fetch: Fetch,
 ) -> Result<Next, AllocError>
-    ensures { IfOk result (λ next. next ≡ Next.Rest (Spot.Over (outcome_with fetch (Object.Ordinary response) fetch.moment true)) fetch) }
+    ensures { IfOk result (λ next. next ≡ Next.Rest (WaitPoint.Over (outcome_with fetch (Object.Ordinary response) fetch.moment true)) fetch) }
 {
     drop(context);
     let Ok(object) = Shared::new(alloc, Object::Ordinary(response)) else {
-        return Err(lost(fetch));
+        return Err(out_of_memory(fetch));
     };
     let outcome = outcome_of(&fetch, object, fetch.moment, true);
     Ok(Next::Rest {
-        spot: Spot::Over(outcome),
+        point: WaitPoint::Over(outcome),
         fetch,
     })
 }
@@ -177,35 +181,35 @@ fn deliver_passed(
 #[tactic(auto, unfolding(crate::specs::Graph::handed))]
 fn insert(
     alloc: Global,
-    kept: Kept,
+    store_as: StoreAs,
     response: Response,
     context: Context,
     fetch: Fetch,
 ) -> Result<Next, AllocError>
-    ensures { (query : Looked) → IfOk result (λ next. next ≡ handed (Some query) kept response context fetch) }
+    ensures { (query : Looked) → IfOk result (λ next. next ≡ handed (Some query) store_as response context fetch) }
 {
     let stale = confirmed_number(context.fetch_response.was_304, &fetch.order.stale);
-    let Ok(insertion) = insertion_of(alloc, kept, response, stale) else {
-        return Err(lost((context, fetch)));
+    let Ok(insertion) = insertion_of(alloc, store_as, response, stale) else {
+        return Err(out_of_memory((context, fetch)));
     };
     Ok(Next::Rest {
-        spot: Spot::Insert { insertion, context },
+        point: WaitPoint::Insert { insertion, context },
         fetch,
     })
 }
 
 fn hand_over(
     alloc: Global,
-    kept: Kept,
+    store_as: StoreAs,
     response: Response,
     context: Context,
     fetch: Fetch,
 ) -> Result<Next, AllocError>
-    ensures { IfOk result (λ next. next ≡ handed fetch.order.looked kept response context fetch) }
+    ensures { IfOk result (λ next. next ≡ handed fetch.order.looked store_as response context fetch) }
 {
     match &fetch.order.looked {
         None => deliver_passed(alloc, response, context, fetch),
-        Some(_) => insert(alloc, kept, response, context, fetch),
+        Some(_) => insert(alloc, store_as, response, context, fetch),
     }
 }
 
@@ -218,7 +222,7 @@ fn response_left(
     ensures { IfOk result (λ made. made ≡ response_of looked.now response.now.head arrived.body (times_left arrived.origin response.now)) }
 {
     let Ok(head) = response.head.copied(alloc) else {
-        return Err(lost(arrived));
+        return Err(out_of_memory(arrived));
     };
     let timing = timing_left(arrived.origin, response);
     match looked {
@@ -230,27 +234,27 @@ fn response_left(
 /// The response that VCL left is delivered, with the body and the origin of what arrived.
 pub(crate) fn deliver(
     alloc: Global,
-    kept: Kept,
+    store_as: StoreAs,
     arrived: Arrived,
     context: Context,
     fetch: Fetch,
 ) -> Result<Next, AllocError>
-    ensures { IfOk result (λ next. next ≡ delivered kept arrived context fetch) }
+    ensures { IfOk result (λ next. next ≡ delivered store_as arrived context fetch) }
 {
     let Ok(response) = response_left(alloc, &fetch.order.looked, arrived, &context.fetch_response)
     else {
-        return Err(lost((context, fetch)));
+        return Err(out_of_memory((context, fetch)));
     };
-    hand_over(alloc, kept, response, context, fetch)
+    hand_over(alloc, store_as, response, context, fetch)
 }
 
 /// What `deliver` keeps.
-pub(crate) fn kept_by(response: &FetchResponse) -> Kept
+pub(crate) fn kept_by(response: &FetchResponse) -> StoreAs
     ensures { result ≡ kept_of response.now }
 {
     if response.uncacheable {
-        Kept::HitForMiss
+        StoreAs::HitForMiss
     } else {
-        Kept::Whole
+        StoreAs::Whole
     }
 }

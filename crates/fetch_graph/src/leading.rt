@@ -1,22 +1,21 @@
 // Where a subroutine's word leads.
 ghost use Rattle.std.specs.Prelude.{◌≡◌, ◌<◌, IfOk};
 ghost use Rattle.fetch_graph.specs.Graph.{subroutine_of, enter as entered, erring, failing, abandoned, may_retry as may, retried, retried_if as retries_if, last_retry as last_next, kept_by as kept_of, delivered, made_at as made_with, behind_request, behind_response, behind_error, leads};
-ghost use Rattle.vcl_context.specs.Unfilled.{given_status as status_given};
+ghost use Rattle.vcl_context.specs.Initial.{status_or_503 as status_given};
 
 use crate::contexts::{response_at, set_response, set_tries};
 use crate::keeping::{deliver, kept_by, nothing};
 use crate::opening::purpose_of;
-use crate::{Arrived, Fetch, Kept, Next, Spot, State};
+use crate::{Arrived, Fetch, Next, State, StoreAs, WaitPoint};
 use backend_request::{error_head, timed};
 use delivery::Failure;
 use std::alloc::{AllocError, Global};
-use units::{Text, lost};
-use vcl_context::{Context, given_status, made_body, uncount};
+use units::{Text, out_of_memory};
+use vcl_context::{Context, Return, body_or_empty, status_or_503, uncount};
 use vcl_language::Subroutine;
-use vcl_turns::Return;
 
 /// A fetch is tried again at most so often.
-pub const MOST_RETRIES: u32 = 4;
+pub const MAX_RETRIES: u32 = 4;
 
 impl State {
     /// The subroutine that runs in it.
@@ -70,7 +69,7 @@ fn err(
         false,
         &fetch.picked,
     ) else {
-        return Err(lost((context, fetch)));
+        return Err(out_of_memory((context, fetch)));
     };
     set_response(response, &mut context);
     let state = State::Error {
@@ -89,7 +88,7 @@ fn err_with(
 ) -> Result<Next, AllocError>
     ensures { IfOk result (λ next. next ≡ erring (status_given status) reason context fetch) }
 {
-    let status = given_status(status);
+    let status = status_or_503(status);
     err(alloc, status, reason, context, fetch)
 }
 
@@ -98,7 +97,7 @@ pub(crate) fn fail(alloc: Global, context: Context, fetch: Fetch) -> Result<Next
     ensures { IfOk result (λ next. next ≡ failing context fetch) }
 {
     let Ok(reason) = Text::of(alloc, Failure::FetchFailed.reason()) else {
-        return Err(lost((context, fetch)));
+        return Err(out_of_memory((context, fetch)));
     };
     err(alloc, 503, reason, context, fetch)
 }
@@ -107,11 +106,11 @@ pub(crate) fn fail(alloc: Global, context: Context, fetch: Fetch) -> Result<Next
 pub fn abandon(fetch: Fetch) -> Next
     ensures { result ≡ abandoned fetch }
 {
-    let spot = match &fetch.order.looked {
-        None => Spot::Over(nothing(&fetch)),
-        Some(_) => Spot::Drop,
+    let point = match &fetch.order.looked {
+        None => WaitPoint::Over(nothing(&fetch)),
+        Some(_) => WaitPoint::Drop,
     };
-    Next::Rest { spot, fetch }
+    Next::Rest { point, fetch }
 }
 
 // The same, where more was held, which is let go.
@@ -124,7 +123,7 @@ fn give_up<V: Drop>(_held: V, fetch: Fetch) -> Next
 fn may_retry(fetch: &Fetch) -> bool
     ensures { result ≡ may fetch.now }
 {
-    fetch.retries < MOST_RETRIES
+    fetch.retries < MAX_RETRIES
 }
 
 fn retry(mut context: Context, mut fetch: Fetch) -> Next
@@ -163,7 +162,7 @@ fn made_at(alloc: Global, origin: i64, context: &Context) -> Result<Arrived, All
     ensures { IfOk result (λ arrived. arrived ≡ made_with origin context.now) }
 {
     Ok(Arrived {
-        body: made_body(alloc, &context.body)?,
+        body: body_or_empty(alloc, &context.body)?,
         origin,
     })
 }
@@ -177,8 +176,8 @@ fn deliver_whole(
 ) -> Result<Next, AllocError>
     ensures { IfOk result (λ next. next ≡ delivered (kept_of context.fetch_response) arrived context fetch) }
 {
-    let kept = kept_by(&context.fetch_response);
-    deliver(alloc, kept, arrived, context, fetch)
+    let store_as = kept_by(&context.fetch_response);
+    deliver(alloc, store_as, arrived, context, fetch)
 }
 
 // The response that vcl_backend_error made is delivered.
@@ -191,7 +190,7 @@ fn deliver_error(
     ensures { IfOk result (λ next. next ≡ delivered (kept_of context.fetch_response) (made_with origin context) context fetch) }
 {
     let Ok(arrived) = made_at(alloc, origin, &context) else {
-        return Err(lost((context, fetch)));
+        return Err(out_of_memory((context, fetch)));
     };
     deliver_whole(alloc, arrived, context, fetch)
 }
@@ -206,7 +205,7 @@ fn lead_request(
 {
     match word {
         Return::Fetch => Ok(Next::Rest {
-            spot: Spot::Pick { context },
+            point: WaitPoint::Pick { context },
             fetch,
         }),
         Return::Error(status, reason) => err_with(alloc, status, reason, context, fetch),
@@ -225,7 +224,7 @@ fn lead_response(
 {
     match word {
         Return::Deliver => deliver_whole(alloc, arrived, context, fetch),
-        Return::PassFor(ttl) => deliver(alloc, Kept::HitForPass(ttl), arrived, context, fetch),
+        Return::PassFor(ttl) => deliver(alloc, StoreAs::HitForPass(ttl), arrived, context, fetch),
         Return::Error(status, reason) => {
             drop(arrived);
             err_with(alloc, status, reason, context, fetch)

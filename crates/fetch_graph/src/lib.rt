@@ -16,6 +16,6 @@ mod opening;
 
 pub use answering::take;
 pub use asking::ask;
-pub use fetch::{Arrived, Fetch, Insertion, Kept, Next, Spot, State, Want};
-pub use leading::{MOST_RETRIES, abandon, lead};
+pub use fetch::{Arrived, Fetch, FetchWant, Insertion, Next, State, StoreAs, WaitPoint};
+pub use leading::{MAX_RETRIES, abandon, lead};
 pub use opening::open;

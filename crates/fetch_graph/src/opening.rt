@@ -9,10 +9,10 @@ use crate::contexts::{first_context, hinted};
 use crate::{Fetch, Next, State};
 use backend_request::{Purpose, open_request};
 use cache_law::rounds::Order;
-use cache_law::{Content, Object, ObjectView, Query, Shared};
+use cache_law::{Content, Object, ObjectView, Query};
 use http_heads::RequestHead;
 use std::alloc::{AllocError, Global};
-use units::lost;
+use units::{Shared, out_of_memory};
 use vcl_context::FetchRequest;
 
 /// Whether the response may be stored.
@@ -66,10 +66,10 @@ pub fn open(alloc: Global, order: Order) -> Result<Next, AllocError>
     ensures { IfOk result (λ next. next ≡ opening order) }
 {
     let Ok(head) = open_head(alloc, &order) else {
-        return Err(lost(order));
+        return Err(out_of_memory(order));
     };
     let Ok(backend) = hinted(&order.hint_text, &order.hint) else {
-        return Err(lost((head, order)));
+        return Err(out_of_memory((head, order)));
     };
     let request = FetchRequest {
         head,
@@ -79,7 +79,7 @@ pub fn open(alloc: Global, order: Order) -> Result<Next, AllocError>
         is_bgfetch: order.background,
     };
     let Ok(context) = first_context(alloc, order.peer, request) else {
-        return Err(lost(order));
+        return Err(out_of_memory(order));
     };
     let moment = order.moment;
     Ok(Next::Enter {

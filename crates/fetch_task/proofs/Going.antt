@@ -2,17 +2,18 @@
 use Rattle.std.proofs.Common.{◌≡◌, Result, Ok, Err, IfOk, subst}
 use Rattle.vcl_language.specs.declared.scope.Subroutine.{Subroutine}
 use Rattle.vcl_context.specs.declared.context.Context.{Context}
-use Rattle.vcl_turns.specs.declared.turn.Command.{Command}
-use Rattle.vcl_turns.specs.declared.turn.Return.{Return}
-use Rattle.vcl_turns.specs.declared.turn.Turn.{Turn}
-use Rattle.vcl_turns.specs.declared.turn.Turn.TheVariants as turn
+use Rattle.vcl_context.specs.declared.turn.Command.{Command}
+use Rattle.vcl_context.specs.declared.turn.Return.{Return}
+use Rattle.vcl_context.specs.declared.turn.Turn.{Turn}
+use Rattle.vcl_context.specs.declared.turn.Turn.TheVariants as turn
 use Rattle.vcl_runs.specs.Runs.{begun}
 use Rattle.fetch_graph.specs.declared.fetch.Fetch.{Fetch}
 use Rattle.fetch_graph.specs.declared.fetch.State.{State}
 use Rattle.fetch_graph.specs.declared.fetch.Next.{Next}
 use Rattle.fetch_graph.specs.declared.fetch.Next.TheVariants.{Enter}
 use Rattle.fetch_graph.specs.Graph.{subroutine_of, leads, abandoned}
-use Rattle.fetch_task.specs.Fetches.{Evaluator, Settles, ends, asked}
+use Rattle.fetch_task.specs.Fetches.{Settles, ends, asked}
+use Rattle.vcl_runs.specs.Evaluators.{Evaluator}
 use Rattle.fetch_task.specs.Standing.{LeadsTo}
 
 -- the turn of the subroutine that runs in a state

@@ -4,20 +4,20 @@ use Rattle.std.proofs.lemmas.Bool.{ltb-true}
 use Rattle.cache_law.specs.declared.call.Query.{Query}
 use Rattle.cache_law.specs.declared.object.Response.{Response}
 use Rattle.vcl_context.specs.declared.context.Context.{Context}
-use Rattle.vcl_turns.specs.declared.turn.Return.{Return}
-use Rattle.vcl_turns.specs.declared.turn.Return.TheVariants as word
+use Rattle.vcl_context.specs.declared.turn.Return.{Return}
+use Rattle.vcl_context.specs.declared.turn.Return.TheVariants as word
 use Rattle.delivery.specs.declared.pages.Failure.TheVariants.{FetchFailed}
 use Rattle.delivery.specs.Pages.{reason_of}
 use Rattle.backend_request.specs.Stored.{response_of}
 use Rattle.fetch_graph.specs.declared.fetch.Arrived.{Arrived}
 use Rattle.fetch_graph.specs.declared.fetch.Fetch.{Fetch}
-use Rattle.fetch_graph.specs.declared.fetch.Kept.{Kept}
-use Rattle.fetch_graph.specs.declared.fetch.Kept.TheVariants as kept
+use Rattle.fetch_graph.specs.declared.fetch.StoreAs.{StoreAs}
+use Rattle.fetch_graph.specs.declared.fetch.StoreAs.TheVariants as store_as
 use Rattle.fetch_graph.specs.declared.fetch.Next.{Next}
 use Rattle.fetch_graph.specs.declared.fetch.State.{State}
 use Rattle.fetch_graph.specs.declared.fetch.State.TheVariants as state
 use Rattle.fetch_graph.specs.Graph.{erring, failing, given_up, abandoned, may_retry, retried_if, last_retry, handed, delivered, timing_left, kept_by, made_at, leads}
-use Rattle.vcl_context.specs.Unfilled.{given_status}
+use Rattle.vcl_context.specs.Initial.{status_or_503}
 use Rattle.fetch_task.specs.Standing.{weight, weight_of}
 
 erring-weight : (status : ℕ) (reason : List ℕ) (c : Context) (f : Fetch) → weight_of (erring status reason c f) ≡ 4 * (4 - f.retries) + 1
@@ -31,12 +31,12 @@ given-weight (Some query) f = refl
 abandoned-weight : (f : Fetch) → weight_of (abandoned f) ≡ 0
 abandoned-weight f = given-weight f.order.looked f
 
-handed-weight : (looked : Option Query) (k : Kept) (r : Response) (c : Context) (f : Fetch) → weight_of (handed looked k r c f) ≡ 0
+handed-weight : (looked : Option Query) (k : StoreAs) (r : Response) (c : Context) (f : Fetch) → weight_of (handed looked k r c f) ≡ 0
 unfolding handed
 handed-weight None k r c f = refl
 handed-weight (Some query) k r c f = refl
 
-delivered-weight : (k : Kept) (a : Arrived) (c : Context) (f : Fetch) → weight_of (delivered k a c f) ≡ 0
+delivered-weight : (k : StoreAs) (a : Arrived) (c : Context) (f : Fetch) → weight_of (delivered k a c f) ≡ 0
 unfolding delivered
 delivered-weight k a c f = handed-weight f.order.looked k
     (response_of f.order.looked c.fetch_response.head a.body (timing_left a.origin c.fetch_response)) c f
@@ -59,14 +59,14 @@ last-lower false c f e = none-lower (weight_of (abandoned f)) (4 * (4 - f.retrie
 leads-lower : (s : State) (w : Return) (c : Context) (f : Fetch) → weight_of (leads s w c f) < weight s f
 leads-lower state.Request word.Fetch c f = omega arith
 leads-lower state.Request (word.Error status reason) c f =
-    error-lower (weight_of (erring (given_status status) reason c f)) f 2 (erring-weight (given_status status) reason c f) (omega arith)
+    error-lower (weight_of (erring (status_or_503 status) reason c f)) f 2 (erring-weight (status_or_503 status) reason c f) (omega arith)
 leads-lower state.Request w c f = none-lower (weight_of (abandoned f)) (weight state.Request f) (abandoned-weight f) (omega arith)
 leads-lower (state.Response a) word.Deliver c f =
     none-lower (weight_of (delivered (kept_by c.fetch_response) a c f)) (weight (state.Response a) f) (delivered-weight (kept_by c.fetch_response) a c f) (omega arith)
 leads-lower (state.Response a) (word.PassFor ttl) c f =
-    none-lower (weight_of (delivered (kept.HitForPass ttl) a c f)) (weight (state.Response a) f) (delivered-weight (kept.HitForPass ttl) a c f) (omega arith)
+    none-lower (weight_of (delivered (store_as.HitForPass ttl) a c f)) (weight (state.Response a) f) (delivered-weight (store_as.HitForPass ttl) a c f) (omega arith)
 leads-lower (state.Response a) (word.Error status reason) c f =
-    error-lower (weight_of (erring (given_status status) reason c f)) f 3 (erring-weight (given_status status) reason c f) (omega arith)
+    error-lower (weight_of (erring (status_or_503 status) reason c f)) f 3 (erring-weight (status_or_503 status) reason c f) (omega arith)
 leads-lower (state.Response a) word.Retry c f = retry-lower (may_retry f) c f refl
 leads-lower (state.Response a) w c f = none-lower (weight_of (abandoned f)) (weight (state.Response a) f) (abandoned-weight f) (omega arith)
 leads-lower (state.Error origin) word.Deliver c f =

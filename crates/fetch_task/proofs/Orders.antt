@@ -11,14 +11,14 @@ use Rattle.cache_law.specs.declared.object.Object.{Object}
 use Rattle.cache_law.specs.declared.object.Object.TheVariants.{Ordinary}
 use Rattle.cache_law.specs.declared.object.ObjectView.{ObjectView}
 use Rattle.cache_law.specs.declared.object.Response.{Response}
-use Rattle.cache_law.specs.declared.target.Target.{Target}
+use Rattle.directors.specs.declared.target.Target.{Target}
 use Rattle.cache_law.specs.declared.rounds.FetchOutcome.TheVariants.{Delivered, Failed, Ended}
 use Rattle.cache_law.specs.declared.rounds.Given.{Given}
 use Rattle.cache_law.specs.declared.rounds.Given.TheVariants as given
 use Rattle.cache_law.specs.declared.rounds.Order.{Order}
 use Rattle.vcl_context.specs.declared.context.Context.{Context}
-use Rattle.vcl_turns.specs.declared.turn.Return.{Return}
-use Rattle.vcl_turns.specs.declared.turn.Return.TheVariants as word
+use Rattle.vcl_context.specs.declared.turn.Return.{Return}
+use Rattle.vcl_context.specs.declared.turn.Return.TheVariants as word
 use Rattle.delivery.specs.declared.pages.Failure.TheVariants.{FetchFailed}
 use Rattle.delivery.specs.Pages.{reason_of}
 use Rattle.backend_request.specs.Stored.{response_of}
@@ -27,33 +27,34 @@ use Rattle.backend_request.specs.Received.{received}
 use Rattle.fetch_graph.specs.declared.fetch.Arrived.{Arrived}
 use Rattle.fetch_graph.specs.declared.fetch.Fetch.{Fetch}
 use Rattle.fetch_graph.specs.declared.fetch.Insertion.{Insertion}
-use Rattle.fetch_graph.specs.declared.fetch.Kept.{Kept}
-use Rattle.fetch_graph.specs.declared.fetch.Kept.TheVariants as kept
+use Rattle.fetch_graph.specs.declared.fetch.StoreAs.{StoreAs}
+use Rattle.fetch_graph.specs.declared.fetch.StoreAs.TheVariants as store_as
 use Rattle.fetch_graph.specs.declared.fetch.State.{State}
 use Rattle.fetch_graph.specs.declared.fetch.State.TheVariants as state
-use Rattle.fetch_graph.specs.declared.fetch.Spot.{Spot}
-use Rattle.fetch_graph.specs.declared.fetch.Spot.TheVariants as spot
+use Rattle.fetch_graph.specs.declared.fetch.WaitPoint.{WaitPoint}
+use Rattle.fetch_graph.specs.declared.fetch.WaitPoint.TheVariants as point
 use Rattle.fetch_graph.specs.declared.fetch.Next.{Next}
 use Rattle.fetch_graph.specs.declared.fetch.Next.TheVariants.{Enter, Rest}
-use Rattle.fetch_graph.specs.declared.fetch.Want.{Want}
-use Rattle.vcl_context.specs.Unfilled.{given_status}
+use Rattle.fetch_graph.specs.declared.fetch.FetchWant.{FetchWant}
+use Rattle.vcl_context.specs.Initial.{status_or_503}
 use Rattle.fetch_graph.specs.Opening.{opening, purpose_of, content_of}
 use Rattle.fetch_graph.specs.Graph.{erring, failing, view_of, outcome_of, given_up, abandoned, may_retry, retried_if, last_retry, handed, delivered, timing_left, kept_by, made_at, confirmed_number, leads}
 use Rattle.fetch_graph.specs.Answers.{over, chosen, picked, responding, arrived, exchanged, inserted, takes}
 use Rattle.fetch_graph.specs.Wants.{asks}
-use Rattle.fetch_task.specs.Fetches.{Evaluator, Settles, rests, ends, asked, goes_on, Reaches, target_at, Wants}
+use Rattle.fetch_task.specs.Fetches.{Settles, rests, ends, asked, goes_on, Reaches, target_at, Wants}
+use Rattle.vcl_runs.specs.Evaluators.{Evaluator}
 use Rattle.fetch_task.specs.Laws.{fetch_of, Replaces, ComesOf, IsFor}
 
 -- what a place means for an order
-abbrev pub SpotFor : Order → Spot → Type 0
-SpotFor order (spot.Insert i c) = (is_some order.looked ≡ true) × Replaces order i.stale
-SpotFor order spot.Drop = is_some order.looked ≡ true
-SpotFor order (spot.Over outcome) = ComesOf order outcome
-SpotFor order spot = ⊤
+abbrev pub PointFor : Order → WaitPoint → Type 0
+PointFor order (point.Insert i c) = (is_some order.looked ≡ true) × Replaces order i.stale
+PointFor order point.Drop = is_some order.looked ≡ true
+PointFor order (point.Over outcome) = ComesOf order outcome
+PointFor order point = ⊤
 
 abbrev pub Tidy : Next → Type 0
 Tidy (Enter s c f) = ⊤
-Tidy (Rest spot f) = SpotFor f.order spot
+Tidy (Rest point f) = PointFor f.order point
 
 -- The same order as before, tried again at most so often, at a place that is for it.
 pub record Keeps (f : Fetch) (next : Next) : Type 0 where
@@ -93,14 +94,14 @@ stale-replaced order false stale e = tt
 stale-replaced order true None e = tt
 stale-replaced order true (Some view) e = ap (λ (s : Option ObjectView). option_map (λ (v : ObjectView). v.number) s) e
 
-handed-keeps : (f : Fetch) (looked : Option Query) → f.order.looked ≡ looked → (k : Kept) (r : Response) (c : Context) → Keeps f (handed looked k r c f)
+handed-keeps : (f : Fetch) (looked : Option Query) → f.order.looked ≡ looked → (k : StoreAs) (r : Response) (c : Context) → Keeps f (handed looked k r c f)
 unfolding handed
 handed-keeps f None e k r c =
     record { order = refl; retries = λ h. h; tidy = response-comes f (view_of f.order.number (Ordinary r)) f.moment true f.order.background refl refl }
 handed-keeps f (Some query) e k r c =
     record { order = refl; retries = λ h. h; tidy = (ap (λ (q : Option Query). is_some q) e, stale-replaced f.order c.fetch_response.was_304 f.order.stale refl) }
 
-delivered-keeps : (k : Kept) (a : Arrived) (c : Context) (f : Fetch) → Keeps f (delivered k a c f)
+delivered-keeps : (k : StoreAs) (a : Arrived) (c : Context) (f : Fetch) → Keeps f (delivered k a c f)
 unfolding delivered
 delivered-keeps k a c f = handed-keeps f f.order.looked refl k
     (response_of f.order.looked c.fetch_response.head a.body (timing_left a.origin c.fetch_response)) c
@@ -115,11 +116,11 @@ last-keeps false c f e = abandoned-keeps f
 
 pub leads-keeps : (s : State) (w : Return) (c : Context) (f : Fetch) → Keeps f (leads s w c f)
 leads-keeps state.Request word.Fetch c f = record { order = refl; retries = λ h. h; tidy = tt }
-leads-keeps state.Request (word.Error status reason) c f = erring-keeps (given_status status) reason c f
+leads-keeps state.Request (word.Error status reason) c f = erring-keeps (status_or_503 status) reason c f
 leads-keeps state.Request w c f = abandoned-keeps f
 leads-keeps (state.Response a) word.Deliver c f = delivered-keeps (kept_by c.fetch_response) a c f
-leads-keeps (state.Response a) (word.PassFor ttl) c f = delivered-keeps (kept.HitForPass ttl) a c f
-leads-keeps (state.Response a) (word.Error status reason) c f = erring-keeps (given_status status) reason c f
+leads-keeps (state.Response a) (word.PassFor ttl) c f = delivered-keeps (store_as.HitForPass ttl) a c f
+leads-keeps (state.Response a) (word.Error status reason) c f = erring-keeps (status_or_503 status) reason c f
 leads-keeps (state.Response a) word.Retry c f = retried-keeps (may_retry f) c f refl
 leads-keeps (state.Response a) w c f = abandoned-keeps f
 leads-keeps (state.Error origin) word.Deliver c f = delivered-keeps (kept_by c.fetch_response) (made_at origin c) c f
@@ -154,7 +155,7 @@ exchanged-keeps c (exchange.Reply head body) f =
 exchanged-keeps c (exchange.Fault cause) f = erring-keeps 503 (reason_of FetchFailed) c f
 exchanged-keeps c exchange.NoMemory f = over-keeps f
 
-told-keeps : (f : Fetch) (object : Object) (m : ℕ) (uncacheable : Bool) → Keeps f (Rest (spot.Over (outcome_of f object m uncacheable)) f)
+told-keeps : (f : Fetch) (object : Object) (m : ℕ) (uncacheable : Bool) → Keeps f (Rest (point.Over (outcome_of f object m uncacheable)) f)
 told-keeps f object m uncacheable =
     record { order = refl; retries = λ h. h; tidy = response-comes f (view_of f.order.number object) m uncacheable f.order.background refl refl }
 
@@ -166,12 +167,12 @@ inserted-keeps i c m reply.Refused f = told-keeps f i.delivered m i.is_marker
 inserted-keeps i c m reply.StaleGone f = record { order = refl; retries = λ h. h; tidy = tt }
 inserted-keeps i c m x f = over-keeps f
 
-takes-keeps : (s : Spot) (g : Given) (f : Fetch) → Keeps f (takes s g f)
-takes-keeps (spot.Pick c) (given.Reply told) f = picked-keeps c told.moment told.reply f
-takes-keeps (spot.Ask c) (given.Exchange got) f =
+takes-keeps : (s : WaitPoint) (g : Given) (f : Fetch) → Keeps f (takes s g f)
+takes-keeps (point.Pick c) (given.Reply told) f = picked-keeps c told.moment told.reply f
+takes-keeps (point.Ask c) (given.Exchange got) f =
     at-moment f (record f { moment = got.moment }) (exchanged c got.exchange (record f { moment = got.moment })) refl refl
     (exchanged-keeps c got.exchange (record f { moment = got.moment }))
-takes-keeps (spot.Insert i c) (given.Reply told) f = inserted-keeps i c told.moment told.reply f
+takes-keeps (point.Insert i c) (given.Reply told) f = inserted-keeps i c told.moment told.reply f
 takes-keeps s g f = over-keeps f
 
 -- ---- a whole fetch
@@ -206,15 +207,15 @@ retries-few e order givens place p =
     let none : 0 ≤ 4 = omega arith in
     (reaches-keeps e order givens place p).retries none
 
-asks-for : (t : Target) (drawn : ℕ) (f : Fetch) (s : Spot) → SpotFor f.order s → IsFor f.order (asks t drawn f s)
-asks-for t drawn f (spot.Pick c) h = refl
-asks-for t drawn f (spot.Ask c) h = tt
-asks-for t drawn f (spot.Insert i c) h = (refl, h.0, h.1)
-asks-for t drawn f spot.Drop h = (refl, h)
-asks-for t drawn f (spot.Over outcome) h = h
+asks-for : (t : Target) (drawn : ℕ) (f : Fetch) (s : WaitPoint) → PointFor f.order s → IsFor f.order (asks t drawn f s)
+asks-for t drawn f (point.Pick c) h = refl
+asks-for t drawn f (point.Ask c) h = tt
+asks-for t drawn f (point.Insert i c) h = (refl, h.0, h.1)
+asks-for t drawn f point.Drop h = (refl, h)
+asks-for t drawn f (point.Over outcome) h = h
 
-pub wants-for : (e : Evaluator) (order : Order) (givens : List Given) (drawn : ℕ) (want : Want) → Wants e drawn (opening order) givens want → IsFor order want
+pub wants-for : (e : Evaluator) (order : Order) (givens : List Given) (drawn : ℕ) (want : FetchWant) → Wants e drawn (opening order) givens want → IsFor order want
 wants-for e order givens drawn want p =
     let k : Keeps (fetch_of (opening order)) (Rest p.0 p.1) = reaches-keeps e order givens (Rest p.0 p.1) p.2 in
-    subst (λ (w : Want). IsFor order w) (sym p.3)
+    subst (λ (w : FetchWant). IsFor order w) (sym p.3)
     (subst (λ (x : Order). IsFor x (asks (target_at e p.0) drawn p.1 p.0)) k.order (asks-for (target_at e p.0) drawn p.1 p.0 k.tidy))

@@ -3,37 +3,28 @@ use Rattle.std.specs.Prelude.{◌≡◌, ℕ, List, [], ◌∷◌, Option}
 use Rattle.std.specs.Option.{option_and_then, unwrap_or}
 use Rattle.vcl_values.specs.declared.value.Backend.{Backend}
 use Rattle.vcl_context.specs.declared.context.Context.{Context}
-use Rattle.vcl_turns.specs.declared.turn.Command.{Command}
-use Rattle.vcl_turns.specs.declared.turn.Return.{Return}
-use Rattle.vcl_turns.specs.declared.turn.Turn.{Turn}
-use Rattle.vcl_turns.specs.declared.turn.Turn.TheVariants as turn
-use Rattle.vcl_runs.specs.Runs.{Ran, begun}
-use Rattle.cache_law.specs.declared.target.Target.{Target}
+use Rattle.vcl_context.specs.declared.turn.Command.{Command}
+use Rattle.vcl_context.specs.declared.turn.Return.{Return}
+use Rattle.vcl_context.specs.declared.turn.Turn.TheVariants as turn
+use Rattle.vcl_runs.specs.Evaluators.{Evaluator}
+use Rattle.vcl_runs.specs.Runs.{begun}
+use Rattle.directors.specs.declared.target.Target.{Target}
 use Rattle.cache_law.specs.declared.rounds.Given.{Given}
 use Rattle.fetch_graph.specs.declared.fetch.Fetch.{Fetch}
 use Rattle.fetch_graph.specs.declared.fetch.State.{State}
-use Rattle.fetch_graph.specs.declared.fetch.Spot.{Spot}
-use Rattle.fetch_graph.specs.declared.fetch.Spot.TheVariants as spot
+use Rattle.fetch_graph.specs.declared.fetch.WaitPoint.{WaitPoint}
+use Rattle.fetch_graph.specs.declared.fetch.WaitPoint.TheVariants as point
 use Rattle.fetch_graph.specs.declared.fetch.Next.{Next}
 use Rattle.fetch_graph.specs.declared.fetch.Next.TheVariants.{Enter, Rest}
-use Rattle.fetch_graph.specs.declared.fetch.Want.{Want}
+use Rattle.fetch_graph.specs.declared.fetch.FetchWant.{FetchWant}
 use Rattle.fetch_graph.specs.Graph.{subroutine_of, leads, abandoned}
 use Rattle.fetch_graph.specs.Answers.{takes}
 use Rattle.fetch_graph.specs.Wants.{asks}
 
--- An evaluator's turns, what its program takes a backend for, and what a request is sent to where VCL chose nothing.
-pub record Evaluator : Type 1 where
-  pub turns : Ran → Turn → Type 0
-  pub target : Backend → Option Target
-  pub otherwise : Target
-
-abbrev pub evaluator : {P : Type 0} → (P → Ran → Turn → Type 0) → (P → Backend → Option Target) → (P → Target) → P → Evaluator
-evaluator turns targets otherwise program = record { turns = turns program; target = targets program; otherwise = otherwise program }
-
 -- What comes next settles where the fetch rests. A subroutine of a fetch has nothing to ask of the cache: where one asks for
 -- something, the fetch is given up.
 pub data Settles (e : Evaluator) : Next → Next → Type 0 where
-  rests : (spot : Spot) (fetch : Fetch) → Settles e (Rest spot fetch) (Rest spot fetch)
+  rests : (point : WaitPoint) (fetch : Fetch) → Settles e (Rest point fetch) (Rest point fetch)
   ends : {state : State} {context : Context} {fetch : Fetch} {place : Next} (word : Return) (left : Context)
       → e.turns (begun (subroutine_of state) context) (turn.End word left)
       → Settles e (leads state word left fetch) place
@@ -46,7 +37,7 @@ pub data Settles (e : Evaluator) : Next → Next → Type 0 where
 -- how a fetch goes on where it is given this; what it is given first begins it
 abbrev pub goes_on : Next → Given → Next
 goes_on (Enter state context fetch) given = Enter state context fetch
-goes_on (Rest spot fetch) given = takes spot given fetch
+goes_on (Rest point fetch) given = takes point given fetch
 
 -- After these givens, the newest first, a fetch that opens so stands here.
 abbrev pub Reaches : Evaluator → Next → List Given → Next → Type 0
@@ -57,11 +48,11 @@ Reaches e opening (given ∷ givens) place = (before : Next) × Reaches e openin
 abbrev pub target_of : Evaluator → Option Backend → Target
 target_of e backend = unwrap_or (option_and_then e.target backend) e.otherwise
 
-abbrev pub target_at : Evaluator → Spot → Target
-target_at e (spot.Pick context) = target_of e context.fetch_request.backend
-target_at e spot = e.otherwise
+abbrev pub target_at : Evaluator → WaitPoint → Target
+target_at e (point.Pick context) = target_of e context.fetch_request.backend
+target_at e point = e.otherwise
 
 -- And this is what it wants where it rests, a director of kind random choosing by this word.
-abbrev pub Wants : Evaluator → ℕ → Next → List Given → Want → Type 0
+abbrev pub Wants : Evaluator → ℕ → Next → List Given → FetchWant → Type 0
 Wants e drawn opening givens want =
-    (spot : Spot) × (fetch : Fetch) × Reaches e opening givens (Rest spot fetch) × (want ≡ asks (target_at e spot) drawn fetch spot)
+    (point : WaitPoint) × (fetch : Fetch) × Reaches e opening givens (Rest point fetch) × (want ≡ asks (target_at e point) drawn fetch point)

@@ -10,12 +10,12 @@ use Rattle.cache_law.specs.declared.rounds.Order.{Order}
 use Rattle.fetch_graph.specs.declared.fetch.Fetch.{Fetch}
 use Rattle.fetch_graph.specs.declared.fetch.Next.{Next}
 use Rattle.fetch_graph.specs.declared.fetch.Next.TheVariants.{Enter, Rest}
-use Rattle.fetch_graph.specs.declared.fetch.Want.{Want}
-use Rattle.fetch_graph.specs.declared.fetch.Want.TheVariants as want
+use Rattle.fetch_graph.specs.declared.fetch.FetchWant.{FetchWant}
+use Rattle.fetch_graph.specs.declared.fetch.FetchWant.TheVariants as want
 
 abbrev pub fetch_of : Next → Fetch
 fetch_of (Enter state context fetch) = fetch
-fetch_of (Rest spot fetch) = fetch
+fetch_of (Rest point fetch) = fetch
 
 -- the object that an insertion replaces is the order's stale one
 abbrev pub Replaces : Order → Option ℕ → Type 0
@@ -37,7 +37,7 @@ CallsFor order (call.Insert token object stale) = (token ≡ order.number) × (i
 CallsFor order (call.Drop token) = (token ≡ order.number) × (is_some order.looked ≡ true)
 CallsFor order other = ⊥
 
-abbrev pub IsFor : Order → Want → Type 0
+abbrev pub IsFor : Order → FetchWant → Type 0
 IsFor order (want.Cache call) = CallsFor order call
 IsFor order (want.Ask backend request) = ⊤
 IsFor order (want.Done outcome) = ComesOf order outcome
@@ -47,6 +47,6 @@ abbrev pub word_for : DirectorKind → ℕ → ℕ → ℕ
 word_for director.Random word drawn = drawn
 word_for other word drawn = word
 
-abbrev pub with_word : ℕ → Want → Want
+abbrev pub with_word : ℕ → FetchWant → FetchWant
 with_word drawn (want.Cache (call.Pick vcl target word)) = want.Cache (call.Pick vcl target (word_for target.kind word drawn))
 with_word drawn other = other

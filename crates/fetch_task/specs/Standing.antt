@@ -6,7 +6,8 @@ use Rattle.fetch_graph.specs.declared.fetch.State.{State}
 use Rattle.fetch_graph.specs.declared.fetch.State.TheVariants as state
 use Rattle.fetch_graph.specs.declared.fetch.Next.{Next}
 use Rattle.fetch_graph.specs.declared.fetch.Next.TheVariants.{Enter, Rest}
-use Rattle.fetch_task.specs.Fetches.{Evaluator, Settles, Reaches}
+use Rattle.fetch_task.specs.Fetches.{Settles, Reaches}
+use Rattle.vcl_runs.specs.Evaluators.{Evaluator}
 
 -- after these givens this is where the fetch stands; there is no place once memory was wanting
 abbrev pub StandsAt : Evaluator → Next → List Given → Option Next → Type 0
@@ -28,4 +29,4 @@ weight state fetch = 4 * (4 - fetch.retries) + rank state
 
 abbrev pub weight_of : Next → ℕ
 weight_of (Enter state context fetch) = weight state fetch
-weight_of (Rest spot fetch) = 0
+weight_of (Rest point fetch) = 0

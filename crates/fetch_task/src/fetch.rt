@@ -3,12 +3,13 @@ ghost use Rattle.std.specs.Prelude.{◌≡◌, ◌∷◌, List, Some, None, IfOk
 ghost use Rattle.cache_law.specs.declared.rounds.Given.{Given as Gift};
 ghost use Rattle.fetch_graph.specs.declared.fetch.Next.{Next as Opened};
 ghost use Rattle.fetch_graph.specs.Opening.{opening};
-ghost use Rattle.fetch_task.specs.Fetches.{Wants, evaluator};
+ghost use Rattle.fetch_task.specs.Fetches.{Wants};
+ghost use Rattle.vcl_runs.specs.Evaluators.{evaluator};
 ghost use Rattle.fetch_task.specs.Standing.{StandsAt};
 
 use crate::settling::{go_on, settle, want_at};
 use cache_law::rounds::{Given, Order};
-use fetch_graph::{Next, Want, open};
+use fetch_graph::{FetchWant, Next, open};
 use std::alloc::{AllocError, Global};
 use vcl_runs::Runner;
 
@@ -38,7 +39,7 @@ impl Fetch {
         program: &M::Program,
         drawn: u64,
         given: Given,
-    ) -> Result<Want, AllocError>
+    ) -> Result<FetchWant, AllocError>
         ensures stands { OnOk result ((opened : Opened) (givens : List Gift)
             → StandsAt (evaluator M.turns M.targets M.default_of program.now) opened givens self.old.place
             → StandsAt (evaluator M.turns M.targets M.default_of program.now) opened (given ∷ givens) self.new.place) }
@@ -53,7 +54,7 @@ impl Fetch {
         let stop = settle::<M>(alloc, program, next)?;
         let want = want_at::<M>(alloc, program, drawn, &stop)?;
         self.place = Some(Next::Rest {
-            spot: stop.spot,
+            point: stop.point,
             fetch: stop.fetch,
         });
         Ok(want)

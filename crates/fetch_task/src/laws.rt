@@ -3,16 +3,17 @@ ghost use Rattle.std.specs.Prelude.{◌≡◌, ◌≤◌, List, ℕ};
 ghost use Rattle.cache_law.specs.declared.rounds.Given.{Given as Gift};
 ghost use Rattle.cache_law.specs.declared.rounds.Order.{Order as Asked};
 ghost use Rattle.fetch_graph.specs.declared.fetch.Next.{Next as Standing};
-ghost use Rattle.fetch_graph.specs.declared.fetch.Want.{Want as Wish};
+ghost use Rattle.fetch_graph.specs.declared.fetch.FetchWant.{FetchWant as Wanted};
 ghost use Rattle.fetch_graph.specs.Opening.{opening};
 ghost use Rattle.fetch_task.specs.Laws.{fetch_of, IsFor, with_word};
-ghost use Rattle.fetch_task.specs.Fetches.{Reaches, Wants, evaluator};
+ghost use Rattle.fetch_task.specs.Fetches.{Reaches, Wants};
+ghost use Rattle.vcl_runs.specs.Evaluators.{evaluator};
 
 use vcl_runs::Runner;
 
 /// After the same givens a fetch wants the same.
 pub fn one_want<M: Runner>(program: &M::Program)
-    ensures { (opened : Standing) (givens : List Gift) (drawn : ℕ) (one other : Wish)
+    ensures { (opened : Standing) (givens : List Gift) (drawn : ℕ) (one other : Wanted)
         → Wants (evaluator M.turns M.targets M.default_of program.now) drawn opened givens one
         → Wants (evaluator M.turns M.targets M.default_of program.now) drawn opened givens other
         → other ≡ one }
@@ -20,7 +21,7 @@ pub fn one_want<M: Runner>(program: &M::Program)
 
 /// Another drawn word changes nothing but the word of a pick of kind random.
 pub fn one_word<M: Runner>(program: &M::Program)
-    ensures { (opened : Standing) (givens : List Gift) (drawn redrawn : ℕ) (one other : Wish)
+    ensures { (opened : Standing) (givens : List Gift) (drawn redrawn : ℕ) (one other : Wanted)
         → Wants (evaluator M.turns M.targets M.default_of program.now) drawn opened givens one
         → Wants (evaluator M.turns M.targets M.default_of program.now) redrawn opened givens other
         → other ≡ with_word redrawn one }
@@ -28,7 +29,7 @@ pub fn one_word<M: Runner>(program: &M::Program)
 
 /// What a fetch wants is for its order, and so has the order's number however often it is tried again.
 pub fn for_its_order<M: Runner>(program: &M::Program)
-    ensures { (order : Asked) (givens : List Gift) (drawn : ℕ) (want : Wish)
+    ensures { (order : Asked) (givens : List Gift) (drawn : ℕ) (want : Wanted)
         → Wants (evaluator M.turns M.targets M.default_of program.now) drawn (opening order) givens want
         → IsFor order want }
 {}

@@ -1,22 +1,22 @@
 // How a fetch comes to where it rests, and what it wants there.
 ghost use Rattle.std.specs.Prelude.{◌≡◌, ◌<◌, IfOk, option_and_then};
 ghost use Rattle.fetch_graph.specs.Wants.{asks};
-ghost use Rattle.fetch_task.specs.Fetches.{Settles, evaluator, goes_on, target_of as target_for, target_at as target_where};
+ghost use Rattle.fetch_task.specs.Fetches.{Settles, goes_on, target_of as target_for, target_at as target_where};
+ghost use Rattle.vcl_runs.specs.Evaluators.{evaluator};
 ghost use Rattle.fetch_task.specs.Standing.{LeadsTo, weight, weight_of};
 
-use cache_law::Target;
 use cache_law::rounds::Given;
-use fetch_graph::{Next, Spot, State, Want, abandon, ask, lead, take};
+use directors::Target;
+use fetch_graph::{FetchWant, Next, State, WaitPoint, abandon, ask, lead, take};
 use std::alloc::{AllocError, Global};
-use vcl_context::Context;
+use vcl_context::{Answer, Context, Turn};
 use vcl_runs::Runner;
-use vcl_turns::{Answer, Turn};
 use vcl_values::Backend;
 
 /// A fetch where it rests.
 #[derive(Drop)]
 pub(crate) struct Stop {
-    pub spot: Spot,
+    pub point: WaitPoint,
     pub fetch: fetch_graph::Fetch,
 }
 
@@ -34,7 +34,7 @@ pub(crate) fn go_on(alloc: Global, place: Next, given: Given) -> Result<Next, Al
             context,
             fetch,
         }),
-        Next::Rest { spot, fetch } => take(alloc, spot, given, fetch),
+        Next::Rest { point, fetch } => take(alloc, point, given, fetch),
     }
 }
 
@@ -63,11 +63,11 @@ pub(crate) fn settle<M: Runner>(
     program: &M::Program,
     mut next: Next,
 ) -> Result<Stop, AllocError>
-    ensures { IfOk result (λ stop. Settles (evaluator M.turns M.targets M.default_of program.now) next (Next.Rest stop.spot stop.fetch)) }
+    ensures { IfOk result (λ stop. Settles (evaluator M.turns M.targets M.default_of program.now) next (Next.Rest stop.point stop.fetch)) }
 {
     'states: loop {
         match next {
-            Next::Rest { spot, fetch } => return Ok(Stop { spot, fetch }),
+            Next::Rest { point, fetch } => return Ok(Stop { point, fetch }),
             Next::Enter {
                 state,
                 context,
@@ -112,13 +112,17 @@ fn target_of<M: Runner>(
 fn target_at<M: Runner>(
     alloc: Global,
     program: &M::Program,
-    spot: &Spot,
+    point: &WaitPoint,
 ) -> Result<Target, AllocError>
-    ensures { IfOk result (λ target. target ≡ target_where (evaluator M.turns M.targets M.default_of program.now) spot.now) }
+    ensures { IfOk result (λ target. target ≡ target_where (evaluator M.turns M.targets M.default_of program.now) point.now) }
 {
-    match spot {
-        Spot::Pick { context } => target_of::<M>(alloc, program, &context.fetch_request.backend),
-        Spot::Ask { .. } | Spot::Insert { .. } | Spot::Drop | Spot::Over(_) => {
+    match point {
+        WaitPoint::Pick { context } => target_of::<M>(
+            alloc,
+            program,
+            &context.fetch_request.backend,
+        ),
+        WaitPoint::Ask { .. } | WaitPoint::Insert { .. } | WaitPoint::Drop | WaitPoint::Over(_) => {
             M::default_target(alloc, program)
         }
     }
@@ -130,9 +134,9 @@ pub(crate) fn want_at<M: Runner>(
     program: &M::Program,
     drawn: u64,
     stop: &Stop,
-) -> Result<Want, AllocError>
-    ensures { IfOk result (λ want. want ≡ asks (target_where (evaluator M.turns M.targets M.default_of program.now) stop.now.spot) drawn stop.now.fetch stop.now.spot) }
+) -> Result<FetchWant, AllocError>
+    ensures { IfOk result (λ want. want ≡ asks (target_where (evaluator M.turns M.targets M.default_of program.now) stop.now.point) drawn stop.now.fetch stop.now.point) }
 {
-    let target = target_at::<M>(alloc, program, &stop.spot)?;
-    ask(alloc, target, drawn, &stop.fetch, &stop.spot)
+    let target = target_at::<M>(alloc, program, &stop.point)?;
+    ask(alloc, target, drawn, &stop.fetch, &stop.point)
 }

@@ -8,9 +8,9 @@ use Rattle.cache_law.specs.ShownBans.{IsPartOf, ShowsBans}
 use Rattle.cache_law.specs.BansAtOnce.{AwaitIssued, awaiting, ban_over, open_lines}
 use Rattle.cache_law.specs.State.{Held, those_in_time}
 use Rattle.cache_law.proofs.WaitingBans.{all_bans_shown}
-use Rattle.flat_core.specs.declared.kept.Kept.{Kept}
-use Rattle.flat_core.specs.declared.kept.Fate.TheVariants.{Stays, Goes}
-use Rattle.flat_core.specs.Kept.{is_waiting, waiting, held_of, held_all, AreTested, left_of, settled}
+use Rattle.flat_core.specs.declared.stored_object.StoredObject.{StoredObject}
+use Rattle.flat_core.specs.declared.stored_object.Fate.TheVariants.{Stays, Goes}
+use Rattle.flat_core.specs.StoredObject.{is_waiting, waiting, held_of, held_all, AreTested, left_of, settled}
 use Rattle.flat_core.specs.Banning.{banned_fate, ban_fates}
 
 -- a part of a list, and a part of the list with one more
@@ -34,13 +34,13 @@ one_await : (bans : List Issued) (b : Bool) (held : Held) (rest : List Held) →
 one_await bans true held rest p all = (p, all)
 one_await bans false held rest p all = all
 
-all_await : (bans : List Issued) (objects : List Kept) (now : ℕ) → AwaitIssued bans (those_in_time now (held_all bans objects))
+all_await : (bans : List Issued) (objects : List StoredObject) (now : ℕ) → AwaitIssued bans (those_in_time now (held_all bans objects))
 all_await bans [] now = tt
 all_await bans (kept ∷ objects) now =
     one_await bans (in_time now kept.view.object) (held_of bans kept) _ (waiting_part bans (length bans - kept.tested)) (all_await bans objects now)
 
 -- all bans show what waits for the objects
-pub all_listed : (bans : List Issued) (objects : List Kept) (now : ℕ) → ShowsBans bans (those_in_time now (held_all bans objects)) (open_lines bans)
+pub all_listed : (bans : List Issued) (objects : List StoredObject) (now : ℕ) → ShowsBans bans (those_in_time now (held_all bans objects)) (open_lines bans)
 all_listed bans objects now = all_bans_shown bans (those_in_time now (held_all bans objects)) (all_await bans objects now)
 
 -- one more ban waits, or none more, by what it looks at
@@ -60,14 +60,14 @@ more_wait : (issued : Issued) (bans : List Issued) (tested : ℕ) → tested ≤
 more_wait issued bans tested below waits = taken issued bans tested below ∙ (wait_one (is_waiting issued) issued (waiting bans tested)).0 (ap not waits)
 
 -- A ban on objects alone: what goes in memory and by the law.
-banned_one : (now : ℕ) (issued : Issued) (bans : List Issued) (ban : Ban) (kept : Kept) (objects : List Kept) (rest : List Held) (lives matched : Bool) → in_time now kept.view.object ≡ lives → matches kept.view.object issued ≡ matched → kept.tested ≤ length bans → object_only issued.ban ≡ true
+banned_one : (now : ℕ) (issued : Issued) (bans : List Issued) (ban : Ban) (kept : StoredObject) (objects : List StoredObject) (rest : List Held) (lives matched : Bool) → in_time now kept.view.object ≡ lives → matches kept.view.object issued ≡ matched → kept.tested ≤ length bans → object_only issued.ban ≡ true
     → those_in_time now (held_all (issued ∷ bans) objects) ≡ filter (λ (held : Held). not (matches held.view.object issued)) rest
     → those_in_time now (held_all (issued ∷ bans) (left_of (length (issued ∷ bans)) (cond (lives && matched) Goes Stays) kept ++ objects)) ≡ filter (λ (held : Held). not (matches held.view.object issued)) (cond lives (held_of bans kept ∷ rest) rest)
 banned_one now issued bans ban kept objects rest false matched e m below alone ih = rw (e) ih
 banned_one now issued bans ban kept objects rest true false e m below alone ih = rw (e, m, same_wait issued bans kept.tested below alone, ih) refl
 banned_one now issued bans ban kept objects rest true true e m below alone ih = rw (m) ih
 
-all_banned : (now : ℕ) (issued : Issued) (bans : List Issued) (objects : List Kept) → issued.moment ≡ now → AreTested bans objects → object_only issued.ban ≡ true
+all_banned : (now : ℕ) (issued : Issued) (bans : List Issued) (objects : List StoredObject) → issued.moment ≡ now → AreTested bans objects → object_only issued.ban ≡ true
     → those_in_time now (held_all (issued ∷ bans) (settled (length (issued ∷ bans)) (map (banned_fate now issued.ban) objects) objects)) ≡ filter (λ (held : Held). not (matches held.view.object issued)) (those_in_time now (held_all bans objects))
 all_banned now issued bans [] at_ tested alone = refl
 all_banned now issued bans (kept ∷ objects) at_ tested alone =
@@ -79,20 +79,20 @@ waits_one : (now : ℕ) (issued : Issued) (held : Held) (lives : Bool) (late ear
 waits_one now issued held true late early e = ap (λ (rest : List Held). awaiting issued held ∷ rest) e
 waits_one now issued held false late early e = e
 
-all_wait : (now : ℕ) (issued : Issued) (bans : List Issued) (objects : List Kept) → AreTested bans objects → object_only issued.ban ≡ false
+all_wait : (now : ℕ) (issued : Issued) (bans : List Issued) (objects : List StoredObject) → AreTested bans objects → object_only issued.ban ≡ false
     → those_in_time now (held_all (issued ∷ bans) objects) ≡ map (awaiting issued) (those_in_time now (held_all bans objects))
 all_wait now issued bans [] tested waits = refl
 all_wait now issued bans (kept ∷ objects) tested waits =
     rw (more_wait issued bans kept.tested tested.0 waits)
     (waits_one now issued (held_of bans kept) (in_time now kept.view.object) _ _ (all_wait now issued bans objects tested.1 waits))
 
-by_kind : (now : ℕ) (issued : Issued) (bans : List Issued) (objects : List Kept) (alone : Bool) → object_only issued.ban ≡ alone → issued.moment ≡ now → AreTested bans objects
+by_kind : (now : ℕ) (issued : Issued) (bans : List Issued) (objects : List StoredObject) (alone : Bool) → object_only issued.ban ≡ alone → issued.moment ≡ now → AreTested bans objects
     → those_in_time now (held_all (issued ∷ bans) (settled (length (issued ∷ bans)) (cond alone (map (banned_fate now issued.ban) objects) []) objects))
     ≡ cond alone (filter (λ (held : Held). not (matches held.view.object issued)) (those_in_time now (held_all bans objects))) (map (awaiting issued) (those_in_time now (held_all bans objects)))
 by_kind now issued bans objects true e at_ tested = all_banned now issued bans objects at_ tested e
 by_kind now issued bans objects false e at_ tested = all_wait now issued bans objects tested e
 
 -- what the ban leaves in memory is what it leaves by the law
-pub bans_over : (now : ℕ) (issued : Issued) (bans : List Issued) (objects : List Kept) → issued.moment ≡ now → AreTested bans objects
+pub bans_over : (now : ℕ) (issued : Issued) (bans : List Issued) (objects : List StoredObject) → issued.moment ≡ now → AreTested bans objects
     → those_in_time now (held_all (issued ∷ bans) (settled (length (issued ∷ bans)) (ban_fates now issued.ban objects) objects)) ≡ ban_over issued (those_in_time now (held_all bans objects))
 bans_over now issued bans objects at_ tested = by_kind now issued bans objects (object_only issued.ban) refl at_ tested

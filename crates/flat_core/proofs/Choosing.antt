@@ -5,7 +5,7 @@ use Rattle.std.proofs.lemmas.List.{length-map}
 use Rattle.directors.specs.declared.director.DirectorKind.{DirectorKind}
 use Rattle.directors.specs.declared.director.DirectorKind.TheVariants.{One, RoundRobin, Fallback, Random, Hash}
 use Rattle.directors.specs.Choice.{Chooses}
-use Rattle.cache_law.specs.declared.target.Member.{Member}
+use Rattle.directors.specs.declared.target.Member.{Member}
 use Rattle.cache_law.specs.declared.vcl.ForcedHealth.{ForcedHealth}
 use Rattle.cache_law.specs.Targets.{weight_of}
 

@@ -9,10 +9,10 @@ use Rattle.cache_law.specs.declared.call.Query.{Query}
 use Rattle.cache_law.specs.State.{State, Held, at_moment, those_in_time, has_round, least_token}
 use Rattle.cache_law.specs.Lookup.{Scan, scanned}
 use Rattle.cache_law.specs.Law.{missed, found_fresh, found_grace, waited_or_missed, busy, found_other, found, found_by, remembered, looked_up}
-use Rattle.flat_core.specs.declared.kept.Kept.{Kept}
+use Rattle.flat_core.specs.declared.stored_object.StoredObject.{StoredObject}
 use Rattle.flat_core.specs.declared.scan.Seen.{Seen}
 use Rattle.flat_core.specs.declared.finding.Finding.TheVariants.{Miss}
-use Rattle.flat_core.specs.Kept.{held_all, settled_held}
+use Rattle.flat_core.specs.StoredObject.{held_all, settled_held}
 use Rattle.flat_core.specs.Scans.{seen_all}
 use Rattle.flat_core.specs.Found.{given_by, graced_by, fetch_finding, other_finding, finding_by, found_by_scan, found_in, found_so, told_so}
 use Rattle.flat_core.proofs.Scans.{scans}
@@ -39,7 +39,7 @@ scan_so : (state : State) (caller : ℕ) (query : Query) (fresh grace stale : Op
 scan_so state caller query None grace stale = other_so state caller query grace stale
 scan_so state caller query (Some view) grace stale = given_so state caller query.key view view.object
 
-by_option : (old : State) (bans : List Issued) (objects : List Kept) (now caller : ℕ) (query : Query) (misses : Bool)
+by_option : (old : State) (bans : List Issued) (objects : List StoredObject) (now caller : ℕ) (query : Query) (misses : Bool)
     → remembered caller (cond misses (missed (at_moment now (record old { objects = held_all bans objects })) caller query.key None) (found_by (at_moment now (record old { objects = held_all bans objects })) caller query (scanned now query (those_in_time now (held_all bans objects)))))
     ≡ told_so (record old { objects = held_all bans objects }) now caller query.key (Some (cond misses (record { finding = Miss None; fates = [] }) (found_by_scan query old.fetches (seen_all now query bans objects))))
 by_option old bans objects now caller query true = refl
@@ -48,7 +48,7 @@ by_option old bans objects now caller query false =
     ap (λ (scan : Scan Held). remembered caller (found_by (at_moment now (record old { objects = held_all bans objects })) caller query scan)) (scans now query bans objects)
     ∙ scan_so (record old { moment = now; objects = those_in_time now (settled_held seen.fates (held_all bans objects)) }) caller query seen.fresh seen.grace seen.stale
 
-pub finds : (old : State) (bans : List Issued) (objects : List Kept) (now caller : ℕ) (query : Query) → has_round old.rounds caller ≡ true
+pub finds : (old : State) (bans : List Issued) (objects : List StoredObject) (now caller : ℕ) (query : Query) → has_round old.rounds caller ≡ true
     → looked_up (at_moment now (record old { objects = held_all bans objects })) caller query ≡ told_so (record old { objects = held_all bans objects }) now caller query.key (Some (found_in now query bans old.fetches objects))
 finds old bans objects now caller query opened = cond-true _ _ _ opened ∙ by_option old bans objects now caller query query.options.always_miss
 

@@ -10,44 +10,44 @@ use Rattle.cache_law.specs.Object.{in_time, size_of}
 use Rattle.cache_law.specs.BansAtOnce.{cleared}
 use Rattle.cache_law.specs.State.{Held, those_in_time, without_stale, inherited, sizes_of}
 use Rattle.cache_law.specs.Lookup.{raised, counting, counted}
-use Rattle.flat_core.specs.declared.kept.Kept.{Kept}
-use Rattle.flat_core.specs.declared.kept.Fate.{Fate}
-use Rattle.flat_core.specs.declared.kept.Fate.TheVariants.{Stays, Tested, Goes}
-use Rattle.flat_core.specs.Kept.{waiting, held_of, held_all, left_of, settled, held_left, settled_held, is_change, moved_on, counted_in, stays, size_staying, sizes_staying, tested_for}
+use Rattle.flat_core.specs.declared.stored_object.StoredObject.{StoredObject}
+use Rattle.flat_core.specs.declared.stored_object.Fate.{Fate}
+use Rattle.flat_core.specs.declared.stored_object.Fate.TheVariants.{Stays, Tested, Goes}
+use Rattle.flat_core.specs.StoredObject.{waiting, held_of, held_all, left_of, settled, held_left, settled_held, is_change, moved_on, counted_in, stays, size_staying, sizes_staying, tested_for}
 use Rattle.flat_core.proofs.Passes.{at_next, drop_all, take_all}
 
 -- nothing waits for an object that was tested on all bans
 pub none_waits : (bans : List Issued) → waiting bans (length bans) ≡ []
 none_waits bans = let none : length bans - length bans ≡ 0 = omega arith in rw none refl
 
-kept_or_not : (bans : List Issued) (b : Bool) (kept : Kept) (objects : List Kept) → held_all bans (cond b (kept ∷ objects) objects) ≡ cond b (held_of bans kept ∷ held_all bans objects) (held_all bans objects)
+kept_or_not : (bans : List Issued) (b : Bool) (kept : StoredObject) (objects : List StoredObject) → held_all bans (cond b (kept ∷ objects) objects) ≡ cond b (held_of bans kept ∷ held_all bans objects) (held_all bans objects)
 kept_or_not bans true kept objects = refl
 kept_or_not bans false kept objects = refl
 
 -- those in time in memory are those in time by the law
-pub held_all-filter : (bans : List Issued) (now : ℕ) (objects : List Kept) → held_all bans (filter (λ (kept : Kept). in_time now kept.view.object) objects) ≡ those_in_time now (held_all bans objects)
+pub held_all-filter : (bans : List Issued) (now : ℕ) (objects : List StoredObject) → held_all bans (filter (λ (kept : StoredObject). in_time now kept.view.object) objects) ≡ those_in_time now (held_all bans objects)
 held_all-filter bans now [] = refl
 held_all-filter bans now (kept ∷ objects) =
-    kept_or_not bans (in_time now kept.view.object) kept (filter (λ (k : Kept). in_time now k.view.object) objects)
+    kept_or_not bans (in_time now kept.view.object) kept (filter (λ (k : StoredObject). in_time now k.view.object) objects)
     ∙ ap (λ (rest : List Held). cond (in_time now kept.view.object) (held_of bans kept ∷ rest) rest) (held_all-filter bans now objects)
 
-kept_whole : (b : Bool) (kept : Kept) (objects rest : List Kept) → b ≡ true → rest ≡ objects → kept ∷ objects ≡ cond b (kept ∷ rest) rest
-kept_whole true kept objects rest e same = ap (λ (k : List Kept). kept ∷ k) (sym same)
+kept_whole : (b : Bool) (kept : StoredObject) (objects rest : List StoredObject) → b ≡ true → rest ≡ objects → kept ∷ objects ≡ cond b (kept ∷ rest) rest
+kept_whole true kept objects rest e same = ap (λ (k : List StoredObject). kept ∷ k) (sym same)
 kept_whole false kept objects rest e same = cc
 
 -- where all are in time, none goes
-pub filter-all : (now : ℕ) (objects : List Kept) → list_all (λ (kept : Kept). in_time now kept.view.object) objects ≡ true → objects ≡ filter (λ (kept : Kept). in_time now kept.view.object) objects
+pub filter-all : (now : ℕ) (objects : List StoredObject) → list_all (λ (kept : StoredObject). in_time now kept.view.object) objects ≡ true → objects ≡ filter (λ (kept : StoredObject). in_time now kept.view.object) objects
 filter-all now [] e = refl
 filter-all now (kept ∷ objects) e =
-    let both = and_parts (in_time now kept.view.object) (list_all (λ (k : Kept). in_time now k.view.object) objects) e in
+    let both = and_parts (in_time now kept.view.object) (list_all (λ (k : StoredObject). in_time now k.view.object) objects) e in
     kept_whole (in_time now kept.view.object) kept objects _ both.0 (sym (filter-all now objects both.1))
 
 -- an object with a hit counted, in memory and by the law
-one_counted : (bans : List Issued) (b : Bool) (kept : Kept) → held_of bans (cond b (record kept { view = raised kept.view }) kept) ≡ cond b (record (held_of bans kept) { view = raised kept.view }) (held_of bans kept)
+one_counted : (bans : List Issued) (b : Bool) (kept : StoredObject) → held_of bans (cond b (record kept { view = raised kept.view }) kept) ≡ cond b (record (held_of bans kept) { view = raised kept.view }) (held_of bans kept)
 one_counted bans true kept = refl
 one_counted bans false kept = refl
 
-pub held_all-counted : (bans : List Issued) (number : ℕ) (objects : List Kept) → held_all bans (map (counted_in number) objects) ≡ counted number (held_all bans objects)
+pub held_all-counted : (bans : List Issued) (number : ℕ) (objects : List StoredObject) → held_all bans (map (counted_in number) objects) ≡ counted number (held_all bans objects)
 held_all-counted bans number [] = refl
 held_all-counted bans number (kept ∷ objects) =
     ap (λ (held : Held). held ∷ held_all bans (map (counted_in number) objects)) (one_counted bans (kept.view.number == number) kept)
@@ -76,43 +76,43 @@ or_none : (a later : Bool) → later ≡ ((a && false) || later)
 or_none true later = refl
 or_none false later = refl
 
-any_or_not : (bans : List Issued) (now stale : ℕ) (kept : Kept) (lives : Bool) (rest : List Held) (later : Bool) → list_any (λ (held : Held). held.view.number == stale) rest ≡ later → list_any (λ (held : Held). held.view.number == stale) (cond lives (held_of bans kept ∷ rest) rest) ≡ (((kept.view.number == stale) && lives) || later)
+any_or_not : (bans : List Issued) (now stale : ℕ) (kept : StoredObject) (lives : Bool) (rest : List Held) (later : Bool) → list_any (λ (held : Held). held.view.number == stale) rest ≡ later → list_any (λ (held : Held). held.view.number == stale) (cond lives (held_of bans kept ∷ rest) rest) ≡ (((kept.view.number == stale) && lives) || later)
 any_or_not bans now stale kept true rest later e = rw e (or_same (kept.view.number == stale) later)
 any_or_not bans now stale kept false rest later e = e ∙ or_none (kept.view.number == stale) later
 
 -- an object in time of this number, in memory and by the law
-pub any-in_time : (bans : List Issued) (now stale : ℕ) (objects : List Kept) → list_any (λ (held : Held). held.view.number == stale) (those_in_time now (held_all bans objects)) ≡ list_any (λ (kept : Kept). (kept.view.number == stale) && in_time now kept.view.object) objects
+pub any-in_time : (bans : List Issued) (now stale : ℕ) (objects : List StoredObject) → list_any (λ (held : Held). held.view.number == stale) (those_in_time now (held_all bans objects)) ≡ list_any (λ (kept : StoredObject). (kept.view.number == stale) && in_time now kept.view.object) objects
 any-in_time bans now stale [] = refl
 any-in_time bans now stale (kept ∷ objects) = any_or_not bans now stale kept (in_time now kept.view.object) _ _ (any-in_time bans now stale objects)
 
-kept_one : (bans : List Issued) (b : Bool) (kept : Kept) (objects : List Kept) (rest : List Held) → held_all bans objects ≡ rest → held_all bans (cond b (kept ∷ objects) objects) ≡ cond b (held_of bans kept ∷ rest) rest
+kept_one : (bans : List Issued) (b : Bool) (kept : StoredObject) (objects : List StoredObject) (rest : List Held) → held_all bans objects ≡ rest → held_all bans (cond b (kept ∷ objects) objects) ≡ cond b (held_of bans kept ∷ rest) rest
 kept_one bans true kept objects rest e = ap (λ (hs : List Held). held_of bans kept ∷ hs) e
 kept_one bans false kept objects rest e = e
 
 -- the objects that stay, in memory and by the law
-pub held_all-stays : (bans : List Issued) (stale : Option ℕ) (objects : List Kept) → held_all bans (filter (stays stale) objects) ≡ without_stale stale (held_all bans objects)
+pub held_all-stays : (bans : List Issued) (stale : Option ℕ) (objects : List StoredObject) → held_all bans (filter (stays stale) objects) ≡ without_stale stale (held_all bans objects)
 held_all-stays bans None [] = refl
 held_all-stays bans None (kept ∷ objects) = ap (λ (hs : List Held). held_of bans kept ∷ hs) (held_all-stays bans None objects)
 held_all-stays bans (Some stale) [] = refl
 held_all-stays bans (Some stale) (kept ∷ objects) = kept_one bans (not (kept.view.number == stale)) kept _ _ (held_all-stays bans (Some stale) objects)
 
-inherits_one : (bans : List Issued) (b : Bool) (kept : Kept) (later : Option Kept) (held : Option Held) → waiting bans (option_map_or (λ (k : Kept). k.tested) later (length bans)) ≡ option_map_or (λ (h : Held). h.pending) held []
-    → waiting bans (option_map_or (λ (k : Kept). k.tested) (cond b (Some kept) later) (length bans)) ≡ option_map_or (λ (h : Held). h.pending) (cond b (Some (held_of bans kept)) held) []
+inherits_one : (bans : List Issued) (b : Bool) (kept : StoredObject) (later : Option StoredObject) (held : Option Held) → waiting bans (option_map_or (λ (k : StoredObject). k.tested) later (length bans)) ≡ option_map_or (λ (h : Held). h.pending) held []
+    → waiting bans (option_map_or (λ (k : StoredObject). k.tested) (cond b (Some kept) later) (length bans)) ≡ option_map_or (λ (h : Held). h.pending) (cond b (Some (held_of bans kept)) held) []
 inherits_one bans true kept later held e = refl
 inherits_one bans false kept later held e = e
 
 -- what waits for the object in the stale one's place is what waited for that
-pub inherits : (bans : List Issued) (stale : Option ℕ) (objects : List Kept) → waiting bans (tested_for (length bans) stale objects) ≡ inherited stale (held_all bans objects)
+pub inherits : (bans : List Issued) (stale : Option ℕ) (objects : List StoredObject) → waiting bans (tested_for (length bans) stale objects) ≡ inherited stale (held_all bans objects)
 inherits bans None objects = none_waits bans
 inherits bans (Some stale) [] = none_waits bans
 inherits bans (Some stale) (kept ∷ objects) = inherits_one bans (kept.view.number == stale) kept _ _ (inherits bans (Some stale) objects)
 
-size_or_not : (bans : List Issued) (b : Bool) (kept : Kept) (rest : List Held) → sizes_of (cond b (held_of bans kept ∷ rest) rest) ≡ cond b (size_of kept.view.object) 0 + sizes_of rest
+size_or_not : (bans : List Issued) (b : Bool) (kept : StoredObject) (rest : List Held) → sizes_of (cond b (held_of bans kept ∷ rest) rest) ≡ cond b (size_of kept.view.object) 0 + sizes_of rest
 size_or_not bans true kept rest = sum_by-cons (λ (held : Held). size_of held.view.object) (held_of bans kept) rest
 size_or_not bans false kept rest = omega arith
 
 -- the sizes of those that stay
-pub sizes_that_stay : (bans : List Issued) (stale : Option ℕ) (objects : List Kept) → sizes_staying stale objects ≡ sizes_of (without_stale stale (held_all bans objects))
+pub sizes_that_stay : (bans : List Issued) (stale : Option ℕ) (objects : List StoredObject) → sizes_staying stale objects ≡ sizes_of (without_stale stale (held_all bans objects))
 sizes_that_stay bans None [] = refl
 sizes_that_stay bans None (kept ∷ objects) =
     omega (arith, sum_by-cons (size_staying None) kept objects, sum_by-cons (λ (held : Held). size_of held.view.object) (held_of bans kept) (held_all bans objects), sizes_that_stay bans None objects)
@@ -121,12 +121,12 @@ sizes_that_stay bans (Some stale) (kept ∷ objects) =
     omega (arith, sum_by-cons (size_staying (Some stale)) kept objects, size_or_not bans (not (kept.view.number == stale)) kept (without_stale (Some stale) (held_all bans objects)), sizes_that_stay bans (Some stale) objects)
 
 -- what is left of the objects, in memory and by the law
-one_left : (bans : List Issued) (fate : Fate) (kept : Kept) (objects : List Kept) (rest : List Held) → held_all bans objects ≡ rest → held_all bans (left_of (length bans) fate kept ++ objects) ≡ held_left fate (held_of bans kept) ++ rest
+one_left : (bans : List Issued) (fate : Fate) (kept : StoredObject) (objects : List StoredObject) (rest : List Held) → held_all bans objects ≡ rest → held_all bans (left_of (length bans) fate kept ++ objects) ≡ held_left fate (held_of bans kept) ++ rest
 one_left bans Stays kept objects rest e = ap (λ (hs : List Held). held_of bans kept ∷ hs) e
 one_left bans Tested kept objects rest e = rw (none_waits bans) (ap (λ (hs : List Held). cleared (held_of bans kept) ∷ hs) e)
 one_left bans Goes kept objects rest e = e
 
-pub held_all-settled : (bans : List Issued) (fates : List Fate) (objects : List Kept) → held_all bans (settled (length bans) fates objects) ≡ settled_held fates (held_all bans objects)
+pub held_all-settled : (bans : List Issued) (fates : List Fate) (objects : List StoredObject) → held_all bans (settled (length bans) fates objects) ≡ settled_held fates (held_all bans objects)
 held_all-settled bans [] objects = refl
 held_all-settled bans (fate ∷ fates) [] = refl
 held_all-settled bans (fate ∷ fates) (kept ∷ objects) = one_left bans fate kept _ _ (held_all-settled bans fates objects)
@@ -142,53 +142,53 @@ settled_none : (count : ℕ) (fates : List Fate) → settled count fates [] ≡ 
 settled_none count [] = refl
 settled_none count (fate ∷ fates) = refl
 
-append_none : (objects : List Kept) → objects ++ [] ≡ objects
+append_none : (objects : List StoredObject) → objects ++ [] ≡ objects
 append_none [] = refl
-append_none (kept ∷ objects) = ap (λ (rest : List Kept). kept ∷ rest) (append_none objects)
+append_none (kept ∷ objects) = ap (λ (rest : List StoredObject). kept ∷ rest) (append_none objects)
 
 no_fate : (n : ℕ) → get_or [] n Stays ≡ Stays
 no_fate zero = refl
 no_fate (suc n) = refl
 
-settled_next : (count : ℕ) (fates : List Fate) (n : ℕ) (objects : List Kept) (d : Kept) → n < length objects → settled count fates (take (suc n) objects) ≡ settled count fates (take n objects) ++ left_of count (get_or fates n Stays) (get_or objects n d)
+settled_next : (count : ℕ) (fates : List Fate) (n : ℕ) (objects : List StoredObject) (d : StoredObject) → n < length objects → settled count fates (take (suc n) objects) ≡ settled count fates (take n objects) ++ left_of count (get_or fates n Stays) (get_or objects n d)
 settled_next count fates n [] d h = absurd (omega arith)
 settled_next count [] zero (kept ∷ objects) d h = refl
-settled_next count [] (suc n) (kept ∷ objects) d h = ap (λ (rest : List Kept). kept ∷ rest) (settled_next count [] n objects d (omega arith) ∙ ap (λ (fate : Fate). take n objects ++ left_of count fate (get_or objects n d)) (no_fate n))
+settled_next count [] (suc n) (kept ∷ objects) d h = ap (λ (rest : List StoredObject). kept ∷ rest) (settled_next count [] n objects d (omega arith) ∙ ap (λ (fate : Fate). take n objects ++ left_of count fate (get_or objects n d)) (no_fate n))
 settled_next count (fate ∷ fates) zero (kept ∷ objects) d h =
-    ap (λ (rest : List Kept). left_of count fate kept ++ rest) (settled_none count fates) ∙ append_none (left_of count fate kept)
+    ap (λ (rest : List StoredObject). left_of count fate kept ++ rest) (settled_none count fates) ∙ append_none (left_of count fate kept)
 settled_next count (fate ∷ fates) (suc n) (kept ∷ objects) d h =
-    ap (λ (rest : List Kept). left_of count fate kept ++ rest) (settled_next count fates n objects d (omega arith))
+    ap (λ (rest : List StoredObject). left_of count fate kept ++ rest) (settled_next count fates n objects d (omega arith))
     ∙ sym (append_assoc (left_of count fate kept) (settled count fates (take n objects)) (left_of count (get_or fates n Stays) (get_or objects n d)))
 
 -- the first object is passed on, as its fate leaves it
-pub settle_more : (count : ℕ) (fates : List Fate) (n : ℕ) (objects now new : List Kept) → n < length objects → now ≡ drop n objects ++ settled count fates (take n objects) → new ≡ moved_on count (get_or fates n Stays) now → new ≡ drop (n + 1) objects ++ settled count fates (take (n + 1) objects)
+pub settle_more : (count : ℕ) (fates : List Fate) (n : ℕ) (objects now new : List StoredObject) → n < length objects → now ≡ drop n objects ++ settled count fates (take n objects) → new ≡ moved_on count (get_or fates n Stays) now → new ≡ drop (n + 1) objects ++ settled count fates (take (n + 1) objects)
 settle_more count fates n [] now new below so_far moves = absurd (omega arith)
 settle_more count fates n (d ∷ rest) now new below so_far moves =
-    let objects : List Kept = d ∷ rest in
-    let x : Kept = get_or objects n d in
-    let left : List Kept = left_of count (get_or fates n Stays) x in
+    let objects : List StoredObject = d ∷ rest in
+    let x : StoredObject = get_or objects n d in
+    let left : List StoredObject = left_of count (get_or fates n Stays) x in
     moves
-    ∙ ap (moved_on count (get_or fates n Stays)) (so_far ∙ ap (λ (rest : List Kept). rest ++ settled count fates (take n objects)) (at_next n objects d below))
+    ∙ ap (moved_on count (get_or fates n Stays)) (so_far ∙ ap (λ (rest : List StoredObject). rest ++ settled count fates (take n objects)) (at_next n objects d below))
     ∙ append_assoc (drop (suc n) objects) (settled count fates (take n objects)) left
-    ∙ ap (λ (rest : List Kept). drop (suc n) objects ++ rest) (sym (settled_next count fates n objects d below))
+    ∙ ap (λ (rest : List StoredObject). drop (suc n) objects ++ rest) (sym (settled_next count fates n objects d below))
     ∙ ap (λ (k : ℕ). drop k objects ++ settled count fates (take k objects)) (sym (add-one n))
 
-pub settle_whole : (count : ℕ) (fates : List Fate) (n : ℕ) (objects now : List Kept) → n ≡ length objects → now ≡ drop n objects ++ settled count fates (take n objects) → now ≡ settled count fates objects
+pub settle_whole : (count : ℕ) (fates : List Fate) (n : ℕ) (objects now : List StoredObject) → n ≡ length objects → now ≡ drop n objects ++ settled count fates (take n objects) → now ≡ settled count fates objects
 settle_whole count fates n objects now end_ so_far =
     so_far
-    ∙ ap (λ (rest : List Kept). rest ++ settled count fates (take n objects)) (drop_all objects n end_)
+    ∙ ap (λ (rest : List StoredObject). rest ++ settled count fates (take n objects)) (drop_all objects n end_)
     ∙ ap (settled count fates) (take_all objects n end_)
 
-one_stays : (count : ℕ) (fate : Fate) (kept : Kept) (objects rest : List Kept) (later : Bool) → (is_change fate || later) ≡ false → (later ≡ false → objects ≡ rest) → kept ∷ objects ≡ left_of count fate kept ++ rest
-one_stays count Stays kept objects rest later e same = ap (λ (o : List Kept). kept ∷ o) (same e)
+one_stays : (count : ℕ) (fate : Fate) (kept : StoredObject) (objects rest : List StoredObject) (later : Bool) → (is_change fate || later) ≡ false → (later ≡ false → objects ≡ rest) → kept ∷ objects ≡ left_of count fate kept ++ rest
+one_stays count Stays kept objects rest later e same = ap (λ (o : List StoredObject). kept ∷ o) (same e)
 one_stays count Tested kept objects rest later e same = cc
 one_stays count Goes kept objects rest later e same = cc
 
 -- where nothing changes, all stay
-pub all_stay : (count : ℕ) (fates : List Fate) (objects : List Kept) → list_any is_change fates ≡ false → objects ≡ settled count fates objects
+pub all_stay : (count : ℕ) (fates : List Fate) (objects : List StoredObject) → list_any is_change fates ≡ false → objects ≡ settled count fates objects
 all_stay count [] objects e = refl
 all_stay count (fate ∷ fates) [] e = refl
 all_stay count (fate ∷ fates) (kept ∷ objects) e = one_stays count fate kept objects _ (list_any is_change fates) e (all_stay count fates objects)
 
-pub settle_start : (count : ℕ) (fates : List Fate) (objects : List Kept) → objects ≡ drop 0 objects ++ settled count fates (take 0 objects)
-settle_start count fates objects = sym (append_none objects) ∙ ap (λ (rest : List Kept). objects ++ rest) (sym (settled_none count fates))
+pub settle_start : (count : ℕ) (fates : List Fate) (objects : List StoredObject) → objects ≡ drop 0 objects ++ settled count fates (take 0 objects)
+settle_start count fates objects = sym (append_none objects) ∙ ap (λ (rest : List StoredObject). objects ++ rest) (sym (settled_none count fates))

@@ -14,7 +14,7 @@ use Rattle.cache_law.specs.declared.call.Reply.{Reply}
 use Rattle.cache_law.specs.declared.call.Reply.TheVariants.{Began, NoRound, Drawn, Stored, NotOpen, StaleGone, NotInTime, NoRoom, Refused, Banned, Bans, Purged, Picked, HealthSet, Loaded, NameTaken, Switched, NoVcl, Discarded, IsActive, Vcls, Dropped, Ended}
 use Rattle.cache_law.specs.declared.state.OpenFetch.{OpenFetch}
 use Rattle.cache_law.specs.declared.state.OpenRound.{OpenRound}
-use Rattle.cache_law.specs.declared.target.Target.{Target}
+use Rattle.directors.specs.declared.target.Target.{Target}
 use Rattle.cache_law.specs.declared.vcl.Vcl.{Vcl}
 use Rattle.cache_law.specs.declared.vcl.VclSource.{VclSource}
 use Rattle.cache_law.specs.declared.vcl.LoadedVcl.{LoadedVcl}
@@ -36,12 +36,12 @@ use Rattle.cache_law.proofs.Moments.{those_in_time-later}
 use Rattle.cache_law.proofs.Lawful.{asks_bans, is_refusal, behind_lawful, MayAnswer-lawful}
 use Rattle.cache_law.proofs.Leaves.{either}
 use Rattle.flat_core.specs.declared.answer.Answer.{Answer}
-use Rattle.flat_core.specs.declared.kept.Kept.{Kept}
-use Rattle.flat_core.specs.declared.kept.Fate.{Fate}
+use Rattle.flat_core.specs.declared.stored_object.StoredObject.{StoredObject}
+use Rattle.flat_core.specs.declared.stored_object.Fate.{Fate}
 use Rattle.flat_core.specs.declared.finding.Finding.{Finding}
 use Rattle.flat_core.specs.declared.finding.Finding.TheVariants.{Hit, HitMiss, HitPass, Grace, GraceAlone, Wait, Miss}
 use Rattle.flat_core.specs.declared.finding.Found.{Found}
-use Rattle.flat_core.specs.Kept.{held_of, held_all, AreTested, settled, settled_held, counting_in, stays as staying, sizes_staying, first_of}
+use Rattle.flat_core.specs.StoredObject.{held_of, held_all, AreTested, settled, settled_held, counting_in, stays as staying, sizes_staying, first_of}
 use Rattle.flat_core.specs.Found.{opens_fetch, hit_in, reply_of, next_after, counted_for, opened_for, told_so}
 use Rattle.flat_core.specs.Banning.{ban_fates}
 use Rattle.flat_core.specs.Purging.{has_xkey, is_purged, is_spared, softening}
@@ -122,15 +122,15 @@ draws old now caller answer opened told kept =
     by_parts old now Draw (drawn (at_moment now old) caller) (Drawn old.next) (old.next + 1) old.objects (those_in_time now old.objects) old.fetches old.fetches old.rounds old.rounds answer refl (cond-true _ _ _ opened) refl (sym (once now old.objects)) refl refl told kept
 
 -- the hit is counted in memory as by the law
-counted_left : (now : ℕ) (bans : List Issued) (fates : List Fate) (objects later : List Kept) (hit : Option ℕ) → later ≡ counting_in hit (settled (length bans) fates objects)
+counted_left : (now : ℕ) (bans : List Issued) (fates : List Fate) (objects later : List StoredObject) (hit : Option ℕ) → later ≡ counting_in hit (settled (length bans) fates objects)
     → those_in_time now (held_all bans later) ≡ those_in_time now (counted_for hit (those_in_time now (settled_held fates (held_all bans objects))))
 counted_left now bans fates objects later None counts =
-    ap (λ (k : List Kept). those_in_time now (held_all bans k)) counts
+    ap (λ (k : List StoredObject). those_in_time now (held_all bans k)) counts
     ∙ ap (those_in_time now) (held_all-settled bans fates objects)
     ∙ sym (once now (settled_held fates (held_all bans objects)))
 counted_left now bans fates objects later (Some number) counts =
     let left : List Held = settled_held fates (held_all bans objects) in
-    ap (λ (k : List Kept). those_in_time now (held_all bans k)) counts
+    ap (λ (k : List StoredObject). those_in_time now (held_all bans k)) counts
     ∙ ap (those_in_time now) (held_all-counted bans number (settled (length bans) fates objects))
     ∙ ap (λ (o : List Held). those_in_time now (counted number o)) (held_all-settled bans fates objects)
     ∙ in_time-counted now number left
@@ -147,7 +147,7 @@ no_refusal token (Wait other) = refl
 no_refusal token (Miss stale) = refl
 
 -- what a lookup in an open round leaves
-pub looks : (old : State) (bans : List Issued) (objects later : List Kept) (fetches : List OpenFetch) (rounds : List OpenRound) (next now caller : ℕ) (query : Query) (found : Found) (answer : Answer) → old.objects ≡ held_all bans objects → later ≡ counting_in (hit_in found.finding) (settled (length bans) found.fates objects) → next ≡ next_after (opens_fetch found.finding) old.next → fetches ≡ opened_for (opens_fetch found.finding) old.next caller query.key old.fetches → answer.told ≡ reply_of old.next found.finding → answer.kept ≡ reply_of old.next found.finding → rounds ≡ with_wait caller (wait_in answer.told) old.rounds → Answers old (record old { moment = now; next = next; objects = held_all bans later; fetches = fetches; rounds = rounds }) now (Lookup query) (told_so old now caller query.key (Some found)) answer
+pub looks : (old : State) (bans : List Issued) (objects later : List StoredObject) (fetches : List OpenFetch) (rounds : List OpenRound) (next now caller : ℕ) (query : Query) (found : Found) (answer : Answer) → old.objects ≡ held_all bans objects → later ≡ counting_in (hit_in found.finding) (settled (length bans) found.fates objects) → next ≡ next_after (opens_fetch found.finding) old.next → fetches ≡ opened_for (opens_fetch found.finding) old.next caller query.key old.fetches → answer.told ≡ reply_of old.next found.finding → answer.kept ≡ reply_of old.next found.finding → rounds ≡ with_wait caller (wait_in answer.told) old.rounds → Answers old (record old { moment = now; next = next; objects = held_all bans later; fetches = fetches; rounds = rounds }) now (Lookup query) (told_so old now caller query.key (Some found)) answer
 looks old bans objects later fetches rounds next now caller query found answer kept_ counts follows opens told kept runs =
     subst (λ (n : ℕ). Answers old (record old { moment = now; next = n; objects = held_all bans later; fetches = fetches; rounds = rounds }) now (Lookup query) (told_so old now caller query.key (Some found)) answer) (sym follows)
     (by_parts old now (Lookup query) _ (reply_of old.next found.finding) (next_after (opens_fetch found.finding) old.next) (held_all bans later) _ fetches _ rounds _ answer refl refl (no_refusal old.next found.finding)
@@ -156,7 +156,7 @@ looks old bans objects later fetches rounds next now caller query found answer k
     opens (runs ∙ ap (λ (r : Reply). with_wait caller (wait_in r) old.rounds) told) told kept)
 
 -- a ban is issued
-pub bans_so : (old : State) (objects later : List Kept) (all : List Issued) (issued : Issued) (ban : Ban) (fates : List Fate) (count now : ℕ) (answer : Answer) → old.objects ≡ held_all old.bans objects → AreTested old.bans objects → issued ≡ issued_behind old.bans now ban → all ≡ issued ∷ old.bans → fates ≡ ban_fates now ban objects → count ≡ length all → later ≡ settled count fates objects → answer.told ≡ Banned → answer.kept ≡ Banned → Answers old (record old { moment = now; bans = all; objects = held_all all later }) now (BanCall ban) (banned (at_moment now old) ban) answer
+pub bans_so : (old : State) (objects later : List StoredObject) (all : List Issued) (issued : Issued) (ban : Ban) (fates : List Fate) (count now : ℕ) (answer : Answer) → old.objects ≡ held_all old.bans objects → AreTested old.bans objects → issued ≡ issued_behind old.bans now ban → all ≡ issued ∷ old.bans → fates ≡ ban_fates now ban objects → count ≡ length all → later ≡ settled count fates objects → answer.told ≡ Banned → answer.kept ≡ Banned → Answers old (record old { moment = now; bans = all; objects = held_all all later }) now (BanCall ban) (banned (at_moment now old) ban) answer
 bans_so old objects later all issued ban fates count now answer kept_ tested is_ pushed are counts settles told kept =
     let one : Issued = issued_behind old.bans now ban in
     let left : later ≡ settled (length (one ∷ old.bans)) (ban_fates now ban objects) objects =
@@ -173,7 +173,7 @@ bans_so old objects later all issued ban fates count now answer kept_ tested is_
     ∙ ap (those_in_time now) (over ∙ ap (λ (o : List Held). ban_over one (those_in_time now o)) (sym kept_)))) told kept
 
 -- the bans are listed
-pub lists_bans : (old : State) (bans : List Issued) (objects : List Kept) (now : ℕ) (answer : Answer) → old.bans ≡ bans → old.objects ≡ held_all bans objects → answer.told ≡ Bans (open_lines bans) → answer.kept ≡ Bans (open_lines bans) → Answers old (record old { moment = now }) now BanList (leaving (at_moment now old) (Bans (open_lines old.bans))) answer
+pub lists_bans : (old : State) (bans : List Issued) (objects : List StoredObject) (now : ℕ) (answer : Answer) → old.bans ≡ bans → old.objects ≡ held_all bans objects → answer.told ≡ Bans (open_lines bans) → answer.kept ≡ Bans (open_lines bans) → Answers old (record old { moment = now }) now BanList (leaving (at_moment now old) (Bans (open_lines old.bans))) answer
 lists_bans old bans objects now answer same kept_ told kept =
     record {
       twice = kept ∙ sym told;
@@ -201,8 +201,8 @@ drops old now caller token fetches answer opened closed told kept =
 pub record Insertion : Type 0 where
   pub room : ℕ
   pub old : State
-  pub views : List Kept
-  pub left : List Kept
+  pub views : List StoredObject
+  pub left : List StoredObject
   pub now : ℕ
   pub caller : ℕ
   pub token : ℕ
@@ -212,22 +212,22 @@ pub record Insertion : Type 0 where
   pub kept : old.objects ≡ held_all old.bans views
   pub opened : has_fetch old.fetches caller token ≡ true
   pub here : is_gone stale (those_in_time now old.objects) ≡ false
-  pub thinned : left ≡ filter (λ (kept : Kept). in_time now kept.view.object) views
+  pub thinned : left ≡ filter (λ (kept : StoredObject). in_time now kept.view.object) views
   pub closed : fetches ≡ without_fetch token old.fetches
 
 abbrev pub law_of : Insertion → Step
 law_of i = inserted i.room (at_moment i.now i.old) i.caller i.token i.object i.stale
 
 -- these objects as the law has them
-abbrev pub kept_all : Insertion → List Kept → List Held
+abbrev pub kept_all : Insertion → List StoredObject → List Held
 kept_all i views = held_all i.old.bans views
 
 -- what is kept with these objects
-abbrev pub keeping : Insertion → List Kept → State
+abbrev pub keeping : Insertion → List StoredObject → State
 keeping i views = record i.old { moment = i.now; objects = kept_all i views; fetches = i.fetches }
 
 -- the answer, with what is kept behind it
-abbrev pub Gives : Insertion → List Kept → Answer → Type 0
+abbrev pub Gives : Insertion → List StoredObject → Answer → Type 0
 Gives i views answer = Answers i.old (keeping i views) i.now (Insert i.token i.object i.stale) (law_of i) answer
 
 -- what is left are those in time
@@ -251,7 +251,7 @@ no_room i answer lives full told kept =
     (by_fetch i.room i.old i.now i.caller i.token i.object i.stale _ i.opened i.here (cond-true _ _ _ lives ∙ cond-true _ _ _ full_)) refl (same_left i) i.closed told kept
 
 -- the new object before those that stay
-put_first : (i : Insertion) (later : List Kept) → later ≡ first_of i.token i.object i.stale (length i.old.bans) i.left ∷ filter (staying i.stale) i.left → kept_all i later ≡ stored_over i.token i.object i.stale (those_in_time i.now i.old.objects)
+put_first : (i : Insertion) (later : List StoredObject) → later ≡ first_of i.token i.object i.stale (length i.old.bans) i.left ∷ filter (staying i.stale) i.left → kept_all i later ≡ stored_over i.token i.object i.stale (those_in_time i.now i.old.objects)
 put_first i later first =
     let view : ObjectView = record { number = i.token; hits = 0; object = i.object } in
     ap (kept_all i) first
@@ -259,7 +259,7 @@ put_first i later first =
     ∙ ap (λ pending. record { view = view; pending = pending } ∷ without_stale i.stale (kept_all i i.left)) (inherits i.old.bans i.stale i.left)
     ∙ ap (stored_over i.token i.object i.stale) (left_in_time i)
 
-pub stores : (i : Insertion) (later : List Kept) (answer : Answer) → in_time i.now i.object ≡ true → sizes_staying i.stale i.left + size_of i.object ≤ i.room → later ≡ first_of i.token i.object i.stale (length i.old.bans) i.left ∷ filter (staying i.stale) i.left → answer.told ≡ Stored i.token → answer.kept ≡ Stored i.token → Gives i later answer
+pub stores : (i : Insertion) (later : List StoredObject) (answer : Answer) → in_time i.now i.object ≡ true → sizes_staying i.stale i.left + size_of i.object ≤ i.room → later ≡ first_of i.token i.object i.stale (length i.old.bans) i.left ∷ filter (staying i.stale) i.left → answer.told ≡ Stored i.token → answer.kept ≡ Stored i.token → Gives i later answer
 stores i later answer lives fits first told kept =
     let fits_ : nat_lt i.room (sizes_of (without_stale i.stale (those_in_time i.now i.old.objects)) + size_of i.object) ≡ false = le-ltb _ _ (omega (arith, fits, sizes_left i)) in
     by_parts i.old i.now (Insert i.token i.object i.stale) (law_of i) (Stored i.token) i.old.next (kept_all i later) (stored_over i.token i.object i.stale (those_in_time i.now i.old.objects)) i.fetches _ i.old.rounds i.old.rounds answer refl
@@ -296,22 +296,22 @@ ends old now caller rounds fetches vcls answer opened closed closed_ stay told k
     (by_rest old (record old { rounds = without_round_of caller old.rounds; fetches = without_fetches_of caller old.fetches; vcls = those_staying (without_round_of caller old.rounds) old.vcls }) now End _ Ended answer refl (cond-true _ _ _ opened) refl told kept)
 
 -- objects are purged
-pub purges : (old : State) (objects later : List Kept) (test : Object → Bool) (call : Call) (law : Step) (count now : ℕ) (answer : Answer) → asks_bans call ≡ false → law ≡ record { reply = Purged (count_of (of_object test) (those_in_time now old.objects)); state = record old { moment = now; objects = filter (not_of_object test) (those_in_time now old.objects) } } → old.objects ≡ held_all old.bans objects → later ≡ filter (is_spared now test) objects → count ≡ length (filter (is_purged now test) objects) → answer.told ≡ Purged count → answer.kept ≡ Purged count → Answers old (record old { moment = now; objects = held_all old.bans later }) now call law answer
+pub purges : (old : State) (objects later : List StoredObject) (test : Object → Bool) (call : Call) (law : Step) (count now : ℕ) (answer : Answer) → asks_bans call ≡ false → law ≡ record { reply = Purged (count_of (of_object test) (those_in_time now old.objects)); state = record old { moment = now; objects = filter (not_of_object test) (those_in_time now old.objects) } } → old.objects ≡ held_all old.bans objects → later ≡ filter (is_spared now test) objects → count ≡ length (filter (is_purged now test) objects) → answer.told ≡ Purged count → answer.kept ≡ Purged count → Answers old (record old { moment = now; objects = held_all old.bans later }) now call law answer
 purges old objects later test call law count now answer one is_ kept_ left counts_ told kept =
     let many : count ≡ count_of (of_object test) (those_in_time now old.objects) =
     counts_ ∙ counts old.bans now test objects ∙ ap (λ (o : List Held). count_of (of_object test) (those_in_time now o)) (sym kept_) in
     by_parts old now call law _ old.next (held_all old.bans later) (filter (not_of_object test) (those_in_time now old.objects)) old.fetches old.fetches old.rounds old.rounds answer one is_ refl
-    (ap (λ (k : List Kept). those_in_time now (held_all old.bans k)) left
+    (ap (λ (k : List StoredObject). those_in_time now (held_all old.bans k)) left
     ∙ sym (once now (held_all old.bans (filter (is_spared now test) objects)))
     ∙ ap (those_in_time now) (spared old.bans now test objects ∙ ap (λ (o : List Held). filter (not_of_object test) (those_in_time now o)) (sym kept_)))
     refl refl (told ∙ ap Purged many) (kept ∙ ap Purged many)
 
-pub softens : (old : State) (objects later : List Kept) (keys : List (List ℕ)) (count now : ℕ) (answer : Answer) → old.objects ≡ held_all old.bans objects → later ≡ map (softening now keys) objects → count ≡ length (filter (is_purged now (has_xkey keys)) objects) → answer.told ≡ Purged count → answer.kept ≡ Purged count → Answers old (record old { moment = now; objects = held_all old.bans later }) now (Xkey keys true) (purged_by (at_moment now old) keys true) answer
+pub softens : (old : State) (objects later : List StoredObject) (keys : List (List ℕ)) (count now : ℕ) (answer : Answer) → old.objects ≡ held_all old.bans objects → later ≡ map (softening now keys) objects → count ≡ length (filter (is_purged now (has_xkey keys)) objects) → answer.told ≡ Purged count → answer.kept ≡ Purged count → Answers old (record old { moment = now; objects = held_all old.bans later }) now (Xkey keys true) (purged_by (at_moment now old) keys true) answer
 softens old objects later keys count now answer kept_ left counts_ told kept =
     let many : count ≡ count_of (of_object (has_xkey keys)) (those_in_time now old.objects) =
     counts_ ∙ counts old.bans now (has_xkey keys) objects ∙ ap (λ (o : List Held). count_of (of_object (has_xkey keys)) (those_in_time now o)) (sym kept_) in
     by_parts old now (Xkey keys true) _ _ old.next (held_all old.bans later) (map (softened_by_law now keys) (those_in_time now old.objects)) old.fetches old.fetches old.rounds old.rounds answer refl refl refl
-    (ap (λ (k : List Kept). those_in_time now (held_all old.bans k)) left
+    (ap (λ (k : List StoredObject). those_in_time now (held_all old.bans k)) left
     ∙ softened_so old.bans now keys objects
     ∙ ap (λ (o : List Held). those_in_time now (map (softened_by_law now keys) (those_in_time now o))) (sym kept_))
     refl refl (told ∙ ap Purged many) (kept ∙ ap Purged many)

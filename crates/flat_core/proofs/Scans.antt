@@ -13,13 +13,13 @@ use Rattle.cache_law.specs.Bans.{meets}
 use Rattle.cache_law.specs.BansAtOnce.{cleared, is_met}
 use Rattle.cache_law.specs.State.{Held, those_in_time}
 use Rattle.cache_law.specs.Lookup.{Scan, scanned, is_chosen_by, is_fresh, is_in_grace, ending, passing, seeing as going_on}
-use Rattle.flat_core.specs.declared.kept.Kept.{Kept}
-use Rattle.flat_core.specs.declared.kept.Fate.{Fate}
-use Rattle.flat_core.specs.declared.kept.Fate.TheVariants.{Stays, Tested}
-use Rattle.flat_core.specs.declared.sight.Sight.{Sight}
-use Rattle.flat_core.specs.declared.sight.Sight.TheVariants.{Other, Banned, Unfit, Aged, Fresh}
+use Rattle.flat_core.specs.declared.stored_object.StoredObject.{StoredObject}
+use Rattle.flat_core.specs.declared.stored_object.Fate.{Fate}
+use Rattle.flat_core.specs.declared.stored_object.Fate.TheVariants.{Stays, Tested}
+use Rattle.flat_core.specs.declared.matching.LookupMatch.{LookupMatch}
+use Rattle.flat_core.specs.declared.matching.LookupMatch.TheVariants.{Other, Banned, Unfit, Aged, Fresh}
 use Rattle.flat_core.specs.declared.scan.Seen.{Seen}
-use Rattle.flat_core.specs.Kept.{is_waiting, held_of, held_all, held_left, settled_held}
+use Rattle.flat_core.specs.StoredObject.{is_waiting, held_of, held_all, held_left, settled_held}
 use Rattle.flat_core.specs.Scans.{is_struck, is_end, nothing_seen, seeing, seen_all, sight_of, joined}
 use Rattle.flat_core.proofs.Objects.{none_waits}
 use Rattle.flat_core.proofs.Passes.{drop_one, drop_all}
@@ -34,7 +34,7 @@ any-waiting object request [] = refl
 any-waiting object request (issued ∷ bans) = any_one (is_waiting issued) _ _ (meets object request) issued (any-waiting object request bans)
 
 -- an object that was tested on all bans is left as it is once it was tested on all
-all_tested : (bans : List Issued) (done : Bool) (kept : Kept) (rest : List Held) → (kept.tested == length bans) ≡ done → held_left (cond done Stays Tested) (held_of bans kept) ++ rest ≡ cleared (held_of bans kept) ∷ rest
+all_tested : (bans : List Issued) (done : Bool) (kept : StoredObject) (rest : List Held) → (kept.tested == length bans) ≡ done → held_left (cond done Stays Tested) (held_of bans kept) ++ rest ≡ cleared (held_of bans kept) ∷ rest
 all_tested bans true kept rest e =
     let same : kept.tested ≡ length bans = eqb-true _ _ e in
     rw (same, none_waits bans) refl
@@ -60,10 +60,10 @@ law_scan now query held rest true = refl
 law_scan now query held rest false = refl
 
 -- what is seen in an object, by these tests
-abbrev sight_by : Bool → Bool → Bool → Bool → Bool → Sight
+abbrev sight_by : Bool → Bool → Bool → Bool → Bool → LookupMatch
 sight_by lives ours met chosen fresh = cond (lives && ours) (cond met Banned (cond chosen (cond fresh Fresh Aged) Unfit)) Other
 
-one_seen : (now : ℕ) (query : Query) (bans : List Issued) (kept : Kept) (hs : List Held) (scan : Scan Held) (later : Seen) (lives ours met chosen fresh : Bool)
+one_seen : (now : ℕ) (query : Query) (bans : List Issued) (kept : StoredObject) (hs : List Held) (scan : Scan Held) (later : Seen) (lives ours met chosen fresh : Bool)
     → in_time now kept.view.object ≡ lives → scan ≡ as_scan now hs later
     → law_one now query (held_of bans kept) (those_in_time now hs) scan lives ours met chosen fresh ≡ as_scan now (held_of bans kept ∷ hs) (seeing now query (length bans) (sight_by lives ours met chosen fresh) kept later)
 one_seen now query bans kept hs scan later false ours met chosen fresh e ih = rw (e, ih) refl
@@ -77,7 +77,7 @@ one_seen now query bans kept hs scan later true true false true true e ih =
     rw (all_tested bans (kept.tested == length bans) kept hs refl, e) refl
 
 -- the scan of the objects that are in time finds what was seen in memory, and leaves what the fates leave
-pub scans : (now : ℕ) (query : Query) (bans : List Issued) (objects : List Kept) → scanned now query (those_in_time now (held_all bans objects)) ≡ as_scan now (held_all bans objects) (seen_all now query bans objects)
+pub scans : (now : ℕ) (query : Query) (bans : List Issued) (objects : List StoredObject) → scanned now query (those_in_time now (held_all bans objects)) ≡ as_scan now (held_all bans objects) (seen_all now query bans objects)
 scans now query bans [] = refl
 scans now query bans (kept ∷ objects) =
     let object : Object = kept.view.object in
@@ -110,7 +110,7 @@ joined_joined : (a b c : Seen) → joined (joined a b) c ≡ joined a (joined b 
 joined_joined a b c = rw (or_or a.fresh b.fresh c.fresh, or_or a.grace b.grace c.grace, or_or a.stale b.stale c.stale, append_assoc a.fates b.fates c.fates) refl
 
 -- what is seen before what comes later
-goes_on : (now : ℕ) (query : Query) (count : ℕ) (sight : Sight) (kept : Kept) (later : Seen) → is_end sight ≡ false → seeing now query count sight kept later ≡ joined (seeing now query count sight kept nothing_seen) later
+goes_on : (now : ℕ) (query : Query) (count : ℕ) (sight : LookupMatch) (kept : StoredObject) (later : Seen) → is_end sight ≡ false → seeing now query count sight kept later ≡ joined (seeing now query count sight kept nothing_seen) later
 goes_on now query count Other kept later e = refl
 goes_on now query count Banned kept later e = refl
 goes_on now query count Unfit kept later e = refl
@@ -118,7 +118,7 @@ goes_on now query count Aged kept later e =
     rw (first_or (is_in_grace now query.options kept.view.object) kept.view later.grace, first_or (can_confirm kept.view.object) kept.view later.stale) refl
 goes_on now query count Fresh kept later e = cc
 
-still_open : (now : ℕ) (query : Query) (count : ℕ) (sight : Sight) (kept : Kept) → is_end sight ≡ false → (seeing now query count sight kept nothing_seen).fresh ≡ None
+still_open : (now : ℕ) (query : Query) (count : ℕ) (sight : LookupMatch) (kept : StoredObject) → is_end sight ≡ false → (seeing now query count sight kept nothing_seen).fresh ≡ None
 still_open now query count Other kept e = refl
 still_open now query count Banned kept e = refl
 still_open now query count Unfit kept e = refl
@@ -126,44 +126,44 @@ still_open now query count Aged kept e = refl
 still_open now query count Fresh kept e = cc
 
 -- the scan so far, and what it sees behind
-pub record SeenSo (now : ℕ) (query : Query) (bans : List Issued) (objects : List Kept) (place : ℕ) (seen : Seen) : Type 0 where
+pub record SeenSo (now : ℕ) (query : Query) (bans : List Issued) (objects : List StoredObject) (place : ℕ) (seen : Seen) : Type 0 where
   pub whole : seen_all now query bans objects ≡ joined seen (seen_all now query bans (drop place objects))
   pub open_ : seen.fresh ≡ None
 
-next_whole : (now : ℕ) (query : Query) (bans : List Issued) (objects : List Kept) (place : ℕ) (seen : Seen) (kept : Kept) → place < length objects → SeenSo now query bans objects place seen → kept ≡ get_or objects place kept → seen_all now query bans objects ≡ joined seen (seeing now query (length bans) (sight_of now query bans kept) kept (seen_all now query bans (drop (place + 1) objects)))
+next_whole : (now : ℕ) (query : Query) (bans : List Issued) (objects : List StoredObject) (place : ℕ) (seen : Seen) (kept : StoredObject) → place < length objects → SeenSo now query bans objects place seen → kept ≡ get_or objects place kept → seen_all now query bans objects ≡ joined seen (seeing now query (length bans) (sight_of now query bans kept) kept (seen_all now query bans (drop (place + 1) objects)))
 next_whole now query bans objects place seen kept below so at_ =
     so.whole
-    ∙ ap (λ (rest : List Kept). joined seen (seen_all now query bans rest)) (drop_one objects place kept below at_)
+    ∙ ap (λ (rest : List StoredObject). joined seen (seen_all now query bans rest)) (drop_one objects place kept below at_)
 
-pub see_more : (now : ℕ) (query : Query) (bans : List Issued) (objects : List Kept) (place : ℕ) (seen new : Seen) (sight : Sight) (kept : Kept) → place < length objects → SeenSo now query bans objects place seen → kept ≡ get_or objects place kept → sight ≡ sight_of now query bans kept → is_end sight ≡ false → new ≡ joined seen (seeing now query (length bans) sight kept nothing_seen) → SeenSo now query bans objects (place + 1) new
+pub see_more : (now : ℕ) (query : Query) (bans : List Issued) (objects : List StoredObject) (place : ℕ) (seen new : Seen) (sight : LookupMatch) (kept : StoredObject) → place < length objects → SeenSo now query bans objects place seen → kept ≡ get_or objects place kept → sight ≡ sight_of now query bans kept → is_end sight ≡ false → new ≡ joined seen (seeing now query (length bans) sight kept nothing_seen) → SeenSo now query bans objects (place + 1) new
 see_more now query bans objects place seen new sight kept below so at_ sees goes is_ =
     let later : Seen = seen_all now query bans (drop (place + 1) objects) in
     record {
       whole = next_whole now query bans objects place seen kept below so at_
-          ∙ ap (λ (s : Sight). joined seen (seeing now query (length bans) s kept later)) (sym sees)
+          ∙ ap (λ (s : LookupMatch). joined seen (seeing now query (length bans) s kept later)) (sym sees)
           ∙ ap (joined seen) (goes_on now query (length bans) sight kept later goes)
           ∙ sym (joined_joined seen (seeing now query (length bans) sight kept nothing_seen) later)
           ∙ ap (λ (s : Seen). joined s later) (sym is_);
       open_ = ap (λ (s : Seen). s.fresh) is_ ∙ rw (so.open_) (still_open now query (length bans) sight kept goes);
     }
 
-ends_there : (now : ℕ) (query : Query) (count : ℕ) (sight : Sight) (kept : Kept) (later : Seen) → is_end sight ≡ true → seeing now query count sight kept later ≡ seeing now query count sight kept nothing_seen
+ends_there : (now : ℕ) (query : Query) (count : ℕ) (sight : LookupMatch) (kept : StoredObject) (later : Seen) → is_end sight ≡ true → seeing now query count sight kept later ≡ seeing now query count sight kept nothing_seen
 ends_there now query count Other kept later e = cc
 ends_there now query count Banned kept later e = cc
 ends_there now query count Unfit kept later e = cc
 ends_there now query count Aged kept later e = cc
 ends_there now query count Fresh kept later e = refl
 
-pub see_end : (now : ℕ) (query : Query) (bans : List Issued) (objects : List Kept) (place : ℕ) (seen new : Seen) (sight : Sight) (kept : Kept) → place < length objects → SeenSo now query bans objects place seen → kept ≡ get_or objects place kept → sight ≡ sight_of now query bans kept → is_end sight ≡ true → new ≡ joined seen (seeing now query (length bans) sight kept nothing_seen) → new ≡ seen_all now query bans objects
+pub see_end : (now : ℕ) (query : Query) (bans : List Issued) (objects : List StoredObject) (place : ℕ) (seen new : Seen) (sight : LookupMatch) (kept : StoredObject) → place < length objects → SeenSo now query bans objects place seen → kept ≡ get_or objects place kept → sight ≡ sight_of now query bans kept → is_end sight ≡ true → new ≡ joined seen (seeing now query (length bans) sight kept nothing_seen) → new ≡ seen_all now query bans objects
 see_end now query bans objects place seen new sight kept below so at_ sees ends is_ =
     let later : Seen = seen_all now query bans (drop (place + 1) objects) in
     is_
     ∙ ap (joined seen) (sym (ends_there now query (length bans) sight kept later ends))
-    ∙ ap (λ (s : Sight). joined seen (seeing now query (length bans) s kept later)) sees
+    ∙ ap (λ (s : LookupMatch). joined seen (seeing now query (length bans) s kept later)) sees
     ∙ sym (next_whole now query bans objects place seen kept below so at_)
 
-pub seen_whole : (now : ℕ) (query : Query) (bans : List Issued) (objects : List Kept) (place : ℕ) (seen : Seen) → place ≡ length objects → SeenSo now query bans objects place seen → seen ≡ seen_all now query bans objects
+pub seen_whole : (now : ℕ) (query : Query) (bans : List Issued) (objects : List StoredObject) (place : ℕ) (seen : Seen) → place ≡ length objects → SeenSo now query bans objects place seen → seen ≡ seen_all now query bans objects
 seen_whole now query bans objects place seen end_ so =
     sym (joined_nothing seen)
-    ∙ ap (λ (rest : List Kept). joined seen (seen_all now query bans rest)) (sym (drop_all objects place end_))
+    ∙ ap (λ (rest : List StoredObject). joined seen (seen_all now query bans rest)) (sym (drop_all objects place end_))
     ∙ sym so.whole

@@ -3,14 +3,14 @@ use Rattle.std.specs.Prelude.{ℕ, List, [], ◌&&◌, None, map, if◌then◌el
 use Rattle.cache_law.specs.declared.ban.Ban.{Ban}
 use Rattle.cache_law.specs.Object.{in_time}
 use Rattle.cache_law.specs.Bans.{ban_matches, object_only}
-use Rattle.flat_core.specs.declared.kept.Kept.{Kept}
-use Rattle.flat_core.specs.declared.kept.Fate.{Fate}
-use Rattle.flat_core.specs.declared.kept.Fate.TheVariants.{Stays, Goes}
+use Rattle.flat_core.specs.declared.stored_object.StoredObject.{StoredObject}
+use Rattle.flat_core.specs.declared.stored_object.Fate.{Fate}
+use Rattle.flat_core.specs.declared.stored_object.Fate.TheVariants.{Stays, Goes}
 
 -- what becomes of an object when a ban is issued that looks at objects alone
-abbrev pub banned_fate : ℕ → Ban → Kept → Fate
+abbrev pub banned_fate : ℕ → Ban → StoredObject → Fate
 banned_fate now ban kept = if in_time now kept.view.object && ban_matches ban now kept.view.object None then Goes else Stays
 
 -- any other ban waits
-abbrev pub ban_fates : ℕ → Ban → List Kept → List Fate
+abbrev pub ban_fates : ℕ → Ban → List StoredObject → List Fate
 ban_fates now ban objects = if object_only ban then map (banned_fate now ban) objects else []

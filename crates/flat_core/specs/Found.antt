@@ -13,12 +13,12 @@ use Rattle.cache_law.specs.declared.call.Reply.TheVariants as replies
 use Rattle.cache_law.specs.Lookup.{raised, counted}
 use Rattle.cache_law.specs.State.{State, Held, at_moment, has_fetch, least_token, with_wait}
 use Rattle.cache_law.specs.Law.{Step, leaving, busy, wait_in, looked_up}
-use Rattle.flat_core.specs.declared.kept.Kept.{Kept}
+use Rattle.flat_core.specs.declared.stored_object.StoredObject.{StoredObject}
 use Rattle.flat_core.specs.declared.scan.Seen.{Seen}
 use Rattle.flat_core.specs.declared.finding.Finding.{Finding}
 use Rattle.flat_core.specs.declared.finding.Finding.TheVariants.{Hit, HitMiss, HitPass, Grace, GraceAlone, Wait, Miss}
 use Rattle.flat_core.specs.declared.finding.Found.{Found}
-use Rattle.flat_core.specs.Kept.{settled_held}
+use Rattle.flat_core.specs.StoredObject.{settled_held}
 use Rattle.flat_core.specs.Scans.{seen_all}
 
 abbrev pub given_by : ObjectView → Object → Finding
@@ -48,7 +48,7 @@ abbrev pub found_by_scan : Query → List OpenFetch → Seen → Found
 found_by_scan query fetches seen =
     record { finding = finding_by query (least_token query.key fetches) seen.fresh seen.grace seen.stale; fates = seen.fates }
 
-abbrev pub found_in : ℕ → Query → List Issued → List OpenFetch → List Kept → Found
+abbrev pub found_in : ℕ → Query → List Issued → List OpenFetch → List StoredObject → Found
 found_in now query bans fetches objects =
     if query.options.always_miss
     then record { finding = Miss None; fates = [] }

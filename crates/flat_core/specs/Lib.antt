@@ -1,4 +1,4 @@
-pub mod Kept
+pub mod StoredObject
 pub mod Scans
 pub mod Banning
 pub mod Purging

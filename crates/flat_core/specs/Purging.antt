@@ -5,7 +5,7 @@ use Rattle.std.specs.Str.{bytes_eq}
 use Rattle.cache_law.specs.declared.object.Object.{Object}
 use Rattle.cache_law.specs.Object.{in_time, key_of, same_texts}
 use Rattle.cache_law.specs.Purges.{xkeys_of, softened}
-use Rattle.flat_core.specs.declared.kept.Kept.{Kept}
+use Rattle.flat_core.specs.declared.stored_object.StoredObject.{StoredObject}
 
 abbrev pub has_key : List (List ℕ) → Object → Bool
 has_key key object = same_texts (key_of object) key
@@ -15,15 +15,15 @@ abbrev pub has_xkey : List (List ℕ) → Object → Bool
 has_xkey keys object = list_any (λ own. list_any (bytes_eq own) keys) (xkeys_of object)
 
 -- the object is in time at the moment and passes the test
-abbrev pub is_purged : ℕ → (Object → Bool) → Kept → Bool
+abbrev pub is_purged : ℕ → (Object → Bool) → StoredObject → Bool
 is_purged now test kept = in_time now kept.view.object && test kept.view.object
 
-abbrev pub is_spared : ℕ → (Object → Bool) → Kept → Bool
+abbrev pub is_spared : ℕ → (Object → Bool) → StoredObject → Bool
 is_spared now test kept = not (is_purged now test kept)
 
-abbrev pub soft_of : ℕ → Kept → Kept
+abbrev pub soft_of : ℕ → StoredObject → StoredObject
 soft_of now kept = let view = kept.view in record kept { view = record view { object = softened now view.object } }
 
 -- the object is softened where it is in time and has one of the xkeys
-abbrev pub softening : ℕ → List (List ℕ) → Kept → Kept
+abbrev pub softening : ℕ → List (List ℕ) → StoredObject → StoredObject
 softening now keys kept = if is_purged now (has_xkey keys) kept then soft_of now kept else kept

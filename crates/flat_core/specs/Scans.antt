@@ -9,34 +9,34 @@ use Rattle.cache_law.specs.declared.call.RequestView.{RequestView}
 use Rattle.cache_law.specs.Object.{in_time, key_of, same_texts, can_confirm}
 use Rattle.cache_law.specs.Bans.{meets}
 use Rattle.cache_law.specs.Lookup.{first_of, is_chosen_by, is_fresh, is_in_grace}
-use Rattle.flat_core.specs.declared.kept.Kept.{Kept}
-use Rattle.flat_core.specs.declared.kept.Fate.{Fate}
-use Rattle.flat_core.specs.declared.kept.Fate.TheVariants.{Stays, Tested, Goes}
-use Rattle.flat_core.specs.declared.sight.Sight.{Sight}
-use Rattle.flat_core.specs.declared.sight.Sight.TheVariants.{Other, Banned, Unfit, Aged, Fresh}
+use Rattle.flat_core.specs.declared.stored_object.StoredObject.{StoredObject}
+use Rattle.flat_core.specs.declared.stored_object.Fate.{Fate}
+use Rattle.flat_core.specs.declared.stored_object.Fate.TheVariants.{Stays, Tested, Goes}
+use Rattle.flat_core.specs.declared.matching.LookupMatch.{LookupMatch}
+use Rattle.flat_core.specs.declared.matching.LookupMatch.TheVariants.{Other, Banned, Unfit, Aged, Fresh}
 use Rattle.flat_core.specs.declared.scan.Seen.{Seen}
-use Rattle.flat_core.specs.Kept.{is_waiting}
+use Rattle.flat_core.specs.StoredObject.{is_waiting}
 
 -- the ban waits for lookups and matches the object with the request
 abbrev pub is_struck : Object → RequestView → Issued → Bool
 is_struck object request issued = is_waiting issued && meets object request issued
 
-abbrev pub fit_sight : ℕ → Query → Object → Sight
+abbrev pub fit_sight : ℕ → Query → Object → LookupMatch
 fit_sight now query object = if is_chosen_by query object then (if is_fresh now query.options object then Fresh else Aged) else Unfit
 
 -- where it is in time and of the key
-abbrev pub our_sight : ℕ → Query → List Issued → Kept → Sight
+abbrev pub our_sight : ℕ → Query → List Issued → StoredObject → LookupMatch
 our_sight now query bans kept =
     if list_any (is_struck kept.view.object query.request) (take (length bans - kept.tested) bans)
     then Banned
     else fit_sight now query kept.view.object
 
-abbrev pub sight_of : ℕ → Query → List Issued → Kept → Sight
+abbrev pub sight_of : ℕ → Query → List Issued → StoredObject → LookupMatch
 sight_of now query bans kept =
     if in_time now kept.view.object && same_texts (key_of kept.view.object) query.key then our_sight now query bans kept else Other
 
 -- the scan ends here
-abbrev pub is_end : Sight → Bool
+abbrev pub is_end : LookupMatch → Bool
 is_end Other = false
 is_end Banned = false
 is_end Unfit = false
@@ -44,10 +44,10 @@ is_end Aged = false
 is_end Fresh = true
 
 -- what becomes of an object that was tested on all bans, which are so many
-abbrev pub tested_fate : ℕ → Kept → Fate
+abbrev pub tested_fate : ℕ → StoredObject → Fate
 tested_fate count kept = if kept.tested == count then Stays else Tested
 
-abbrev pub fate_of : ℕ → Sight → Kept → Fate
+abbrev pub fate_of : ℕ → LookupMatch → StoredObject → Fate
 fate_of count Other kept = Stays
 fate_of count Banned kept = Goes
 fate_of count sight kept = tested_fate count kept
@@ -56,7 +56,7 @@ abbrev pub nothing_seen : Seen
 nothing_seen = record { fresh = None; grace = None; stale = None; fates = [] }
 
 -- what a scan sees that comes to an object and then sees this
-abbrev pub seeing : ℕ → Query → ℕ → Sight → Kept → Seen → Seen
+abbrev pub seeing : ℕ → Query → ℕ → LookupMatch → StoredObject → Seen → Seen
 seeing now query count Aged kept later =
     record {
       fresh = later.fresh;
@@ -68,7 +68,7 @@ seeing now query count Fresh kept later =
     record { fresh = Some kept.view; grace = None; stale = None; fates = fate_of count Fresh kept ∷ [] }
 seeing now query count sight kept later = record later { fates = fate_of count sight kept ∷ later.fates }
 
-abbrev pub seen_all : ℕ → Query → List Issued → List Kept → Seen
+abbrev pub seen_all : ℕ → Query → List Issued → List StoredObject → Seen
 seen_all now query bans [] = nothing_seen
 seen_all now query bans (kept ∷ objects) =
     seeing now query (length bans) (sight_of now query bans kept) kept (seen_all now query bans objects)

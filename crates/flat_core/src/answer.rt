@@ -3,7 +3,7 @@ ghost use Rattle.std.specs.Prelude.{◌≡◌, IfOk};
 
 use cache_law::Reply;
 use std::alloc::{AllocError, Global};
-use units::{Copied, lost};
+use units::{Copied, out_of_memory};
 
 #[derive(Drop)]
 pub(crate) struct Answer {
@@ -19,7 +19,7 @@ impl Answer {
     {
         match told.copied(alloc) {
             Ok(kept) => Ok(Answer { told, kept }),
-            Err(_) => Err(lost(told)),
+            Err(_) => Err(out_of_memory(told)),
         }
     }
 }

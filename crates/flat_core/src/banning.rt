@@ -3,14 +3,19 @@ ghost use Rattle.std.specs.Prelude.{◌≡◌, ◌∷◌, map, IfOk, OnOk, OnErr
 ghost use Rattle.cache_law.specs.BansAtOnce.{issued_behind, open_line, open_lines};
 ghost use Rattle.flat_core.specs.Banning.{ban_fates, banned_fate};
 
-use crate::kept::{Fate, Kept};
+use crate::stored_object::{Fate, StoredObject};
 use ban_expr::{object_only, test};
-use cache_law::{Ban, BanLine, Issued, Shared, is_in_time};
+use cache_law::{Ban, BanLine, Issued, is_in_time};
 use std::alloc::{AllocError, Global};
 use std::collections::VecDeque;
-use units::Sequence;
+use units::{Sequence, Shared};
 
-fn banned_fate(alloc: Global, moment: u64, ban: &Ban, kept: &Kept) -> Result<Fate, AllocError>
+fn banned_fate(
+    alloc: Global,
+    moment: u64,
+    ban: &Ban,
+    kept: &StoredObject,
+) -> Result<Fate, AllocError>
     ensures { IfOk result (λ fate. fate ≡ banned_fate moment ban.now kept.now) }
 {
     let object = &kept.view.object;
@@ -25,7 +30,7 @@ fn banned_fates(
     alloc: Global,
     moment: u64,
     ban: &Ban,
-    objects: &VecDeque<Kept>,
+    objects: &VecDeque<StoredObject>,
 ) -> Result<Sequence<Fate>, AllocError>
     ensures { IfOk result (λ fates. fates ≡ map (banned_fate moment ban.now) objects.now.items) }
 {
@@ -42,7 +47,7 @@ pub(crate) fn ban_fates(
     alloc: Global,
     moment: u64,
     ban: &Ban,
-    objects: &VecDeque<Kept>,
+    objects: &VecDeque<StoredObject>,
 ) -> Result<Sequence<Fate>, AllocError>
     ensures { IfOk result (λ fates. fates ≡ ban_fates moment ban.now objects.now.items) }
 {

@@ -14,7 +14,7 @@ use crate::store::Store;
 use cache_law::{Boot, CacheCore, Call, Entry, Params, StepError, Told, entry_bytes};
 use std::alloc::{AllocError, Global};
 use std::marker::Model;
-use units::{Sequence, lost};
+use units::{Sequence, out_of_memory};
 
 /// The plain cache. It implements `CacheCore`, and is made by its `make`.
 #[derive(Drop)]
@@ -47,7 +47,7 @@ impl CacheCore for FlatCore {
     fn make(alloc: Global, params: &Params, boot: Boot) -> Result<FlatCore, AllocError> {
         let store = match Store::new(alloc, &boot) {
             Ok(store) => store,
-            Err(_) => return Err(lost(boot)),
+            Err(_) => return Err(out_of_memory(boot)),
         };
         Ok(FlatCore {
             params: *params,

@@ -4,9 +4,9 @@ ghost use Rattle.cache_law.specs.Law.{busy as busy_with, wait_in as told_to_wait
 ghost use Rattle.cache_law.specs.Lookup.{raised};
 ghost use Rattle.flat_core.specs.Found.{fetch_finding, finding_by, found_in, given_by as given, graced_by as graced, hit_in as hit_by, opens_fetch, other_finding, reply_of as reply_by};
 
-use crate::kept::{Fate, Kept};
 use crate::lists::least_token;
 use crate::scan::scan;
+use crate::stored_object::{Fate, StoredObject};
 use cache_law::{Issued, Object, ObjectView, OpenFetch, Query, Reply};
 use std::alloc::{AllocError, Global};
 use std::collections::VecDeque;
@@ -37,7 +37,7 @@ pub(crate) struct Found {
 }
 
 /// What a fresh object gives: itself, or what it is a marker of.
-fn given_by(view: ObjectView) -> Finding
+fn fresh_finding(view: ObjectView) -> Finding
     ensures { result ≡ given view view.object }
 {
     let found = match &*view.object {
@@ -105,7 +105,7 @@ fn finding_by(
     ensures { result ≡ finding_by query.now under_way fresh grace stale }
 {
     match fresh {
-        Some(view) => given_by(view),
+        Some(view) => fresh_finding(view),
         None => other_finding(query, under_way, grace, stale),
     }
 }
@@ -113,7 +113,7 @@ fn finding_by(
 /// What a lookup finds in an open round.
 pub(crate) fn seek(
     alloc: Global,
-    objects: &VecDeque<Kept>,
+    objects: &VecDeque<StoredObject>,
     bans: &VecDeque<Issued>,
     fetches: &VecDeque<OpenFetch>,
     moment: u64,

@@ -9,13 +9,13 @@ mod answer;
 mod banning;
 mod cache;
 mod finding;
-mod kept;
 mod lists;
+mod matching;
 mod picking;
 mod purging;
 mod scan;
-mod sight;
 mod store;
+mod stored_object;
 mod vcls;
 
 pub use cache::FlatCore;

@@ -6,14 +6,14 @@ ghost use Rattle.std.specs.VecDeque.{deque_len, deque_capacity};
 ghost use Rattle.cache_law.specs.declared.ban.Issued.{Issued as IssuedBan};
 ghost use Rattle.cache_law.specs.Object.{in_time};
 ghost use Rattle.cache_law.specs.State.{has_round, has_fetch, is_closed, is_gone, is_open, least_of, least_token, least_with, remembering, those_in_time, told_to_wait, with_wait, without_fetch, without_fetches_of, without_round_of};
-ghost use Rattle.flat_core.specs.Kept.{counted_in, counting_in, first_of, held_all, is_change, left_of, moved_on, settled, size_staying, sizes_staying, stays, tested_for};
+ghost use Rattle.flat_core.specs.StoredObject.{counted_in, counting_in, first_of, held_all, is_change, left_of, moved_on, settled, size_staying, sizes_staying, stays, tested_for};
 ghost use Rattle.flat_core.specs.Found.{next_after, opened_for};
 
-use crate::kept::{Fate, Kept};
-use cache_law::{Object, ObjectView, OpenFetch, OpenRound, Shared, is_in_time, object_size};
+use crate::stored_object::{Fate, StoredObject};
+use cache_law::{Object, ObjectView, OpenFetch, OpenRound, is_in_time, object_size};
 use std::alloc::{AllocError, Global};
 use std::collections::VecDeque;
-use units::{Copied, Sequence, Text};
+use units::{Copied, Sequence, Shared, Text};
 
 /// Whether a round of the caller is open.
 pub(crate) fn has_round(rounds: &VecDeque<OpenRound>, caller: u32) -> bool
@@ -152,7 +152,7 @@ pub(crate) fn remember(rounds: &mut VecDeque<OpenRound>, caller: u32, token: Opt
 }
 
 /// Counts a hit of the object if it has this number.
-fn count_in(kept: &mut Kept, number: u64)
+fn count_in(kept: &mut StoredObject, number: u64)
     ensures { kept.new ≡ counted_in number kept.old }
 {
     if kept.view.number == number {
@@ -161,7 +161,7 @@ fn count_in(kept: &mut Kept, number: u64)
 }
 
 /// Counts a hit of the object of this number.
-fn count_hit(objects: &mut VecDeque<Kept>, number: u64)
+fn count_hit(objects: &mut VecDeque<StoredObject>, number: u64)
     ensures { objects.new.items ≡ map (counted_in number) objects.old.items }
 {
     for place in 0..objects.len() {
@@ -170,7 +170,7 @@ fn count_hit(objects: &mut VecDeque<Kept>, number: u64)
 }
 
 /// Counts a hit of the object of this number, if there is one.
-pub(crate) fn count_hit_of(objects: &mut VecDeque<Kept>, number: Option<u64>)
+pub(crate) fn count_hit_of(objects: &mut VecDeque<StoredObject>, number: Option<u64>)
     ensures { objects.new.items ≡ counting_in number objects.old.items }
 {
     if let Some(number) = number {
@@ -189,12 +189,12 @@ fn fate_at(fates: &[Fate], place: usize) -> Fate
 }
 
 /// What is left of the object, where there are so many bans.
-fn left_of(count: usize, fate: Fate, kept: Kept) -> Option<Kept>
+fn left_of(count: usize, fate: Fate, kept: StoredObject) -> Option<StoredObject>
     ensures { option_to_list result ≡ left_of count fate kept }
 {
     match fate {
         Fate::Stays => Some(kept),
-        Fate::Tested => Some(Kept {
+        Fate::Tested => Some(StoredObject {
             view: kept.view,
             tested: count,
         }),
@@ -203,7 +203,7 @@ fn left_of(count: usize, fate: Fate, kept: Kept) -> Option<Kept>
 }
 
 /// Puts what is left of an object behind the others, where there is room for it.
-fn put_last(objects: &mut VecDeque<Kept>, left: Option<Kept>)
+fn put_last(objects: &mut VecDeque<StoredObject>, left: Option<StoredObject>)
     requires { deque_len objects.old < deque_capacity objects.old }
     ensures items { objects.new.items ≡ objects.old.items ++ option_to_list left }
     ensures capacity { deque_capacity objects.new ≡ deque_capacity objects.old }
@@ -215,7 +215,7 @@ fn put_last(objects: &mut VecDeque<Kept>, left: Option<Kept>)
 }
 
 /// Passes the first object on to the end, as its fate leaves it.
-fn settle_first(objects: &mut VecDeque<Kept>, fate: Fate, count: usize)
+fn settle_first(objects: &mut VecDeque<StoredObject>, fate: Fate, count: usize)
     ensures { objects.new.items ≡ moved_on count fate objects.old.items }
 {
     if let Some(kept) = objects.pop_front() {
@@ -239,7 +239,7 @@ fn has_change(fates: &[Fate]) -> bool
 }
 
 /// Leaves of the objects what their fates leave, where there are so many bans. Where all stay, nothing moves.
-pub(crate) fn settle(objects: &mut VecDeque<Kept>, fates: &[Fate], count: usize)
+pub(crate) fn settle(objects: &mut VecDeque<StoredObject>, fates: &[Fate], count: usize)
     ensures { objects.new.items ≡ settled count fates.now objects.old.items }
 {
     if !has_change(fates) {
@@ -251,7 +251,7 @@ pub(crate) fn settle(objects: &mut VecDeque<Kept>, fates: &[Fate], count: usize)
 }
 
 /// Whether the object stays where one takes the place of the stale one.
-fn stays(stale: Option<u64>, kept: &Kept) -> bool
+fn stays(stale: Option<u64>, kept: &StoredObject) -> bool
     ensures { result ≡ stays stale kept.now }
 {
     match stale {
@@ -260,7 +260,7 @@ fn stays(stale: Option<u64>, kept: &Kept) -> bool
     }
 }
 
-fn size_staying(stale: Option<u64>, kept: &Kept) -> u128
+fn size_staying(stale: Option<u64>, kept: &StoredObject) -> u128
     ensures { result ≡ min (size_staying stale kept.now) (2 ^ 128 - 1) }
 {
     if stays(stale, kept) {
@@ -272,7 +272,7 @@ fn size_staying(stale: Option<u64>, kept: &Kept) -> u128
 
 /// What the objects but the stale one take of the room beside what is counted already, or the greatest number of 128
 /// bits where that is less.
-fn sizes_from(start: u128, stale: Option<u64>, objects: &[Kept]) -> u128
+fn sizes_from(start: u128, stale: Option<u64>, objects: &[StoredObject]) -> u128
     ensures { result ≡ min (start + sizes_staying stale objects.now) (2 ^ 128 - 1) }
 {
     let mut total = start;
@@ -283,7 +283,7 @@ fn sizes_from(start: u128, stale: Option<u64>, objects: &[Kept]) -> u128
 }
 
 /// What the objects but the stale one take of the room, or the greatest number of 128 bits where that is less.
-pub(crate) fn sizes_without(objects: &VecDeque<Kept>, stale: Option<u64>) -> u128
+pub(crate) fn sizes_without(objects: &VecDeque<StoredObject>, stale: Option<u64>) -> u128
     ensures { result ≡ min (sizes_staying stale objects.now.items) (2 ^ 128 - 1) }
 {
     let (newer, older) = objects.as_slices();
@@ -291,14 +291,14 @@ pub(crate) fn sizes_without(objects: &VecDeque<Kept>, stale: Option<u64>) -> u12
 }
 
 /// Whether an object in time has the number.
-fn has_number(objects: &VecDeque<Kept>, moment: u64, number: u64) -> bool
+fn has_number(objects: &VecDeque<StoredObject>, moment: u64, number: u64) -> bool
     ensures { result ≡ list_any (λ kept. (kept.view.number == number) && in_time moment kept.view.object) objects.now.items }
 {
     objects.iter().any(|kept| kept.view.number == number && is_in_time(moment, &kept.view.object))
 }
 
 /// Whether a stale object is named that isn't in time, or isn't there.
-pub(crate) fn is_gone(objects: &VecDeque<Kept>, moment: u64, stale: Option<u64>) -> bool
+pub(crate) fn is_gone(objects: &VecDeque<StoredObject>, moment: u64, stale: Option<u64>) -> bool
     ensures { (bans : List IssuedBan) → result ≡ is_gone stale (those_in_time moment (held_all bans objects.now.items)) }
 {
     match stale {
@@ -307,7 +307,7 @@ pub(crate) fn is_gone(objects: &VecDeque<Kept>, moment: u64, stale: Option<u64>)
     }
 }
 
-fn are_in_time(objects: &VecDeque<Kept>, moment: u64) -> bool
+fn are_in_time(objects: &VecDeque<StoredObject>, moment: u64) -> bool
     ensures { result ≡ list_all (λ kept. in_time moment kept.view.object) objects.now.items }
 {
     objects
@@ -316,7 +316,7 @@ fn are_in_time(objects: &VecDeque<Kept>, moment: u64) -> bool
 }
 
 /// Drops the objects that aren't in time any more. Where there are none, nothing moves.
-pub(crate) fn keep_in_time(objects: &mut VecDeque<Kept>, moment: u64)
+pub(crate) fn keep_in_time(objects: &mut VecDeque<StoredObject>, moment: u64)
     ensures { objects.new.items ≡ filter (λ kept. in_time moment kept.view.object) objects.old.items }
 {
     if !are_in_time(objects, moment) {
@@ -325,7 +325,7 @@ pub(crate) fn keep_in_time(objects: &mut VecDeque<Kept>, moment: u64)
 }
 
 /// Drops the stale object.
-fn drop_stale(objects: &mut VecDeque<Kept>, stale: Option<u64>)
+fn drop_stale(objects: &mut VecDeque<StoredObject>, stale: Option<u64>)
     ensures items { objects.new.items ≡ filter (stays stale) objects.old.items }
     ensures len { deque_len objects.new ≤ deque_len objects.old }
     ensures capacity { deque_capacity objects.new ≡ deque_capacity objects.old }
@@ -333,14 +333,18 @@ fn drop_stale(objects: &mut VecDeque<Kept>, stale: Option<u64>)
     objects.retain(|kept| stays(stale, kept));
 }
 
-fn kept_among(objects: &[Kept], number: u64) -> Option<&Kept>
+fn kept_among(objects: &[StoredObject], number: u64) -> Option<&StoredObject>
     ensures { option_copied result ≡ find (λ kept. kept.view.number == number) objects.now }
 {
     objects.iter().find(|kept| kept.view.number == number)
 }
 
 /// The object of the number in one list, and else in the other.
-fn kept_of<'a>(newer: &'a [Kept], older: &'a [Kept], number: u64) -> Option<&'a Kept>
+fn kept_of<'a>(
+    newer: &'a [StoredObject],
+    older: &'a [StoredObject],
+    number: u64,
+) -> Option<&'a StoredObject>
     ensures { option_copied result ≡ find (λ kept. kept.view.number == number) (newer.now ++ older.now) }
 {
     match kept_among(newer, number) {
@@ -349,7 +353,7 @@ fn kept_of<'a>(newer: &'a [Kept], older: &'a [Kept], number: u64) -> Option<&'a 
     }
 }
 
-fn tested_or(kept: Option<&Kept>, count: usize) -> usize
+fn tested_or(kept: Option<&StoredObject>, count: usize) -> usize
     ensures { result ≡ option_map_or (λ one. one.tested) (option_copied kept.entry) count }
 {
     match kept {
@@ -359,7 +363,7 @@ fn tested_or(kept: Option<&Kept>, count: usize) -> usize
 }
 
 /// How many bans there were when the stale object was last tested, or without one how many there are.
-fn tested_for(count: usize, stale: Option<u64>, objects: &VecDeque<Kept>) -> usize
+fn tested_for(count: usize, stale: Option<u64>, objects: &VecDeque<StoredObject>) -> usize
     ensures { result ≡ tested_for count stale objects.now.items }
 {
     let Some(stale) = stale else {
@@ -372,7 +376,7 @@ fn tested_for(count: usize, stale: Option<u64>, objects: &VecDeque<Kept>) -> usi
 /// Puts the object before the others, under the number of its fetch and in the stale one's place, where there are so many
 /// bans.
 pub(crate) fn put_first(
-    objects: &mut VecDeque<Kept>,
+    objects: &mut VecDeque<StoredObject>,
     token: u64,
     object: &Shared<Object>,
     stale: Option<u64>,
@@ -382,7 +386,7 @@ pub(crate) fn put_first(
     ensures err { OnErr result (objects.new.items ≡ objects.old.items) }
 {
     objects.try_reserve(1)?;
-    let kept = Kept {
+    let kept = StoredObject {
         view: ObjectView {
             number: token,
             hits: 0,

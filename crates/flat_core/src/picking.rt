@@ -4,8 +4,8 @@ ghost use Rattle.std.specs.Vec.{vec_capacity};
 ghost use Rattle.std.specs.Option.{option_copied};
 ghost use Rattle.cache_law.specs.Targets.{chosen as place_chosen, counted_on, counter_of as counter_in, is_counter_of as counts, is_health_of as is_forced, is_healthy as healthy, name_at as named_at, weight_of as weight_in, weights_of as weights_in, with_counter, with_health, without_health};
 
-use cache_law::{Counter, ForcedHealth, Health, Member, Target};
-use directors::{DirectorKind, choose};
+use cache_law::{Counter, ForcedHealth, Health};
+use directors::{DirectorKind, Member, Target, choose};
 use std::alloc::{AllocError, Global};
 use units::{Sequence, Text};
 

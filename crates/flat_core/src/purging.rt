@@ -5,12 +5,12 @@ ghost use Rattle.std.specs.Str.{bytes_eq};
 ghost use Rattle.cache_law.specs.Purges.{ended_by, softened as softened_by};
 ghost use Rattle.flat_core.specs.Purging.{has_key as is_of_key, has_xkey as has_one, is_purged, is_spared, softening as softening_by};
 
-use crate::kept::Kept;
-use cache_law::{Object, ObjectView, Response, Shared, is_in_time};
+use crate::stored_object::StoredObject;
+use cache_law::{Object, ObjectView, Response, is_in_time};
 use freshness::Timing;
 use std::alloc::{AllocError, Global};
 use std::collections::VecDeque;
-use units::Text;
+use units::{Shared, Text};
 
 fn has_key(key: &[Text], object: &Object) -> bool
     ensures { result ≡ is_of_key key.now object.now }
@@ -42,20 +42,20 @@ fn has_xkey(keys: &[Text], object: &Object) -> bool
     }
 }
 
-fn is_purged_by_key(moment: u64, key: &[Text], kept: &Kept) -> bool
+fn is_purged_by_key(moment: u64, key: &[Text], kept: &StoredObject) -> bool
     ensures { result ≡ is_purged moment (is_of_key key.now) kept.now }
 {
     is_in_time(moment, &kept.view.object) && has_key(key, &kept.view.object)
 }
 
-fn is_purged_by_xkeys(moment: u64, keys: &[Text], kept: &Kept) -> bool
+fn is_purged_by_xkeys(moment: u64, keys: &[Text], kept: &StoredObject) -> bool
     ensures { result ≡ is_purged moment (has_one keys.now) kept.now }
 {
     is_in_time(moment, &kept.view.object) && has_xkey(keys, &kept.view.object)
 }
 
 /// How many objects in time have the key.
-pub(crate) fn count_of_key(objects: &VecDeque<Kept>, moment: u64, key: &[Text]) -> usize
+pub(crate) fn count_of_key(objects: &VecDeque<StoredObject>, moment: u64, key: &[Text]) -> usize
     ensures { result ≡ length (filter (is_purged moment (is_of_key key.now)) objects.now.items) }
 {
     objects
@@ -65,7 +65,7 @@ pub(crate) fn count_of_key(objects: &VecDeque<Kept>, moment: u64, key: &[Text]) 
 }
 
 /// How many objects in time have one of the xkeys.
-pub(crate) fn count_of_xkeys(objects: &VecDeque<Kept>, moment: u64, keys: &[Text]) -> usize
+pub(crate) fn count_of_xkeys(objects: &VecDeque<StoredObject>, moment: u64, keys: &[Text]) -> usize
     ensures { result ≡ length (filter (is_purged moment (has_one keys.now)) objects.now.items) }
 {
     objects
@@ -75,14 +75,14 @@ pub(crate) fn count_of_xkeys(objects: &VecDeque<Kept>, moment: u64, keys: &[Text
 }
 
 /// Removes the objects in time that have the key.
-pub(crate) fn drop_key(objects: &mut VecDeque<Kept>, moment: u64, key: &[Text])
+pub(crate) fn drop_key(objects: &mut VecDeque<StoredObject>, moment: u64, key: &[Text])
     ensures { objects.new.items ≡ filter (is_spared moment (is_of_key key.now)) objects.old.items }
 {
     objects.retain(|kept| !is_purged_by_key(moment, key, kept));
 }
 
 /// Removes the objects in time that have one of the xkeys.
-pub(crate) fn drop_xkeys(objects: &mut VecDeque<Kept>, moment: u64, keys: &[Text])
+pub(crate) fn drop_xkeys(objects: &mut VecDeque<StoredObject>, moment: u64, keys: &[Text])
     ensures { objects.new.items ≡ filter (is_spared moment (has_one keys.now)) objects.old.items }
 {
     objects.retain(|kept| !is_purged_by_xkeys(moment, keys, kept));
@@ -155,11 +155,16 @@ fn softened_if(
     }
 }
 
-fn softening(alloc: Global, moment: u64, keys: &[Text], kept: &Kept) -> Result<Kept, AllocError>
+fn softening(
+    alloc: Global,
+    moment: u64,
+    keys: &[Text],
+    kept: &StoredObject,
+) -> Result<StoredObject, AllocError>
     ensures { IfOk result (λ left. left ≡ softening_by moment keys.now kept.now) }
 {
     let soft = is_purged_by_xkeys(moment, keys, kept);
-    Ok(Kept {
+    Ok(StoredObject {
         view: ObjectView {
             number: kept.view.number,
             hits: kept.view.hits,
@@ -174,8 +179,8 @@ pub(crate) fn softened_all(
     alloc: Global,
     moment: u64,
     keys: &[Text],
-    objects: &VecDeque<Kept>,
-) -> Result<VecDeque<Kept>, AllocError>
+    objects: &VecDeque<StoredObject>,
+) -> Result<VecDeque<StoredObject>, AllocError>
     ensures { IfOk result (λ left. left.items ≡ map (softening_by moment keys.now) objects.now.items) }
 {
     let mut left = VecDeque::new(alloc);

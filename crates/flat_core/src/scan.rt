@@ -5,12 +5,12 @@ ghost use Rattle.cache_law.specs.Lookup.{first_of as first_passing, is_in_grace}
 ghost use Rattle.cache_law.specs.Object.{can_confirm};
 ghost use Rattle.flat_core.specs.Scans.{joined, nothing_seen, seeing, seen_all, sight_of};
 
-use crate::kept::{Fate, Kept};
-use crate::sight::{Sight, fate_of, is_end, sight_of};
+use crate::matching::{LookupMatch, fate_of, is_end, sight_of};
+use crate::stored_object::{Fate, StoredObject};
 use cache_law::{Issued, ObjectView, Query, can_confirm, is_in_grace_for};
 use std::alloc::{AllocError, Global};
 use std::collections::VecDeque;
-use units::{Sequence, lost};
+use units::{Sequence, out_of_memory};
 
 /// What a scan saw: a fresh object, which ended it, the first object in grace and the first that the backend may confirm, and
 /// what becomes of the objects that it came to.
@@ -73,17 +73,17 @@ impl Seen {
         moment: u64,
         query: &Query,
         count: usize,
-        sight: Sight,
-        kept: &Kept,
+        sight: LookupMatch,
+        kept: &StoredObject,
     ) -> Result<(), AllocError>
         requires { self.old.fresh ≡ None }
         ensures { OnOk result (self.new ≡ joined self.old (seeing moment query.now count sight kept.now nothing_seen)) }
     {
         self.fates.push(fate_of(count, sight, kept))?;
         match sight {
-            Sight::Other | Sight::Banned | Sight::Unfit => Ok(()),
-            Sight::Aged => self.add_aged(moment, query, &kept.view),
-            Sight::Fresh => self.add_fresh(&kept.view),
+            LookupMatch::Other | LookupMatch::Banned | LookupMatch::Unfit => Ok(()),
+            LookupMatch::Aged => self.add_aged(moment, query, &kept.view),
+            LookupMatch::Fresh => self.add_fresh(&kept.view),
         }
     }
 
@@ -94,8 +94,8 @@ impl Seen {
         moment: u64,
         query: &Query,
         bans: &VecDeque<Issued>,
-        kept: &Kept,
-    ) -> Result<Sight, AllocError>
+        kept: &StoredObject,
+    ) -> Result<LookupMatch, AllocError>
         requires { self.old.fresh ≡ None }
         ensures sight { IfOk result (λ sight. sight ≡ sight_of moment query.now bans.now.items kept.now) }
         ensures seen { IfOk result (λ sight. self.new ≡ joined self.old (seeing moment query.now (length bans.now.items) sight kept.now nothing_seen)) }
@@ -109,7 +109,7 @@ impl Seen {
 /// The lookup's scan of the objects, newest first, up to a fresh one.
 pub(crate) fn scan(
     alloc: Global,
-    objects: &VecDeque<Kept>,
+    objects: &VecDeque<StoredObject>,
     bans: &VecDeque<Issued>,
     moment: u64,
     query: &Query,
@@ -120,7 +120,7 @@ pub(crate) fn scan(
     for place in 0..objects.len() {
         let sight = match seen.look_at(alloc, moment, query, bans, &objects[place]) {
             Ok(sight) => sight,
-            Err(_) => return Err(lost(seen)),
+            Err(_) => return Err(out_of_memory(seen)),
         };
         if is_end(sight) {
             return Ok(seen);

@@ -1,7 +1,7 @@
 // What the plain cache holds, and how each call changes it.
 ghost use Rattle.std.specs.Prelude.{◌≡◌, ℕ, ◌+◌, ◌*◌, ◌<◌, ◌^◌, true, false, Option, length, ◌∷◌, [], if◌then◌else◌, Some, None, IfOk, IfSome, OnErr, OnSome, IfNone, IsOk, ◌≤◌};
 ghost use Rattle.cache_law.specs.declared.object.Object.{Object as Made};
-ghost use Rattle.cache_law.specs.declared.target.Target.{Target as Aim};
+ghost use Rattle.directors.specs.declared.target.Target.{Target as Aim};
 ghost use Rattle.cache_law.specs.declared.call.Call.TheVariants.{Begin as BeginCall, Draw as DrawCall, Lookup as LookupCall, Pick as PickCall, Insert as InsertCall, Ban as BanCall, BanList as BanListCall, Purge as PurgeCall, Xkey as XkeyCall, SetHealth as SetHealthCall, Load as LoadCall, Switch as SwitchCall, Discard as DiscardCall, VclList as VclListCall, Drop as DropCall, End as EndCall};
 ghost use Rattle.cache_law.specs.declared.call.Reply.TheVariants.{Began, Bans};
 ghost use Rattle.cache_law.specs.State.{at_moment, awaits, reserve, has_round, has_fetch, is_closed, is_gone, those_in_time, without_fetch, without_fetches_of, without_round_of};
@@ -16,7 +16,6 @@ ghost use Rattle.flat_core.specs.Step.{Answers};
 use crate::answer::Answer;
 use crate::banning::{ban_fates, ban_lines, issue};
 use crate::finding::{Finding, Found, hit_in, opens_fetch, reply_of, seek, wait_in};
-use crate::kept::{Fate, Kept};
 use crate::lists::{
     awaits, close_fetch, close_fetches_of, close_round_of, count_fetches_without, count_hit_of,
     count_rounds_without, count_without, has_fetch, has_round, is_closed, is_gone, keep_in_time,
@@ -24,16 +23,18 @@ use crate::lists::{
 };
 use crate::picking::{chosen, count_on, name_at, set_health_of};
 use crate::purging::{count_of_key, count_of_xkeys, drop_key, drop_xkeys, softened_all};
+use crate::stored_object::{Fate, StoredObject};
 use crate::vcls::{called, discard, has_backend, is_taken, keep_used, numbered, vcl_lines};
 use cache_law::{
     Ban, Boot, Call, Counter, ForcedHealth, Health, Issued, LoadedVcl, Object, OpenFetch,
-    OpenRound, Query, Reply, Shared, Target, Vcl, VclSource, is_in_time, object_size,
+    OpenRound, Query, Reply, Vcl, VclSource, is_in_time, object_size,
 };
+use directors::Target;
 use std::alloc::{AllocError, Global};
 use std::collections::VecDeque;
 use std::marker::Model;
 use std::mem;
-use units::{Copied, Sequence, Text, lost};
+use units::{Copied, Sequence, Shared, Text, out_of_memory};
 
 /// The number of the opening VCL.
 const BOOT_VCL: u32 = 1;
@@ -53,14 +54,14 @@ pub(crate) struct Store {
     counters: Vec<Counter>,
     health: Vec<ForcedHealth>,
     bans: VecDeque<Issued>,
-    objects: VecDeque<Kept>,
+    objects: VecDeque<StoredObject>,
     fetches: VecDeque<OpenFetch>,
     rounds: VecDeque<OpenRound>,
 }
 
 impl Model for Store {
     ghost use Rattle.cache_law.specs.State.{State};
-    ghost use Rattle.flat_core.specs.Kept.{AreTested, held_all};
+    ghost use Rattle.flat_core.specs.StoredObject.{AreTested, held_all};
 
     ghost Value = { State };
 
@@ -88,7 +89,7 @@ impl Store {
         let active = Shared::new(alloc, opening_vcl(alloc, boot)?)?;
         let vcls = match only_vcl(alloc, &active) {
             Ok(vcls) => vcls,
-            Err(_) => return Err(lost(active)),
+            Err(_) => return Err(out_of_memory(active)),
         };
         Ok(Store {
             moment: 0,
@@ -382,7 +383,7 @@ impl Store {
             waits: None,
         };
         if self.rounds.push_front(round).is_err() {
-            return Err(lost(answer));
+            return Err(out_of_memory(answer));
         }
         self.next += 1;
         self.moment = moment;
@@ -461,7 +462,7 @@ impl Store {
         let token = self.next;
         let answer = Answer::twice(alloc, reply_of(token, finding))?;
         if open_fetch_if(alloc, &mut self.fetches, opens, token, caller, &query.key).is_err() {
-            return Err(lost(answer));
+            return Err(out_of_memory(answer));
         }
         self.next = next_after(opens, token);
         settle(&mut self.objects, fates, self.bans.len());
@@ -478,7 +479,7 @@ impl Store {
     {
         let fates = ban_fates(alloc, moment, ban, &self.objects)?;
         if issue(&mut self.bans, moment, ban).is_err() {
-            return Err(lost(fates));
+            return Err(out_of_memory(fates));
         }
         settle(&mut self.objects, fates.as_slice(), self.bans.len());
         self.moment = moment;
@@ -540,7 +541,7 @@ impl Store {
         let name = name_at(target.members.as_slice(), place)?;
         let answer = Answer::twice(alloc, Reply::Picked(name))?;
         if count_on(&mut self.counters, vcl, target, place).is_err() {
-            return Err(lost(answer));
+            return Err(out_of_memory(answer));
         }
         self.moment = moment;
         Ok(answer)

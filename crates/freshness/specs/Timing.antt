@@ -15,12 +15,12 @@ abbrev pub last_moment : ℕ
 last_moment = 253_402_300_799_999
 
 -- statuses of responses that serve for the default lifetime where they say none
-abbrev pub lasting : List ℕ
-lasting = 200 ∷ 203 ∷ 204 ∷ 300 ∷ 301 ∷ 404 ∷ 410 ∷ 414 ∷ []
+abbrev pub cacheable_by_default : List ℕ
+cacheable_by_default = 200 ∷ 203 ∷ 204 ∷ 300 ∷ 301 ∷ 404 ∷ 410 ∷ 414 ∷ []
 
 -- statuses of responses that serve only for a lifetime that they say
-abbrev pub passing : List ℕ
-passing = 302 ∷ 307 ∷ []
+abbrev pub cacheable_if_said : List ℕ
+cacheable_if_said = 302 ∷ 307 ∷ []
 
 abbrev pub is_among : List ℕ → ℕ → Bool
 is_among statuses status = list_any (λ one. one == status) statuses
@@ -54,19 +54,19 @@ lifetime moment fields =
 -- for how long it is fresh: as it says, else by its status
 abbrev pub fresh_for : ℕ → Option ℕ → Defaults → ℤ
 fresh_for status said defaults =
-    if is_among lasting status then option_map_or millis said defaults.ttl
-    else if is_among passing status then option_map_or millis said (pos 0)
+    if is_among cacheable_by_default status then option_map_or millis said defaults.ttl
+    else if is_among cacheable_if_said status then option_map_or millis said (pos 0)
     else pos 0
 
 -- for how long it serves in grace, and is kept: not at all with a status that never serves
 abbrev pub in_grace_for : ℕ → List Field → Defaults → ℤ
 in_grace_for status fields defaults =
-    if is_among lasting status || is_among passing status
+    if is_among cacheable_by_default status || is_among cacheable_if_said status
     then option_map_or millis (directive (codes "stale-while-revalidate") fields) defaults.grace
     else pos 0
 
 abbrev pub kept_for : ℕ → Defaults → ℤ
-kept_for status defaults = if is_among lasting status || is_among passing status then defaults.keep else pos 0
+kept_for status defaults = if is_among cacheable_by_default status || is_among cacheable_if_said status then defaults.keep else pos 0
 
 -- how long a response with these fields serves that came at the moment
 abbrev pub timing_of : ℕ → List Field → ℕ → Defaults → Timing

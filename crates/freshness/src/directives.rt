@@ -11,7 +11,7 @@ use http_heads::{Field, Fields};
 use units::{fold_eq, trim_blanks};
 
 /// The greatest number of seconds that a field can say.
-pub const MOST_SECONDS: u64 = 1_000_000_000;
+pub const MAX_SECONDS: u64 = 1_000_000_000;
 
 /// The seconds that the first directive of the name with a number says, over all Cache-Control fields.
 pub fn directive(fields: &Fields, name: &[u8]) -> Option<u64>
@@ -125,7 +125,7 @@ fn place_of(list: &[u8], mark: u8) -> usize
     list.len()
 }
 
-/// The number that digits alone say, where one over `MOST_SECONDS` counts as that.
+/// The number that digits alone say, where one over `MAX_SECONDS` counts as that.
 pub fn seconds(digits: &[u8]) -> Option<u64>
     ensures value { result ≡ seconds_of digits.now }
     ensures bound { IfSome result (λ n. n ≤ most_seconds) }
@@ -149,5 +149,5 @@ fn with_digit(value: u64, digit: u8) -> u64
     requires digit { digit_value digit < 10 }
     ensures { result ≡ min (value * 10 + digit_value digit) most_seconds }
 {
-    (value * 10 + u64::from(digit - b'0')).min(MOST_SECONDS)
+    (value * 10 + u64::from(digit - b'0')).min(MAX_SECONDS)
 }

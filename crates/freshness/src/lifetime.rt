@@ -3,7 +3,7 @@ ghost use Rattle.std.specs.Prelude.{◌≡◌, ◌<◌, ◌≤◌, ◌||◌, IfS
 ghost use Rattle.std.specs.Option.{ForSome, option_map_or};
 ghost use Rattle.httpdate.specs.Date.{parse_secs};
 ghost use Rattle.freshness.specs.Directives.{most_seconds};
-ghost use Rattle.freshness.specs.Timing.{timing_of, age as age_of, date as date_of, made as made_in, by_expires as expiry, lifetime as lifetime_of, fresh_for as fresh, in_grace_for as graced, kept_for as kept, lasting, passing, is_among, last_moment, millis as millis_of};
+ghost use Rattle.freshness.specs.Timing.{timing_of, age as age_of, date as date_of, made as made_in, by_expires as expiry, lifetime as lifetime_of, fresh_for as fresh, in_grace_for as graced, kept_for as kept, cacheable_by_default, cacheable_if_said, is_among, last_moment, millis as millis_of};
 
 use crate::directives::{directive, seconds};
 use crate::times::{Defaults, Timing};
@@ -93,19 +93,19 @@ fn lifetime(fields: &Fields, moment: u64) -> Option<u64>
 }
 
 fn is_lasting(status: u16) -> bool
-    ensures { result ≡ is_among lasting status }
+    ensures { result ≡ is_among cacheable_by_default status }
 {
     matches!(status, 200 | 203 | 204 | 300 | 301 | 404 | 410 | 414)
 }
 
 fn is_passing(status: u16) -> bool
-    ensures { result ≡ is_among passing status }
+    ensures { result ≡ is_among cacheable_if_said status }
 {
     matches!(status, 302 | 307)
 }
 
 fn serves(status: u16) -> bool
-    ensures { result ≡ (is_among lasting status || is_among passing status) }
+    ensures { result ≡ (is_among cacheable_by_default status || is_among cacheable_if_said status) }
 {
     is_lasting(status) || is_passing(status)
 }

@@ -1,18 +1,17 @@
 // What the fields of a stored response become once a 304 has confirmed it.
 ghost use Rattle.std.specs.Prelude.{◌≡◌, ◌<◌, ◌↔◌, length, filter, IsTrue, IfOk, IsErrOf};
-ghost use Rattle.freshness.specs.Merging.{merged, is_lacking, most_merged};
+ghost use Rattle.freshness.specs.Merging.{merged, is_lacking};
+ghost use Rattle.http_heads.specs.Limits.{set_limit};
 
-use http_heads::{Field, FieldError, Fields};
+use http_heads::{Field, FieldError, Fields, MAX_SET_FIELDS};
 use std::alloc::{AllocError, Global};
 use units::Copied;
-
-const MOST_MERGED: usize = 72;
 
 /// The old fields whose names the new ones lack, and then the new ones (RFC 9111, section 3.2). `Full` where these are
 /// over 72.
 pub fn merge(alloc: Global, old: &Fields, new: &Fields) -> Result<Fields, FieldError>
     ensures ok { IfOk result (λ fields. fields ≡ merged old.now new.now) }
-    ensures full { IsErrOf result FieldError.Full ↔ (most_merged < length (merged old.now new.now)) }
+    ensures full { IsErrOf result FieldError.Full ↔ (set_limit < length (merged old.now new.now)) }
     ensures bad { IsErrOf result FieldError.Bad → ⊥ }
 {
     if is_too_many(old.as_slice(), new) {
@@ -25,10 +24,10 @@ pub fn merge(alloc: Global, old: &Fields, new: &Fields) -> Result<Fields, FieldE
 }
 
 fn is_too_many(old: &[Field], new: &Fields) -> bool
-    ensures { IsTrue result ↔ (most_merged < length (merged old.now new.now)) }
+    ensures { IsTrue result ↔ (set_limit < length (merged old.now new.now)) }
 {
     let kept = count_lacking(old, new);
-    kept > MOST_MERGED || new.len() > MOST_MERGED - kept
+    kept > MAX_SET_FIELDS || new.len() > MAX_SET_FIELDS - kept
 }
 
 fn count_lacking(old: &[Field], new: &Fields) -> usize

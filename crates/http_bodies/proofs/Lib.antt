@@ -11,3 +11,5 @@ mod EndFacts
 pub mod FramingFacts
 pub mod Fronts
 pub mod LawFacts
+pub mod FramedFacts
+pub mod PlainFacts

@@ -4,3 +4,4 @@ pub mod Rests
 pub mod Reading
 pub mod Places
 pub mod Answers
+pub mod Framed

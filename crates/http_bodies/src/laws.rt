@@ -1,5 +1,5 @@
 // Laws of the answers of readers, as contracts of functions that do nothing.
-ghost use Rattle.std.specs.Prelude.{◌≡◌, ◌≢◌, ◌⊎◌, ◌+◌, ◌↔◌, ◌++◌, ℕ, List, [], length};
+ghost use Rattle.std.specs.Prelude.{◌≡◌, ◌≢◌, ◌⊎◌, ◌+◌, ◌<◌, ◌^◌, ◌↔◌, ◌++◌, ℕ, List, [], length, codes};
 ghost use Rattle.http_bodies.specs.Bodies.{IsBody, BeginsWith};
 ghost use Rattle.http_bodies.specs.Framings.{Frames};
 ghost use Rattle.http_bodies.specs.declared.framing.Kind.{Kind};
@@ -8,7 +8,11 @@ ghost use Rattle.http_bodies.specs.Reading.{ReaderState, Follows};
 ghost use Rattle.http_bodies.specs.Answers.{HasEndWithin, Takes, Refuses};
 ghost use Rattle.http_bodies.specs.declared.framing.BodyError.{BodyError as RefusalKind};
 ghost use Rattle.http_bodies.specs.declared.framing.Framing.{Framing};
-ghost use Rattle.http_bodies.specs.declared.framing.Framing.TheVariants.{UntilEnd};
+ghost use Rattle.http_bodies.specs.declared.framing.Framing.TheVariants.{Nothing, Length, UntilEnd};
+ghost use Rattle.http_bodies.specs.declared.framing.Kind.TheVariants.{Request, Reply};
+ghost use Rattle.http_bodies.specs.Framings.{Says};
+ghost use Rattle.http_bodies.specs.Framed.{unframed, of_length};
+ghost use Rattle.http_heads.specs.Fields.{replaced};
 
 /// A piece has one answer at most: so many bytes are taken, or it is refused in one way.
 pub fn one_answer()
@@ -46,4 +50,14 @@ pub fn one_body()
 /// The fields of a message frame its body in one way at most.
 pub fn one_framing()
     ensures { (kind : Kind) (fields : List Field) (a b : Framing) → Frames kind fields a → Frames kind fields b → a ≡ b }
+{}
+
+/// Fields say where a body ends as they were made to: nowhere else than at once, or behind the length that was put in, also
+/// where Connection is set then.
+pub fn framed_as_said()
+    ensures nothing { (fields : List Field) → Says Request (unframed fields) Nothing }
+    ensures request { (fields : List Field) (len : ℕ) → len < 2 ^ 64 → Says Request (of_length len fields) (Length len) }
+    ensures reply { (fields : List Field) (len : ℕ) → len < 2 ^ 64 → Says Reply (of_length len fields) (Length len) }
+    ensures closing { (fields : List Field) (len : ℕ) → len < 2 ^ 64
+        → Says Reply (replaced (codes "Connection") (codes "close") (of_length len fields)) (Length len) }
 {}

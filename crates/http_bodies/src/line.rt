@@ -10,21 +10,21 @@ use crate::place::{LinePart, Place};
 use httparse::{is_space_or_tab, parse_hex_digit};
 
 // The most bytes of a chunk's line.
-const LONGEST_LINE: u64 = 32768;
+const MAX_LINE: u64 = 32768;
 
 // The most bytes that all of a body's lines may have beyond their digits and ends.
-pub(crate) const MOST_SPARE: u64 = 32768;
+pub(crate) const MAX_SPARE: u64 = 32768;
 
 // The most digits of a chunk's size.
-const MOST_DIGITS: u64 = 16;
+const MAX_DIGITS: u64 = 16;
 
 // CR LF.
 const LINE_END: u64 = 2;
 
 // The most bytes and fields of a trailer.
-const LONGEST_TRAILER: u64 = 32768;
+const MAX_TRAILER: u64 = 32768;
 
-const MOST_FIELDS: u64 = 64;
+const MAX_FIELDS: u64 = 64;
 
 /// A byte where a digit of the size may stand.
 pub(crate) fn size_byte(
@@ -45,7 +45,7 @@ pub(crate) fn size_byte(
             if digits == 0 {
                 return Err(BodyError::BadChunk);
             }
-            blanks_byte(size, LONGEST_LINE - digits, spare, byte, room)
+            blanks_byte(size, MAX_LINE - digits, spare, byte, room)
         }
     }
 }
@@ -66,7 +66,7 @@ fn digit_byte(
     ensures sound { IfOk result (λ next. IsSound next room) }
     ensures refused { IfErr result (IsRefusal (LinePart.Size digits size spare) byte room) }
 {
-    if digits == MOST_DIGITS {
+    if digits == MAX_DIGITS {
         return Err(BodyError::BadChunk);
     }
     let grown = u128::from(size) * 16 + u128::from(digit);
@@ -158,8 +158,8 @@ pub(crate) fn line_feed_byte(size: u64, spare: u64, byte: u8, room: u64) -> Resu
     }
     if size == 0 {
         return Ok(Place::Line(LinePart::TrailerLine {
-            fields: MOST_FIELDS,
-            left: LONGEST_TRAILER,
+            fields: MAX_FIELDS,
+            left: MAX_TRAILER,
         }));
     }
     Ok(Place::Data { left: size, spare })

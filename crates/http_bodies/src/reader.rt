@@ -8,7 +8,7 @@ ghost use Rattle.http_bodies.specs.declared.place.Place.{Place};
 ghost use Rattle.http_bodies.specs.declared.framing.BodyError.{BodyError};
 ghost use Rattle.http_bodies.specs.declared.framing.BodyError.TheVariants as fault;
 
-use crate::line::MOST_SPARE;
+use crate::line::MAX_SPARE;
 use crate::place::{LinePart, Place};
 use crate::steps::step;
 use crate::{BodyError, Framing};
@@ -55,7 +55,7 @@ fn first_place(framing: Framing, limit: u64) -> Place
         Framing::Chunked => Place::Line(LinePart::Size {
             digits: 0,
             size: 0,
-            spare: MOST_SPARE,
+            spare: MAX_SPARE,
         }),
         Framing::UntilEnd => Place::Open,
     }

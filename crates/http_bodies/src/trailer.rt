@@ -9,10 +9,10 @@ use crate::place::{LinePart, Place};
 use httparse::{is_header_name_token, is_header_value_token};
 
 // The fewest bytes of a field's line from its name on, and of the empty line behind it.
-const LEAST_FIELD: u64 = 4;
+const MIN_FIELD: u64 = 4;
 
 // The fewest bytes of a field's line from its value's last byte on, and of the empty line behind it.
-const LEAST_VALUE: u64 = 3;
+const MIN_VALUE: u64 = 3;
 
 /// The first byte of a line.
 pub(crate) fn trailer_byte(fields: u64, left: u64, byte: u8, room: u64) -> Result<Place, BodyError>
@@ -27,7 +27,7 @@ pub(crate) fn trailer_byte(fields: u64, left: u64, byte: u8, room: u64) -> Resul
     if byte == b'\r' && left > 1 {
         return Ok(Place::Line(LinePart::LastFeed));
     }
-    if !is_header_name_token(byte) || fields == 0 || left < LEAST_FIELD {
+    if !is_header_name_token(byte) || fields == 0 || left < MIN_FIELD {
         return Err(BodyError::BadChunk);
     }
     Ok(Place::Line(LinePart::FieldName {
@@ -49,7 +49,7 @@ pub(crate) fn name_byte(fields: u64, left: u64, byte: u8, room: u64) -> Result<P
             left: left - 1,
         }));
     }
-    if !is_header_name_token(byte) || left < LEAST_FIELD {
+    if !is_header_name_token(byte) || left < MIN_FIELD {
         return Err(BodyError::BadChunk);
     }
     Ok(Place::Line(LinePart::FieldName {
@@ -71,7 +71,7 @@ pub(crate) fn value_byte(fields: u64, left: u64, byte: u8, room: u64) -> Result<
             left: left - 1,
         }));
     }
-    if left < LEAST_VALUE {
+    if left < MIN_VALUE {
         return Err(BodyError::BadChunk);
     }
     if byte == b'\r' {

@@ -6,3 +6,4 @@ mod RequestFacts
 mod ResponseFacts
 mod PrintFacts
 pub mod SentFacts
+mod PartFacts

@@ -6,3 +6,4 @@ pub mod Spans
 pub mod Printed
 pub mod Sent
 pub mod Refusal
+pub mod Lists

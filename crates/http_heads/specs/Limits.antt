@@ -16,3 +16,7 @@ line_limit = 66
 -- the most fields that a message has after `set` or `append`
 abbrev pub kept_limit : ℕ
 kept_limit = 80
+
+-- the most fields that a message has behind a `set` of VCL, and a stored response behind a 304
+abbrev pub set_limit : ℕ
+set_limit = 72

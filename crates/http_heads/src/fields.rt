@@ -5,7 +5,7 @@ ghost use Rattle.http_heads.specs.declared.fields.FieldError.TheVariants.{NoMemo
 ghost use Rattle.http_heads.specs.Limits.{kept_limit};
 ghost use Rattle.http_heads.specs.Fields.{is_named, first_value, count_of, without, field as one_field, appended, replaced, MayStand};
 
-use crate::limits::{LONGEST_NAME, MOST_KEPT_FIELDS};
+use crate::limits::{MAX_KEPT_FIELDS, MAX_NAME};
 use http_header::is_token;
 use std::alloc::{AllocError, AllocFailed, Global};
 use std::error::Error;
@@ -146,7 +146,7 @@ impl Fields {
         if !may_stand(name.bytes(), value.bytes()) {
             return Err(FieldError::Bad);
         }
-        if others_of(self.items.as_slice(), name.bytes()) >= MOST_KEPT_FIELDS {
+        if others_of(self.items.as_slice(), name.bytes()) >= MAX_KEPT_FIELDS {
             return Err(FieldError::Full);
         }
         put_last(&mut self.items, name, value)
@@ -162,7 +162,7 @@ impl Fields {
         if !may_stand(name.bytes(), value.bytes()) {
             return Err(FieldError::Bad);
         }
-        if self.items.len() >= MOST_KEPT_FIELDS {
+        if self.items.len() >= MAX_KEPT_FIELDS {
             return Err(FieldError::Full);
         }
         put_behind(&mut self.items, name, value)
@@ -232,7 +232,7 @@ fn keep_others(fields: &mut Vec<Field>, name: &[u8])
 fn may_stand(name: &[u8], value: &[u8]) -> bool
     ensures { IsTrue result ↔ MayStand name.now value.now }
 {
-    name.len() <= LONGEST_NAME
+    name.len() <= MAX_NAME
         && is_token(name)
         && value
             .iter()

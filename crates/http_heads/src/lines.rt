@@ -4,13 +4,13 @@ ghost use Rattle.std.specs.List.{prefix_len};
 ghost use Rattle.http_heads.specs.Limits.{line_limit};
 ghost use Rattle.http_heads.specs.Lines.{ended_lines, is_empty_line, is_full_line, from_full, full_lines};
 
-use crate::limits::MOST_LINES;
+use crate::limits::MAX_LINES;
 
 /// Whether a start line and 65 lines behind it stand in the bytes, none of them empty.
 pub fn has_too_many_lines(bytes: &[u8]) -> bool
     ensures { IsTrue result ↔ (line_limit ≤ full_lines bytes.now) }
 {
-    count_full(after_empty_lines(bytes)) >= MOST_LINES
+    count_full(after_empty_lines(bytes)) >= MAX_LINES
 }
 
 // What stands behind the empty lines at the front.

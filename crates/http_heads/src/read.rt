@@ -10,7 +10,7 @@ ghost use Rattle.http_heads.specs.Spans.{field_at, request_at, response_at};
 ghost use Rattle.http_heads.specs.declared.message.RequestHead.{RequestHead};
 ghost use Rattle.http_heads.specs.declared.message.ResponseHead.{ResponseHead};
 
-use crate::limits::{LONGEST_HEAD, MOST_FIELDS};
+use crate::limits::{MAX_FIELDS, MAX_HEAD};
 use crate::lines::has_too_many_lines;
 use crate::{Field, Fields, HeadError, RequestHead, ResponseHead};
 use httparse::Status;
@@ -30,14 +30,14 @@ pub fn read_request(alloc: Global, bytes: &[u8]) -> Result<Option<(RequestHead, 
     let Some(front) = front_of(bytes) else {
         return Err(HeadError::TooMany);
     };
-    let mut room = [EMPTY_HEADER_SPAN; MOST_FIELDS];
+    let mut room = [EMPTY_HEADER_SPAN; MAX_FIELDS];
     match parse_request(front, &mut room) {
         Ok(Status::Complete(spans)) => {
             let head = request_from(alloc, front, &spans, &room)?;
             Ok(Some((head, spans.len)))
         }
         Ok(Status::Partial) => {
-            if front.len() < LONGEST_HEAD {
+            if front.len() < MAX_HEAD {
                 Ok(None)
             } else {
                 Err(HeadError::TooLong)
@@ -60,14 +60,14 @@ pub fn read_response(
     let Some(front) = front_of(bytes) else {
         return Err(HeadError::TooMany);
     };
-    let mut room = [EMPTY_HEADER_SPAN; MOST_FIELDS];
+    let mut room = [EMPTY_HEADER_SPAN; MAX_FIELDS];
     match parse_response(front, &mut room) {
         Ok(Status::Complete(spans)) => {
             let head = response_from(alloc, front, &spans, &room)?;
             Ok(Some((head, spans.len)))
         }
         Ok(Status::Partial) => {
-            if front.len() < LONGEST_HEAD {
+            if front.len() < MAX_HEAD {
                 Ok(None)
             } else {
                 Err(HeadError::TooLong)
@@ -81,7 +81,7 @@ pub fn read_response(
 fn front_of(bytes: &[u8]) -> Option<&[u8]>
     ensures { MatchOption result (HasTooManyLines bytes.now) (λ front. (front.now ≡ take head_limit bytes.now) × ¬ (HasTooManyLines bytes.now)) }
 {
-    let front = &bytes[..bytes.len().min(LONGEST_HEAD)];
+    let front = &bytes[..bytes.len().min(MAX_HEAD)];
     if has_too_many_lines(front) {
         None
     } else {

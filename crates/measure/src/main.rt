@@ -7,12 +7,10 @@
 mod count;
 mod run;
 mod task;
-#[cfg(test)]
-mod tests;
 
 use run::{Status, run};
 use std::process::ExitCode;
-use wire::{StreamSink, StreamSource, WordsError, read_words, tell};
+use system::{StreamSink, StreamSource, WordsError, read_words, tell};
 
 const USAGE: &str = "usage: measure (bodies (chunked | sized) PIECE | tokens) < INPUT";
 

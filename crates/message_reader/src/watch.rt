@@ -1,8 +1,7 @@
 // When the bytes of a head are worth a try.
 ghost use Rattle.std.specs.Prelude.{◌≡◌, ◌<◌, length, false};
 
-/// The most bytes of a head.
-const LONGEST_HEAD: usize = 32_768;
+use http_heads::MAX_HEAD;
 
 // Where a scan for the empty line behind a head stands.
 #[derive(Clone, Copy, PartialEq, Eq)]
@@ -59,7 +58,7 @@ impl Watch {
         if is_ended {
             self.scan = Scan::Line;
         }
-        let is_due = is_ended || bytes.len() >= self.next || bytes.len() >= LONGEST_HEAD;
+        let is_due = is_ended || bytes.len() >= self.next || bytes.len() >= MAX_HEAD;
         if is_due {
             self.next = bytes.len().saturating_mul(2);
         }

@@ -1,7 +1,8 @@
 -- Lines and the events that they stand for, one after another.
-use Rattle.std.proofs.Common.{◌≡◌, ℕ, List, [], ◌∷◌, ◌++◌, ◌<◌, ◌≤◌, sym, subst, arith}
+use Rattle.std.proofs.Common.{◌≡◌, ℕ, Bool, true, false, List, [], ◌∷◌, ◌++◌, sym, ◌∙◌, subst}
+use Rattle.std.proofs.lemmas.Bool.{true≢false}
 use Rattle.http_heads.specs.declared.message.RequestHead.{RequestHead}
-use Rattle.http_heads.specs.Fields.{count_of}
+use Rattle.seen_request.specs.Sites.{is_of_one_site}
 use Rattle.session_text.specs.declared.session.NumberedLine.{NumberedLine}
 use Rattle.session_text.specs.declared.session.Session.{Session}
 use Rattle.vmod_host.specs.declared.signature.Stored.{Stored}
@@ -10,7 +11,7 @@ use Rattle.replay.specs.declared.event.NumberedEvent.{NumberedEvent}
 use Rattle.replay.specs.Whole.{IsTheWholeRequest, LacksWholeRequest}
 use Rattle.replay.specs.declared.script.BuildError.{BuildError}
 use Rattle.replay.specs.declared.script.BuildError.TheVariants.{NotBuilt, NoMemory}
-use Rattle.replay.specs.Build.{host_name, StandsFor, IsMessage, IsBuiltAs, IsBuildError, IsLineError, IsOneMore}
+use Rattle.replay.specs.Build.{StandsFor, IsMessage, IsBuiltAs, IsBuildError, IsLineError, IsOneMore}
 
 built_push : (stored : List Stored) (lines : List NumberedLine) (events : List NumberedEvent) (line : NumberedLine) (event : NumberedEvent) → IsBuiltAs stored lines events → event.number ≡ line.number → StandsFor stored line.line event.event → IsBuiltAs stored (lines ++ line ∷ []) (events ++ event ∷ [])
 built_push stored [] [] line event are number stands = (number, stands, tt)
@@ -31,11 +32,13 @@ not_built stored session front back events line NoMemory split are is = tt
 pub all_built : (stored : List Stored) (lines front : List NumberedLine) (events : List NumberedEvent) → front ≡ lines → IsBuiltAs stored front events → IsBuiltAs stored lines events
 all_built stored lines front events all are = subst (λ (ls : List NumberedLine). IsBuiltAs stored ls events) all are
 
--- the only whole request at the front has two Host fields; or none stands there
-pub two_hosts : (text : List ℕ) (head : RequestHead) (body : List ℕ) → IsTheWholeRequest text head body → 1 < count_of host_name head.fields → IsMessage text Unreadable
-two_hosts text head body the many other rest has =
-    let few : count_of host_name head.fields ≤ 1 = subst (λ (h : RequestHead). count_of host_name h.fields ≤ 1) (the.1 other rest has.0) has.1 in
-    omega (arith, many, few)
+not_both : (b : Bool) → b ≡ true → b ≡ false → ⊥
+not_both b is other = true≢false (sym is ∙ other)
+
+-- the only whole request at the front says two sites, or an empty one; or none stands there
+pub other_sites : (text : List ℕ) (head : RequestHead) (body : List ℕ) → IsTheWholeRequest text head body → is_of_one_site head ≡ false → IsMessage text Unreadable
+other_sites text head body the refused other rest has =
+    not_both (is_of_one_site head) (subst (λ (h : RequestHead). is_of_one_site h ≡ true) (the.1 other rest has.0) has.1) refused
 
 pub no_whole : (text : List ℕ) → LacksWholeRequest text → IsMessage text Unreadable
 no_whole text lacks head body has = lacks head body has.0

@@ -6,7 +6,8 @@ use Rattle.cache_law.specs.declared.rounds.Request.{Request as Message}
 use Rattle.round_task.specs.declared.want.Want.{Want as RoundWant}
 use Rattle.round_task.specs.declared.want.Want.TheVariants as wish
 use Rattle.round_task.specs.Laws.{IsSend}
-use Rattle.round_task.specs.Responses.{Language, text_in}
+use Rattle.round_task.specs.Responses.{text_in}
+use Rattle.vcl_runs.specs.Languages.{Language}
 use Rattle.round_task.proofs.Alike.{wants-like}
 use Rattle.round_task.proofs.Wholes.{one-response-round}
 use Rattle.replay.specs.declared.policy.Request.{Request}

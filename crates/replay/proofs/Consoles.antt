@@ -32,7 +32,7 @@ use Rattle.replay.specs.Laws.{ConsoleIsHeard}
 use Rattle.replay.specs.Scene.{Round, Waiting, Parked, Scene, Move, hears, calls, fetches, sends, parks, wakes, ends, events_of, Next, Path, begun, gave, is_free, is_under_way, opening_scene, waits_for}
 use Rattle.replay.specs.Turns.{Wants, MessageWants}
 use Rattle.replay.specs.Went.{events_in}
-use Rattle.round_task.specs.Responses.{Language}
+use Rattle.vcl_runs.specs.Languages.{Language}
 
 -- What the console wants.
 

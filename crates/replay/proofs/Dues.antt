@@ -2,14 +2,14 @@
 use Rattle.std.specs.Prelude.{IsSome}
 use Rattle.std.proofs.Common.{◌≡◌, ◌⊎◌, inl, inr, ℕ, true, false, List, [], ◌∷◌, Option, Some, None, refl, sym, ◌∙◌, subst}
 use Rattle.std.proofs.lemmas.Bool.{true≢false}
-use Rattle.vcl_turns.specs.declared.turn.Answer.{Answer}
+use Rattle.vcl_context.specs.declared.turn.Answer.{Answer}
 use Rattle.vcl_runs.specs.Runs.{Ran}
 use Rattle.cache_law.specs.declared.call.Call.{Call}
 use Rattle.cache_law.specs.declared.rounds.Given.{Given as Gift}
 use Rattle.cache_law.specs.declared.rounds.Request.{Request as Message}
 use Rattle.round_task.specs.declared.want.Want.{Want as RoundWant}
 use Rattle.round_task.specs.declared.want.Want.TheVariants as wish
-use Rattle.round_task.specs.Responses.{Language}
+use Rattle.vcl_runs.specs.Languages.{Language}
 use Rattle.replay.specs.declared.led.Led.{Led}
 use Rattle.replay.specs.declared.policy.Request.{Request}
 use Rattle.replay.specs.declared.policy.Message.{Message as Sent_message}

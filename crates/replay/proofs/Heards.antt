@@ -1,7 +1,7 @@
 -- What an exchange comes to that is heard so is one thing, and not want of memory.
 use Rattle.std.proofs.Common.{◌≡◌, Bool, true, refl, sym, ◌∙◌, ap}
 use Rattle.http_heads.specs.declared.exchange.Exchange.{Exchange as What}
-use Rattle.replies.proofs.Once.{exchange_once, exchange_is_over}
+use Rattle.backend_link.proofs.OneReply.{exchange_once, exchange_is_over}
 use Rattle.replay.specs.Policy.{is_over}
 use Rattle.replay.specs.declared.event.Heard.{Heard}
 use Rattle.replay.specs.declared.event.Heard.TheVariants.{Bytes, Fault}

@@ -1,7 +1,7 @@
 -- How a round that is led by its VCL goes on.
 use Rattle.std.specs.Prelude.{IfOk, OnOk, Result, Ok, Err}
 use Rattle.std.proofs.Common.{◌≡◌, ℕ, Bool, true, false, List, [], ◌∷◌, Option, Some, None, refl, sym, ◌∙◌, subst}
-use Rattle.vcl_turns.specs.declared.turn.Answer.{Answer}
+use Rattle.vcl_context.specs.declared.turn.Answer.{Answer}
 use Rattle.vcl_runs.specs.Runs.{Ran}
 use Rattle.cache_law.specs.declared.rounds.Given.{Given as Gift}
 use Rattle.cache_law.specs.declared.rounds.Request.{Request as Message}
@@ -10,13 +10,14 @@ use Rattle.client_task.specs.declared.place.Place.{Place as ClientPlace}
 use Rattle.client_task.specs.Rounds.{Evaluator as ClientEvaluator}
 use Rattle.client_task.specs.Standing.{StandsAt as ClientStands, MayGoOn as ClientMay}
 use Rattle.client_task.proofs.Places.{goes-on}
-use Rattle.fetch_task.specs.Fetches.{Evaluator}
+use Rattle.vcl_runs.specs.Evaluators.{Evaluator}
 use Rattle.round_task.specs.declared.place.Place.{Place}
 use Rattle.round_task.specs.declared.place.Place.TheVariants as place
 use Rattle.round_task.specs.declared.round.Round.{Round}
 use Rattle.round_task.specs.declared.want.Want.{Want as RoundWant}
 use Rattle.round_task.specs.declared.want.Want.TheVariants as wish
-use Rattle.round_task.specs.Responses.{Language, text_given, text_in}
+use Rattle.round_task.specs.Responses.{text_given, text_in}
+use Rattle.vcl_runs.specs.Languages.{Language}
 use Rattle.round_task.specs.Rounds.{Node, Opening, AtClient, AtFetch, Over, for_client, Wants as RoundWants}
 use Rattle.round_task.specs.Standing.{IsAt, StandsAt as RoundStands, MayGoOn as RoundMay}
 use Rattle.replay.specs.Rounds.{WantedBy}

@@ -1,7 +1,7 @@
 -- Which events the lines of a session stand for, as far as that is built.
-use Rattle.std.specs.Prelude.{◌≡◌, ◌≤◌, ◌<◌, ℕ, List, [], ◌∷◌, ◌++◌, codes}
+use Rattle.std.specs.Prelude.{◌≡◌, ◌≤◌, ◌<◌, ℕ, true, List, [], ◌∷◌, ◌++◌}
 use Rattle.http_heads.specs.declared.message.RequestHead.{RequestHead}
-use Rattle.http_heads.specs.Fields.{count_of}
+use Rattle.seen_request.specs.Sites.{is_of_one_site}
 use Rattle.session_text.specs.declared.session.Line.{Line}
 use Rattle.session_text.specs.declared.session.Line.TheVariants as lines
 use Rattle.session_text.specs.declared.session.NumberedLine.{NumberedLine}
@@ -19,12 +19,9 @@ use Rattle.replay.specs.declared.script.BuildError.TheVariants.{NotBuilt, NoMemo
 use Rattle.replay.specs.Whole.{HasWholeRequest}
 use Rattle.replay.specs.Console.{LeadsTo}
 
-abbrev pub host_name : List ℕ
-host_name = codes "host"
-
--- the text's first message is a request with this head and body, which has one Host field at most (RFC 9112, section 3.2)
+-- the text's first message is a request with this head and body, which says one site at most
 abbrev pub HasMessage : List ℕ → RequestHead → List ℕ → Type 0
-HasMessage text head body = HasWholeRequest text head body × (count_of host_name head.fields ≤ 1)
+HasMessage text head body = HasWholeRequest text head body × (is_of_one_site head ≡ true)
 
 -- it is this; or no such request stands at the text's front
 abbrev pub IsMessage : List ℕ → Message → Type 0

@@ -4,8 +4,9 @@ use Rattle.cache_law.specs.declared.rounds.Given.{Given as Gift}
 use Rattle.cache_law.specs.declared.rounds.Request.{Request as Message}
 use Rattle.fetch_task.proofs.OneWant.{OneTurn}
 use Rattle.round_task.specs.declared.want.Want.{Want as RoundWant}
-use Rattle.round_task.specs.Responses.{Language, text_in}
-use Rattle.round_task.specs.Alike.{IsLike}
+use Rattle.round_task.specs.Responses.{text_in}
+use Rattle.vcl_runs.specs.Languages.{Language}
+use Rattle.vcl_runs.specs.Evaluators.{IsLike}
 use Rattle.round_task.proofs.Alike.{wants-like}
 use Rattle.round_task.proofs.OneWant.{wants-one as round-one}
 use Rattle.replay.specs.declared.policy.Request.{Request}

@@ -7,24 +7,17 @@ use Rattle.cache_law.specs.declared.call.Reply.TheVariants.{Wait}
 use Rattle.cache_law.specs.declared.rounds.Given.{Given as Gift}
 use Rattle.cache_law.specs.declared.rounds.Given.TheVariants as gift
 use Rattle.cache_law.specs.declared.rounds.Request.{Request as Message}
-use Rattle.cache_law.specs.declared.target.Target.{Target}
-use Rattle.vcl_values.specs.declared.value.Backend.{Backend}
-use Rattle.vcl_turns.specs.declared.turn.Turn.{Turn}
-use Rattle.vcl_runs.specs.Runs.{Ran}
-use Rattle.fetch_task.specs.Fetches.{evaluator}
+use Rattle.vcl_runs.specs.Evaluators.{evaluator}
 use Rattle.delivery.specs.Sent.{delivery_text}
 use Rattle.round_task.specs.declared.want.Want.{Want as RoundWant}
 use Rattle.round_task.specs.declared.want.Want.TheVariants as wish
-use Rattle.round_task.specs.Responses.{Language, text_in}
+use Rattle.round_task.specs.Responses.{text_in}
+use Rattle.vcl_runs.specs.Languages.{Language}
 use Rattle.round_task.specs.Rounds.{Wants as RoundWants}
 use Rattle.replay.specs.declared.policy.Given.{Given}
 use Rattle.replay.specs.declared.policy.Given.TheVariants.{Start, Told, Came, Sent, Closed}
 use Rattle.replay.specs.declared.policy.Want.{Want}
 use Rattle.replay.specs.declared.policy.Want.TheVariants.{Ask, Exchange, Respond, Await, Done}
-
--- what is known of programs of texts, as a language
-abbrev pub language_of : {P : Type 0} → (List ℕ → P → Type 0) → (P → Ran → Turn → Type 0) → (P → Backend → Option Target) → (P → Target) → Language P
-language_of programs turns targets default_of = record { programs = programs; evaluator = evaluator turns targets default_of }
 
 -- the address of a session's client
 abbrev pub address : ℕ → List ℕ

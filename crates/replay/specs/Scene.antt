@@ -7,7 +7,7 @@ use Rattle.http_heads.specs.declared.exchange.BackendRequest.{BackendRequest}
 use Rattle.http_heads.specs.declared.exchange.Exchange.{Exchange as What}
 use Rattle.http_heads.specs.declared.exchange.Exchange.TheVariants as exchanges
 use Rattle.backend_link.specs.Exchanges.{asks_head, sent_text}
-use Rattle.replies.specs.Replies.{IsReplyTo}
+use Rattle.backend_link.specs.WholeReplies.{IsReplyTo}
 use Rattle.cache_law.specs.declared.call.Entry.{Entry}
 use Rattle.cache_law.specs.State.{State, is_closed}
 use Rattle.cache_law.specs.Beginning.{Beginning}

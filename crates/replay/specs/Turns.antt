@@ -1,7 +1,7 @@
 -- How what a client sent is answered.
 use Rattle.std.specs.Prelude.{◌≡◌, ℕ, Bool, true, false, List, [], ◌∷◌, Option, Some, None, IsSome}
 use Rattle.http_heads.specs.Refusal.{bad_request}
-use Rattle.vcl_turns.specs.declared.turn.Answer.{Answer}
+use Rattle.vcl_context.specs.declared.turn.Answer.{Answer}
 use Rattle.vcl_runs.specs.Runs.{Ran}
 use Rattle.cache_law.specs.declared.call.Call.{Call}
 use Rattle.cache_law.specs.declared.call.Call.TheVariants.{End}
@@ -10,7 +10,8 @@ use Rattle.cache_law.specs.declared.rounds.Given.{Given as Gift}
 use Rattle.cache_law.specs.declared.rounds.Request.{Request as Message}
 use Rattle.round_task.specs.declared.want.Want.{Want as RoundWant}
 use Rattle.round_task.specs.declared.round.Round.{Round}
-use Rattle.round_task.specs.Responses.{Language, text_in}
+use Rattle.round_task.specs.Responses.{text_in}
+use Rattle.vcl_runs.specs.Languages.{Language}
 use Rattle.round_task.specs.Standing.{StandsAt as RoundStands}
 use Rattle.replay.specs.declared.led.Led.{Led}
 use Rattle.replay.specs.declared.policy.Request.{Request}

@@ -1,5 +1,5 @@
 // What a session tells the schedule.
-use crate::{Apart, Request};
+use crate::{Boxed, Request};
 use units::{Sequence, Text};
 
 /// One line of a session, as the schedule plays it.
@@ -8,7 +8,7 @@ pub enum Event {
     /// The moment from here on, in milliseconds since 1970.
     Moment(u64),
     /// A client sends a request, or the console a line.
-    Request(Apart<Request>),
+    Request(Boxed<Request>),
     /// The exchange of this fetch is over.
     Reply { fetch: u64, heard: Heard },
 }

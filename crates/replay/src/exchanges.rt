@@ -3,8 +3,8 @@ ghost use Rattle.std.specs.Prelude.{◌≡◌, IfOk};
 ghost use Rattle.replay.specs.Scene.{IsHeardAs};
 
 use crate::Heard;
+use backend_link::read_reply;
 use http_heads::Exchange;
-use replies::read_reply;
 use std::alloc::{AllocError, Global};
 
 /// What an exchange comes to that is heard so, where its request was HEAD or not.

@@ -1,12 +1,12 @@
 // Laws of sessions, as contracts of functions that do nothing.
 ghost use Rattle.std.specs.Prelude.{List, ℕ};
 ghost use Rattle.vmod_host.specs.declared.signature.Stored.{Stored as StoredFunction};
-ghost use Rattle.replay.specs.Rounds.{language_of};
+ghost use Rattle.vcl_runs.specs.Languages.{language_of};
 ghost use Rattle.replay.specs.Turns.{Wants};
 ghost use Rattle.replay.specs.Laws.{BringsPlainText, ConsoleIsHeard, LeadsToOne, OneEnding, OneHistory, OneSession, OneText};
 
-use crate::{Policy, Programs};
-use vcl_runs::Runner;
+use crate::Policy;
+use vcl_runs::{Programs, Runner};
 
 /// Over given entries a session that is led by this policy has one scene and one text.
 pub fn one_text<P: Policy>()
@@ -38,5 +38,5 @@ pub fn one_instruction()
 
 /// No line of the console is idle: where a session is idle at a line, one of its other lines has that number.
 pub fn console_is_heard<M: Runner, L: Programs<M>>()
-    ensures { ConsoleIsHeard (Wants (language_of L.of M.turns M.targets M.default_of)) }
+    ensures { ConsoleIsHeard (Wants (language_of L.of_text M.turns M.targets M.default_of L.backends)) }
 {}

@@ -4,23 +4,23 @@ ghost use Rattle.cache_law.specs.declared.call.Reply.TheVariants.{Wait as Waits}
 ghost use Rattle.cache_law.specs.declared.rounds.Given.{Given as Gifted};
 ghost use Rattle.cache_law.specs.declared.rounds.Request.{Request as Asked};
 ghost use Rattle.replay.specs.Policy.{goes_on};
-ghost use Rattle.replay.specs.Rounds.{IsSaid, Wanted, WantedBy, address, language_of, said, token_in, woken};
+ghost use Rattle.replay.specs.Rounds.{IsSaid, Wanted, WantedBy, address, said, token_in, woken};
+ghost use Rattle.vcl_runs.specs.Languages.{language_of};
 ghost use Rattle.replay.specs.Turns.{CanGo, HasProgram, IsLed, MayGo, StandsLed};
 ghost use Rattle.replay.specs.declared.policy.Given.{Given as Event};
 ghost use Rattle.round_task.specs.Responses.{text_given, text_in, text_told};
 
-use crate::programs::Programs;
 use crate::{Given, Want};
 use cache_law::rounds::{Given as Gift, Request};
-use cache_law::{Call, Reply, Shared, Told};
+use cache_law::{Call, Reply, Told};
 use delivery::print_delivery;
 use http_heads::RequestHead;
 use round_task::{Round, Want as RoundWant};
 use std::alloc::{AllocError, Global};
 use std::marker::PhantomData;
 use std::mem;
-use units::Text;
-use vcl_runs::Runner;
+use units::{Shared, Text};
+use vcl_runs::{Programs, Runner};
 
 /// A round under way. `M` runs its subroutines, `P` is what it runs, and `L` is a library of such programs.
 #[derive(Drop)]
@@ -110,7 +110,7 @@ where
 {
     /// The round of a client's request, before its Begin.
     pub(crate) fn new(client: u32, head: RequestHead, body: Text) -> Led<M, M::Program, L>
-        ensures { IsLed (language_of L.of M.turns M.targets M.default_of) M.stands M.fits (record { head = head; body = body }) (address client) [] result }
+        ensures { IsLed (language_of L.of_text M.turns M.targets M.default_of L.backends) M.stands M.fits (record { head = head; body = body }) (address client) [] result }
     {
         Led {
             round: Round::start(Request { head, body }, address_of(client)),
@@ -123,7 +123,7 @@ where
 
     // The program is that of the text that the round's Begin was told; where it was told none, there is none.
     fn open(&mut self, alloc: Global, library: &mut L, given: &Gift) -> Result<(), AllocError>
-        ensures program { OnOk result (HasProgram L.of self.old.begun self.old.program (text_given given.now) self.new.program) }
+        ensures program { OnOk result (HasProgram L.of_text self.old.begun self.old.program (text_given given.now) self.new.program) }
         ensures begun { OnOk result (self.new.begun ≡ true) }
         ensures round { self.new.round ≡ self.old.round }
         ensures again { self.new.again ≡ self.old.again }
@@ -143,13 +143,13 @@ where
 
     // What the round wants after this.
     fn give(&mut self, alloc: Global, library: &mut L, given: Gift) -> Result<RoundWant, AllocError>
-        requires { MayGo (language_of L.of M.turns M.targets M.default_of) M.stands M.fits self.old.round self.old.begun self.old.program }
+        requires { MayGo (language_of L.of_text M.turns M.targets M.default_of L.backends) M.stands M.fits self.old.round self.old.begun self.old.program }
         ensures stands { OnOk result ((message : Asked) (peer : List ℕ) (before : List Gifted)
-            → StandsLed (language_of L.of M.turns M.targets M.default_of) M.stands M.fits message peer before self.old.round self.old.begun self.old.program
-            → StandsLed (language_of L.of M.turns M.targets M.default_of) M.stands M.fits message peer (given ∷ before) self.new.round self.new.begun self.new.program) }
+            → StandsLed (language_of L.of_text M.turns M.targets M.default_of L.backends) M.stands M.fits message peer before self.old.round self.old.begun self.old.program
+            → StandsLed (language_of L.of_text M.turns M.targets M.default_of L.backends) M.stands M.fits message peer (given ∷ before) self.new.round self.new.begun self.new.program) }
         ensures wanted { IfOk result (λ want. (message : Asked) (peer : List ℕ) (before : List Gifted)
-            → StandsLed (language_of L.of M.turns M.targets M.default_of) M.stands M.fits message peer before self.old.round self.old.begun self.old.program
-            → WantedBy (language_of L.of M.turns M.targets M.default_of) message peer (given ∷ before) (text_in (given ∷ before)) want) }
+            → StandsLed (language_of L.of_text M.turns M.targets M.default_of L.backends) M.stands M.fits message peer before self.old.round self.old.begun self.old.program
+            → WantedBy (language_of L.of_text M.turns M.targets M.default_of L.backends) message peer (given ∷ before) (text_in (given ∷ before)) want) }
         ensures again { self.new.again ≡ self.old.again }
     {
         let Ok(()) = self.open(alloc, library, &given) else {
@@ -173,13 +173,13 @@ where
         moment: u64,
         reply: Reply,
     ) -> Result<Want, AllocError>
-        requires { MayGo (language_of L.of M.turns M.targets M.default_of) M.stands M.fits self.old.round self.old.begun self.old.program }
+        requires { MayGo (language_of L.of_text M.turns M.targets M.default_of L.backends) M.stands M.fits self.old.round self.old.begun self.old.program }
         ensures stands { OnOk result ((message : Asked) (peer : List ℕ) (before : List Event)
-            → IsLed (language_of L.of M.turns M.targets M.default_of) M.stands M.fits message peer before self.old
-            → IsLed (language_of L.of M.turns M.targets M.default_of) M.stands M.fits message peer (Given.Told moment reply ∷ before) self.new) }
+            → IsLed (language_of L.of_text M.turns M.targets M.default_of L.backends) M.stands M.fits message peer before self.old
+            → IsLed (language_of L.of_text M.turns M.targets M.default_of L.backends) M.stands M.fits message peer (Given.Told moment reply ∷ before) self.new) }
         ensures wanted { IfOk result (λ want. (message : Asked) (peer : List ℕ) (before : List Event)
-            → IsLed (language_of L.of M.turns M.targets M.default_of) M.stands M.fits message peer before self.old
-            → Wanted (language_of L.of M.turns M.targets M.default_of) message peer (Given.Told moment reply ∷ before) want) }
+            → IsLed (language_of L.of_text M.turns M.targets M.default_of L.backends) M.stands M.fits message peer before self.old
+            → Wanted (language_of L.of_text M.turns M.targets M.default_of L.backends) message peer (Given.Told moment reply ∷ before) want) }
         ensures waits { (token : ℕ) → reply ≡ Waits token → IfOk result (λ want. want ≡ Want.Await token) }
     {
         let token = token_of(&reply);
@@ -203,13 +203,13 @@ where
 
     // What it wants after its exchange, or behind its response.
     fn passed(&mut self, alloc: Global, library: &mut L, given: Gift) -> Result<Want, AllocError>
-        requires { MayGo (language_of L.of M.turns M.targets M.default_of) M.stands M.fits self.old.round self.old.begun self.old.program }
+        requires { MayGo (language_of L.of_text M.turns M.targets M.default_of L.backends) M.stands M.fits self.old.round self.old.begun self.old.program }
         ensures stands { OnOk result ((message : Asked) (peer : List ℕ) (before : List Gifted)
-            → StandsLed (language_of L.of M.turns M.targets M.default_of) M.stands M.fits message peer before self.old.round self.old.begun self.old.program
-            → StandsLed (language_of L.of M.turns M.targets M.default_of) M.stands M.fits message peer (given ∷ before) self.new.round self.new.begun self.new.program) }
+            → StandsLed (language_of L.of_text M.turns M.targets M.default_of L.backends) M.stands M.fits message peer before self.old.round self.old.begun self.old.program
+            → StandsLed (language_of L.of_text M.turns M.targets M.default_of L.backends) M.stands M.fits message peer (given ∷ before) self.new.round self.new.begun self.new.program) }
         ensures wanted { IfOk result (λ want. (message : Asked) (peer : List ℕ) (before : List Gifted)
-            → StandsLed (language_of L.of M.turns M.targets M.default_of) M.stands M.fits message peer before self.old.round self.old.begun self.old.program
-            → IsSaid (language_of L.of M.turns M.targets M.default_of) message peer (given ∷ before) want) }
+            → StandsLed (language_of L.of_text M.turns M.targets M.default_of L.backends) M.stands M.fits message peer before self.old.round self.old.begun self.old.program
+            → IsSaid (language_of L.of_text M.turns M.targets M.default_of L.backends) message peer (given ∷ before) want) }
         ensures again { self.new.again ≡ None }
     {
         drop(self.again.take());
@@ -224,13 +224,13 @@ where
         library: &mut L,
         given: Given,
     ) -> Result<Want, AllocError>
-        requires { CanGo (language_of L.of M.turns M.targets M.default_of) M.stands M.fits given self.old }
+        requires { CanGo (language_of L.of_text M.turns M.targets M.default_of L.backends) M.stands M.fits given self.old }
         ensures stands { OnOk result ((message : Asked) (peer : List ℕ) (before : List Event)
-            → IsLed (language_of L.of M.turns M.targets M.default_of) M.stands M.fits message peer before self.old
-            → IsLed (language_of L.of M.turns M.targets M.default_of) M.stands M.fits message peer (given ∷ before) self.new) }
+            → IsLed (language_of L.of_text M.turns M.targets M.default_of L.backends) M.stands M.fits message peer before self.old
+            → IsLed (language_of L.of_text M.turns M.targets M.default_of L.backends) M.stands M.fits message peer (given ∷ before) self.new) }
         ensures wanted { IfOk result (λ want. (message : Asked) (peer : List ℕ) (before : List Event)
-            → IsLed (language_of L.of M.turns M.targets M.default_of) M.stands M.fits message peer before self.old
-            → Wanted (language_of L.of M.turns M.targets M.default_of) message peer (given ∷ before) want) }
+            → IsLed (language_of L.of_text M.turns M.targets M.default_of L.backends) M.stands M.fits message peer before self.old
+            → Wanted (language_of L.of_text M.turns M.targets M.default_of L.backends) message peer (given ∷ before) want) }
         ensures waits { (moment token : ℕ) → given ≡ Given.Told moment (Waits token) → IfOk result (λ want. want ≡ Want.Await token) }
         ensures calls { given ≡ Given.Closed → IfOk result (λ want. goes_on want ≡ true) }
     {

@@ -5,7 +5,7 @@
 //! refusal means, are relations in `specs/` between the session's events, a history and a text.
 #![tactic(auto)]
 
-mod apart;
+mod boxed;
 mod console;
 mod event;
 mod exchanges;
@@ -14,7 +14,6 @@ mod led;
 mod lines;
 mod pieces;
 mod policy;
-mod programs;
 mod rounds;
 mod schedule;
 mod script;
@@ -23,12 +22,11 @@ mod turn;
 mod waking;
 mod whole;
 
-pub use apart::Apart;
+pub use boxed::Boxed;
 pub use console::Instruction;
 pub use event::{Event, Heard, NumberedEvent, Script};
 pub use laws::{console_is_heard, one_ending, one_history, one_instruction, one_session, one_text};
 pub use led::Led;
 pub use policy::{Given, Message, Policy, Request, Want};
-pub use programs::Programs;
 pub use session::{ReplayError, Replayed, play_session, run_session};
 pub use turn::Turn;

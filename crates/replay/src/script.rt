@@ -7,14 +7,15 @@ ghost use Rattle.vmod_host.specs.declared.signature.Stored.{Stored as StoredFunc
 
 use crate::console::instruction_of;
 use crate::whole::read_whole_request;
-use crate::{Apart, Event, Heard, Message, NumberedEvent, Request, Script};
+use crate::{Boxed, Event, Heard, Message, NumberedEvent, Request, Script};
+use seen_request::is_of_one_site;
 use session_text::{Line, NumberedLine, Session};
 use std::alloc::{AllocError, Global};
 use units::{Sequence, Text};
 use vmod_host::VmodTable;
 
 /// The greatest number of a client.
-const MOST_CLIENTS: u32 = 250;
+const MAX_CLIENTS: u32 = 250;
 
 /// Why a session isn't made ready.
 #[derive(Clone, Copy, Debug)]
@@ -24,13 +25,13 @@ pub(crate) enum BuildError {
     NoMemory,
 }
 
-/// What a client sent. A request with two Host fields isn't read (RFC 9112, section 3.2).
+/// What a client sent. A request that says two sites, or an empty one, isn't read.
 fn build_message(alloc: Global, text: &[u8]) -> Result<Message, AllocError>
     ensures { IfOk result (IsMessage text.now) }
 {
     match read_whole_request(alloc, text)? {
         Some((head, body)) => {
-            if head.fields.count(b"host") > 1 {
+            if !is_of_one_site(&head) {
                 drop((head, body));
                 Ok(Message::Unreadable)
             } else {
@@ -44,11 +45,11 @@ fn build_message(alloc: Global, text: &[u8]) -> Result<Message, AllocError>
 fn build_request(alloc: Global, client: u32, text: &[u8]) -> Result<Option<Event>, AllocError>
     ensures { (stored : List StoredFunction) → IfOk result (λ built. MatchOption built ((event : Happens) → StandsFor stored (Line.Req client text.now) event → ⊥) (λ event. StandsFor stored (Line.Req client text.now) event)) }
 {
-    if client == 0 || client > MOST_CLIENTS {
+    if client == 0 || client > MAX_CLIENTS {
         return Ok(None);
     }
     let message = build_message(alloc, text)?;
-    let request = Apart::new(alloc, Request { client, message })?;
+    let request = Boxed::new(alloc, Request { client, message })?;
     Ok(Some(Event::Request(request)))
 }
 
@@ -60,7 +61,7 @@ fn build_cli(alloc: Global, text: &Text, vmods: &VmodTable) -> Result<Event, All
         client: 0,
         message: Message::Line(instruction),
     };
-    Ok(Event::Request(Apart::new(alloc, request)?))
+    Ok(Event::Request(Boxed::new(alloc, request)?))
 }
 
 /// The event that a line stands for, if it is built.

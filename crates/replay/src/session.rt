@@ -1,7 +1,7 @@
 // A whole session.
 ghost use Rattle.std.specs.Prelude.{◌≡◌, ◌≤◌, ◌==◌, ◌&&◌, length, Some, false};
 ghost use Rattle.wire.specs.Causes.{Rose};
-ghost use Rattle.replay.specs.Rounds.{language_of};
+ghost use Rattle.vcl_runs.specs.Languages.{language_of};
 ghost use Rattle.replay.specs.Turns.{Wants};
 ghost use Rattle.cache_law.specs.Beginning.{beginning_of};
 ghost use Rattle.replay.specs.Pieces.{UsesSink, pieces};
@@ -12,13 +12,13 @@ use crate::pieces::flush;
 use crate::rounds::{Break, Play};
 use crate::schedule::{Halt, play_events};
 use crate::script::{BuildError, build};
-use crate::{Policy, Programs, Turn};
+use crate::{Policy, Turn};
 use cache_law::{Boot, CacheCore, Entry, Params};
 use flat_core::FlatCore;
 use session_text::Session;
 use std::alloc::Global;
 use units::Sequence;
-use vcl_runs::Runner;
+use vcl_runs::{Programs, Runner};
 use vmod_host::VmodTable;
 use wire::Sink;
 
@@ -159,7 +159,7 @@ pub fn run_session<M: Runner, L: Programs<M>, K: Sink>(
 ) -> Replayed
 where
     M::Program: Drop,
-    ensures replayed { SessionEnds vmods.now.stored (Wants (language_of L.of M.turns M.targets M.default_of)) session (beginning_of params.now boot) result.history (K.held sink.old) (K.held sink.new) result.refusal }
+    ensures replayed { SessionEnds vmods.now.stored (Wants (language_of L.of_text M.turns M.targets M.default_of L.backends)) session (beginning_of params.now boot) result.history (K.held sink.old) (K.held sink.new) result.refusal }
     ensures later { K.faults sink.old ≤ K.faults sink.new }
     ensures cause { result.refusal ≡ Some ReplayError.WriteFault → Rose (K.faults sink.old) (K.faults sink.new) }
 {

@@ -5,13 +5,12 @@ ghost use Rattle.replay.specs.Turns.{refusal_want};
 
 use crate::console::lead_line;
 use crate::led::Led;
-use crate::programs::Programs;
 use crate::{Given, Instruction, Message, Policy, Request, Want};
 use cache_law::{Call, Reply};
 use http_heads::bad_request;
 use std::alloc::{AllocError, Global};
 use units::Text;
-use vcl_runs::Runner;
+use vcl_runs::{Programs, Runner};
 
 /// A client's turn, from what it sent on. `M` runs its subroutines, `P` is what it runs, and `L` is a library of such programs.
 #[derive(Drop)]
@@ -43,17 +42,17 @@ impl<M: Runner, L: Programs<M>> Policy for Turn<M, M::Program, L>
 where
     M::Program: Drop,
 {
-    ghost use Rattle.replay.specs.Rounds.{language_of};
+    ghost use Rattle.vcl_runs.specs.Languages.{language_of};
     ghost use Rattle.replay.specs.Turns.{Wants, StandsAt};
     ghost use Rattle.replay.specs.OneWant.{wants-one};
 
     type Context = L;
 
-    ghost wants = { Wants (language_of L.of M.turns M.targets M.default_of) };
+    ghost wants = { Wants (language_of L.of_text M.turns M.targets M.default_of L.backends) };
 
-    ghost stands = { StandsAt (language_of L.of M.turns M.targets M.default_of) M.stands M.fits };
+    ghost stands = { StandsAt (language_of L.of_text M.turns M.targets M.default_of L.backends) M.stands M.fits };
 
-    ghost one_want = { wants-one (language_of L.of M.turns M.targets M.default_of) (record { same = L.one_meaning; turns = λ program ran one other p q. M.one_turn program ran one other p q }) };
+    ghost one_want = { wants-one (language_of L.of_text M.turns M.targets M.default_of L.backends) (record { same = L.one_meaning; turns = λ program ran one other p q. M.one_turn program ran one other p q }) };
 
     fn start(alloc: Global, request: Request) -> Result<Self, AllocError> {
         let Request { client, message } = request;

@@ -2,7 +2,7 @@
 use Rattle.std.proofs.Common.{◌≡◌, ℕ, List, [], ◌∷◌, ◌++◌, Option, Some, refl, sym, subst}
 use Rattle.wire.specs.Flow.{Flow}
 use Rattle.wire.specs.Tapes.{Tape, Tells}
-use Rattle.vcl_turns.specs.declared.turn.Answer.{Answer}
+use Rattle.vcl_context.specs.declared.turn.Answer.{Answer}
 use Rattle.vcl_runs.specs.Runs.{Ran}
 use Rattle.cache_law.specs.declared.call.Call.TheVariants.{Begin, End}
 use Rattle.cache_law.specs.declared.cache.StepError.{StepError}
@@ -20,7 +20,7 @@ use Rattle.round_task.specs.Rounds.{Wants}
 use Rattle.round_task.specs.Standing.{StandsAt}
 use Rattle.round_lead.specs.declared.cut.Cut.{Cut}
 use Rattle.round_lead.specs.declared.cut.Cut.TheVariants.{HistoryFull, NoMemory, WriteFault}
-use Rattle.round_lead.specs.Responses.{Language}
+use Rattle.vcl_runs.specs.Languages.{Language}
 use Rattle.round_lead.specs.declared.keeping.Progress.{Progress}
 use Rattle.connection.specs.declared.ended.Answered.TheVariants as answered
 use Rattle.round_lead.specs.Endings.{answered_of, cut_by}

@@ -31,7 +31,8 @@ use Rattle.round_lead.specs.Talks.{TalksOf}
 use Rattle.round_lead.specs.Things.{called, ended, closes_of}
 use Rattle.round_lead.specs.Steps.{At, Did, Refused}
 use Rattle.round_task.specs.Responses.{WantsBy}
-use Rattle.round_lead.specs.Responses.{Language, DidntFit, CutBy, IsUntold, Tells, TellsCut, IsResponse, LedBy}
+use Rattle.round_lead.specs.Responses.{DidntFit, CutBy, IsUntold, Tells, TellsCut, IsResponse, LedBy}
+use Rattle.vcl_runs.specs.Languages.{Language}
 use Rattle.round_lead.specs.Endings.{answered_of, answered_so}
 use Rattle.round_lead.specs.Onward.{WantsNow, Whole, Cuts, Breaks}
 use Rattle.round_lead.specs.Leading.{Begins, BeginRefused, Declined, kept}

@@ -20,7 +20,8 @@ use Rattle.round_lead.specs.declared.cut.Cut.TheVariants.{HistoryFull, NoMemory,
 use Rattle.round_lead.specs.declared.keeping.Round.{Round}
 use Rattle.round_lead.specs.Seen.{RiseIn}
 use Rattle.round_task.specs.Responses.{WantsBy}
-use Rattle.round_lead.specs.Responses.{Language, DidntFit, RefusedBegin, Tells, TellsCut, NeverBegan, OnlyBegan, IsResponse}
+use Rattle.round_lead.specs.Responses.{DidntFit, RefusedBegin, Tells, TellsCut, NeverBegan, OnlyBegan, IsResponse}
+use Rattle.vcl_runs.specs.Languages.{Language}
 use Rattle.round_lead.proofs.Seen.{stands_longer, stand_longer, rise_higher}
 use Rattle.round_lead.proofs.Things.{runs_wider, all_wider}
 use Rattle.round_lead.proofs.Onward.{cut_weaker}

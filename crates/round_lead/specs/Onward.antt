@@ -3,7 +3,7 @@ use Rattle.std.specs.Prelude.{◌≡◌, ◌⊎◌, ℕ, Bool, true, false, List
 use Rattle.http_heads.specs.declared.exchange.Backend.{Backend}
 use Rattle.wire.specs.Flow.{Flow}
 use Rattle.wire.specs.Tapes.{Tape}
-use Rattle.vcl_turns.specs.declared.turn.Answer.{Answer}
+use Rattle.vcl_context.specs.declared.turn.Answer.{Answer}
 use Rattle.vcl_runs.specs.Runs.{Ran}
 use Rattle.cache_law.specs.declared.call.Call.{Call}
 use Rattle.cache_law.specs.declared.call.Call.TheVariants as call
@@ -11,7 +11,7 @@ use Rattle.cache_law.specs.declared.cache.Told.{Told}
 use Rattle.cache_law.specs.declared.rounds.Given.{Given}
 use Rattle.cache_law.specs.declared.rounds.Given.TheVariants as given
 use Rattle.cache_law.specs.declared.rounds.Request.{Request}
-use Rattle.fetch_task.specs.Fetches.{Evaluator}
+use Rattle.vcl_runs.specs.Evaluators.{Evaluator}
 use Rattle.round_task.specs.declared.place.Place.{Place}
 use Rattle.round_task.specs.declared.want.Want.{Want}
 use Rattle.round_task.specs.declared.want.Want.TheVariants.{Cache}
@@ -20,7 +20,8 @@ use Rattle.round_task.specs.Standing.{StandsAt}
 use Rattle.round_lead.specs.declared.cut.Cut.{Cut}
 use Rattle.round_lead.specs.declared.cut.Cut.TheVariants.{NoMemory}
 use Rattle.round_task.specs.Responses.{WantsBy}
-use Rattle.round_lead.specs.Responses.{Language, CutBy}
+use Rattle.round_lead.specs.Responses.{CutBy}
+use Rattle.vcl_runs.specs.Languages.{Language}
 use Rattle.round_lead.specs.Steps.{At, Did, Refused}
 use Rattle.round_lead.specs.Tapes.{Went, WasDrawn}
 use Rattle.round_lead.specs.Things.{Runs, Suits, text_told}

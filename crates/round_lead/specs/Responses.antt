@@ -1,7 +1,6 @@
 -- What is kept of a round, as a response over the history: which round it was, and what its client was sent.
 use Rattle.std.specs.Prelude.{◌≡◌, ◌⊎◌, ⊤, ℕ, Bool, true, false, List, [], ◌∷◌, ◌++◌, length, Option, Some}
 use Rattle.std.specs.List.{AllByRecursion}
-use Rattle.http_heads.specs.declared.exchange.Backend.{Backend}
 use Rattle.http_heads.specs.declared.exchange.Exchange.TheVariants.{NoMemory as Failed}
 use Rattle.wire.specs.Flow.{Flow}
 use Rattle.wire.specs.Talks.{Adds}
@@ -12,7 +11,6 @@ use Rattle.cache_law.specs.declared.call.Entry.{Entry}
 use Rattle.cache_law.specs.declared.cache.Told.{Told}
 use Rattle.cache_law.specs.declared.rounds.Given.{Given}
 use Rattle.cache_law.specs.declared.rounds.Given.TheVariants as given
-use Rattle.cache_law.specs.declared.target.Target.{Target}
 use Rattle.cache_law.specs.Beginning.{Beginning}
 use Rattle.cache_law.specs.Core.{FitsBehind, entry_of, moment_of}
 use Rattle.delivery.specs.declared.finishing.Delivery.{Delivery}
@@ -20,10 +18,7 @@ use Rattle.delivery.specs.Sent.{delivery_text}
 use Rattle.shared_cache.specs.Sharing.{CallerKnows}
 use Rattle.connection.specs.declared.ended.Answered.{Answered}
 use Rattle.connection.specs.declared.ended.Answered.TheVariants as answered
-use Rattle.vcl_values.specs.declared.value.Backend.{Backend as Chosen}
-use Rattle.vcl_turns.specs.declared.turn.Turn.{Turn}
-use Rattle.vcl_runs.specs.Runs.{Ran}
-use Rattle.fetch_task.specs.Fetches.{Evaluator, evaluator}
+use Rattle.vcl_runs.specs.Languages.{Language}
 use Rattle.round_task.specs.declared.want.Want.{Want}
 use Rattle.round_task.specs.declared.want.Want.TheVariants.{Cache, Exchange, Send}
 use Rattle.round_task.specs.Responses.{WantsBy}
@@ -34,16 +29,6 @@ use Rattle.round_lead.specs.declared.cut.Cut.TheVariants.{HistoryFull, NoMemory,
 use Rattle.round_lead.specs.Seen.{HasCalled, StandsAt, StandAt, RiseIn}
 use Rattle.round_lead.specs.Talks.{TalksOf}
 use Rattle.round_lead.specs.Things.{Runs, ended, text_of, closes_of}
-
--- A language: which programs a text has, how one runs, and where the backends are that it names.
-pub record Language (P : Type 0) : Type 1 where
-  pub programs : List ℕ → P → Type 0
-  pub evaluator : P → Evaluator
-  pub backends : P → List ℕ → Backend
-
--- what is known of programs of texts, as a language
-abbrev pub language_of : {P : Type 0} → (List ℕ → P → Type 0) → (P → Ran → Turn → Type 0) → (P → Chosen → Option Target) → (P → Target) → (P → List ℕ → Backend) → Language P
-language_of programs turns targets default_of backends = record { programs = programs; evaluator = evaluator turns targets default_of; backends = backends }
 
 -- ---- why a round was cut short
 

@@ -9,7 +9,7 @@ use Rattle.cache_law.specs.declared.call.Reply.TheVariants.{Began}
 use Rattle.cache_law.specs.declared.rounds.Given.{Given}
 use Rattle.cache_law.specs.declared.rounds.Given.TheVariants as given
 use Rattle.delivery.specs.declared.finishing.Delivery.{Delivery}
-use Rattle.message_fields.specs.Lists.{is_listed}
+use Rattle.http_heads.specs.Lists.{is_listed}
 use Rattle.round_task.specs.declared.want.Want.{Want}
 use Rattle.round_task.specs.declared.want.Want.TheVariants.{Cache, Exchange, Send}
 use Rattle.round_task.specs.Happened.{Happened}

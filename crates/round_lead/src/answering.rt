@@ -14,14 +14,14 @@ use crate::cut::{Cut, cut_at};
 use crate::exchanging::exchange_on;
 use crate::keeping::Progress;
 use crate::sending::send_on;
-use crate::{Programs, Shift, Site};
+use crate::{Shift, Site};
 use cache_law::rounds::Given;
 use cache_law::{CacheCore, Call};
 use http_heads::BackendRequest;
 use round_task::Want;
 use std::sync::Wait;
 use units::Text;
-use vcl_runs::Runner;
+use vcl_runs::{Programs, Runner};
 use wire::{Clock, Dialer, Link};
 use world::Gate;
 

@@ -4,8 +4,8 @@ ghost use Rattle.wire.specs.Causes.{Rose};
 ghost use Rattle.turnstile.specs.Handles.{known};
 ghost use Rattle.shared_cache.specs.Passes.{IsPassOf};
 ghost use Rattle.cache_law.specs.declared.call.Call.TheVariants.{End};
-ghost use Rattle.fetch_task.specs.Fetches.{evaluator};
-ghost use Rattle.round_task.specs.declared.place.Place.{Place as Spot};
+ghost use Rattle.vcl_runs.specs.Evaluators.{evaluator};
+ghost use Rattle.round_task.specs.declared.place.Place.{Place as RoundPlace};
 ghost use Rattle.round_task.specs.Standing.{MayGoOn};
 ghost use Rattle.round_lead.specs.Seen.{has_open};
 ghost use Rattle.round_lead.specs.Steps.{CanClose, stood};
@@ -14,12 +14,12 @@ ghost use Rattle.round_lead.specs.Onward.{Goes, Stops, is_last};
 use crate::answering::answer;
 use crate::cut::Cut;
 use crate::keeping::Progress;
-use crate::{Programs, Shift, Site};
+use crate::{Shift, Site};
 use cache_law::{CacheCore, Call};
 use round_task::{Round as Machine, Want};
 use std::mem;
 use std::sync::Wait;
-use vcl_runs::Runner;
+use vcl_runs::{Programs, Runner};
 use wire::{Clock, Dialer, Link};
 use world::Gate;
 
@@ -147,7 +147,7 @@ pub(crate) fn follow<
     requires is_open { progress.old.is_open ≡ true }
     requires room { CanClose progress.old }
     requires may { MayGoOn (λ run ran. M.stands run program.now ran) M.fits machine.old.place }
-    ensures whole { OnOk result ((place : Spot M) × Goes (evaluator M.turns M.targets M.default_of program.now) (λ run ran. M.stands run program.now ran) M.fits D.Link.flow (P.backends program.now)
+    ensures whole { OnOk result ((place : RoundPlace M) × Goes (evaluator M.turns M.targets M.default_of program.now) (λ run ran. M.stands run program.now ran) M.fits D.Link.flow (P.backends program.now)
         machine.old.place want.old (stood D.talks K.readings K.words shift.old (L.flow link.old) progress.old) (stood D.talks K.readings K.words shift.new (L.flow link.new) progress.new) place (Want.Cache End)) }
     ensures stops { IfErr result (Stops (evaluator M.turns M.targets M.default_of program.now) (λ run ran. M.stands run program.now ran) M.fits D.Link.flow (P.backends program.now)
         machine.old.place want.old (stood D.talks K.readings K.words shift.old (L.flow link.old) progress.old) (stood D.talks K.readings K.words shift.new (L.flow link.new) progress.new)) }

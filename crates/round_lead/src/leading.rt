@@ -13,21 +13,22 @@ ghost use Rattle.round_lead.specs.Steps.{CanClose, IsFirst, stood};
 ghost use Rattle.round_lead.specs.Onward.{Breaks, Whole};
 ghost use Rattle.round_lead.specs.Leading.{Began, kept};
 ghost use Rattle.round_lead.specs.Endings.{answered_so};
-ghost use Rattle.round_lead.specs.Responses.{LedBy, language_of};
+ghost use Rattle.round_lead.specs.Responses.{LedBy};
+ghost use Rattle.vcl_runs.specs.Languages.{language_of};
 
 use crate::calling::{call_on, close};
 use crate::cut::{Cut, cut_at, ended_by};
 use crate::following::follow;
 use crate::keeping::{Progress, Round};
-use crate::{Programs, Shift, Site};
+use crate::{Shift, Site};
 use cache_law::rounds::{Given, Request};
-use cache_law::{CacheCore, Call, Reply, Shared, Told};
+use cache_law::{CacheCore, Call, Reply, Told};
 use connection::Answered;
 use round_task::Round as Machine;
 use std::alloc::{AllocError, Global};
 use std::sync::Wait;
-use units::Copied;
-use vcl_runs::Runner;
+use units::{Copied, Shared};
+use vcl_runs::{Programs, Runner};
 use wire::{Clock, Dialer, Link};
 use world::Gate;
 

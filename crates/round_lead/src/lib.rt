@@ -13,11 +13,9 @@ mod exchanging;
 mod following;
 mod keeping;
 mod leading;
-mod programs;
 mod sending;
 mod site;
 
 pub use keeping::Round;
 pub use leading::lead;
-pub use programs::Programs;
 pub use site::{Shift, Site};

@@ -2,22 +2,22 @@
 use Rattle.std.proofs.Common.{◌≡◌, ℕ, List, [], ◌∷◌, Option, refl, sym, ◌∙◌, ap, subst}
 use Rattle.std.proofs.Math.Path.{fun_ext}
 use Rattle.vcl_values.specs.declared.value.Backend.{Backend}
-use Rattle.vcl_turns.specs.declared.turn.Turn.{Turn}
+use Rattle.vcl_context.specs.declared.turn.Turn.{Turn}
 use Rattle.vcl_runs.specs.Runs.{Ran}
 use Rattle.cache_law.specs.declared.rounds.Given.{Given}
 use Rattle.cache_law.specs.declared.rounds.Request.{Request}
-use Rattle.cache_law.specs.declared.target.Target.{Target}
+use Rattle.directors.specs.declared.target.Target.{Target}
 use Rattle.client_graph.specs.declared.round.Next.{Next as ClientNext}
-use Rattle.client_graph.specs.declared.round.Want.{Want as ClientWant}
+use Rattle.client_graph.specs.declared.round.ClientWant.{ClientWant}
 use Rattle.client_task.specs.Rounds.{Evaluator as ClientEvaluator, Node as ClientNode, Step, Settles as ClientSettles, rests as client-rests, enters, ends as client-ends, stops, skips, Reaches as ClientReaches, Wants as ClientWants}
 use Rattle.fetch_graph.specs.declared.fetch.Next.{Next as FetchNext}
-use Rattle.fetch_graph.specs.declared.fetch.Spot.{Spot}
-use Rattle.fetch_graph.specs.declared.fetch.Spot.TheVariants as spot
-use Rattle.fetch_graph.specs.declared.fetch.Want.{Want as FetchWant}
+use Rattle.fetch_graph.specs.declared.fetch.WaitPoint.{WaitPoint}
+use Rattle.fetch_graph.specs.declared.fetch.WaitPoint.TheVariants as point
+use Rattle.fetch_graph.specs.declared.fetch.FetchWant.{FetchWant}
 use Rattle.fetch_graph.specs.Wants.{asks as fetch-asks}
-use Rattle.fetch_task.specs.Fetches.{Evaluator, Settles as FetchSettles, rests as fetch-rests, ends as fetch-ends, asked as fetch-asked, Reaches as FetchReaches, target_at, Wants as FetchWants}
+use Rattle.fetch_task.specs.Fetches.{Settles as FetchSettles, rests as fetch-rests, ends as fetch-ends, asked as fetch-asked, Reaches as FetchReaches, target_at, Wants as FetchWants}
+use Rattle.vcl_runs.specs.Evaluators.{Evaluator, IsLike}
 use Rattle.round_task.specs.declared.want.Want.{Want}
-use Rattle.round_task.specs.Alike.{IsLike}
 use Rattle.round_task.specs.Rounds.{for_client, Node, Flow, Settles, passes, orders, asks, returns, passes_back, breaks, ends, Reaches, Wants}
 
 -- the evaluator with these turns
@@ -31,7 +31,7 @@ client_with e t = record { turns = t; target = e.target }
 
 client-settles : (e : ClientEvaluator) (t : Ran → Turn → Type 0) → ((ran : Ran) (turn : Turn) → e.turns ran turn → t ran turn)
     → {step : Step} {n : ClientNode} {w : ClientWant} → ClientSettles e step n w → ClientSettles (client_with e t) step n w
-client-settles e t up (client-rests spot round) = client-rests spot round
+client-settles e t up (client-rests point round) = client-rests point round
 client-settles e t up (enters p) = enters (client-settles e t up p)
 client-settles e t up (client-ends word context h p) = client-ends word context (up _ _ h) (client-settles e t up p)
 client-settles e t up (stops command asked call h is) = stops command asked call (up _ _ h) is
@@ -51,7 +51,7 @@ client-wants e t up start (g ∷ givens) w p = (p.0, p.1, client-reaches e t up 
 
 fetch-settles : (e : Evaluator) (t : Ran → Turn → Type 0) → ((ran : Ran) (turn : Turn) → e.turns ran turn → t ran turn)
     → {next place : FetchNext} → FetchSettles e next place → FetchSettles (with_turns e t) next place
-fetch-settles e t up (fetch-rests spot fetch) = fetch-rests spot fetch
+fetch-settles e t up (fetch-rests point fetch) = fetch-rests point fetch
 fetch-settles e t up (fetch-ends word left h p) = fetch-ends word left (up _ _ h) (fetch-settles e t up p)
 fetch-settles e t up (fetch-asked command h p) = fetch-asked command (up _ _ h) (fetch-settles e t up p)
 
@@ -60,8 +60,8 @@ fetch-reaches : (e : Evaluator) (t : Ran → Turn → Type 0) → ((ran : Ran) (
 fetch-reaches e t up start [] place p = p
 fetch-reaches e t up start (g ∷ givens) place p = (p.0, fetch-reaches e t up start givens p.0 p.1, fetch-settles e t up p.2)
 
-target-same : (e : Evaluator) (t : Ran → Turn → Type 0) (s : Spot) → target_at e s ≡ target_at (with_turns e t) s
-target-same e t (spot.Pick context) = refl
+target-same : (e : Evaluator) (t : Ran → Turn → Type 0) (s : WaitPoint) → target_at e s ≡ target_at (with_turns e t) s
+target-same e t (point.Pick context) = refl
 target-same e t s = refl
 
 fetch-wants : (e : Evaluator) (t : Ran → Turn → Type 0) → ((ran : Ran) (turn : Turn) → e.turns ran turn → t ran turn)

@@ -6,12 +6,13 @@ use Rattle.cache_law.specs.declared.rounds.Given.{Given}
 use Rattle.cache_law.specs.declared.rounds.Given.TheVariants as given
 use Rattle.cache_law.specs.declared.rounds.Order.{Order}
 use Rattle.cache_law.specs.declared.rounds.Request.{Request}
-use Rattle.client_graph.specs.declared.round.Want.{Want as ClientWant}
+use Rattle.client_graph.specs.declared.round.ClientWant.{ClientWant}
 use Rattle.client_task.proofs.OneWant.{wants-one as client-one}
-use Rattle.fetch_graph.specs.declared.fetch.Want.{Want as FetchWant}
-use Rattle.fetch_graph.specs.declared.fetch.Want.TheVariants as fetch
+use Rattle.fetch_graph.specs.declared.fetch.FetchWant.{FetchWant}
+use Rattle.fetch_graph.specs.declared.fetch.FetchWant.TheVariants as fetch
 use Rattle.fetch_graph.specs.Opening.{opening}
-use Rattle.fetch_task.specs.Fetches.{Evaluator, Wants as FetchWants}
+use Rattle.fetch_task.specs.Fetches.{Wants as FetchWants}
+use Rattle.vcl_runs.specs.Evaluators.{Evaluator}
 use Rattle.fetch_task.specs.Laws.{with_word}
 use Rattle.fetch_task.proofs.OneWant.{OneTurn, wants-one as fetch-one, words-one as fetch-words}
 use Rattle.round_task.specs.declared.want.Want.{Want}

@@ -2,7 +2,7 @@
 use Rattle.std.specs.Prelude.{⊤, IfOk, Result, Ok, Err, Box}
 use Rattle.std.proofs.Common.{◌≡◌, ◌≢◌, ℕ, List, [], ◌∷◌, Option, Some, refl, sym, ◌∙◌, ap, subst}
 use Rattle.std.specs.declared.alloc.Global.{Global}
-use Rattle.vcl_turns.specs.declared.turn.Answer.{Answer}
+use Rattle.vcl_context.specs.declared.turn.Answer.{Answer}
 use Rattle.vcl_runs.specs.Runs.{Ran}
 use Rattle.cache_law.specs.declared.cache.Told.{Told}
 use Rattle.cache_law.specs.declared.call.Reply.{Reply}
@@ -13,15 +13,16 @@ use Rattle.cache_law.specs.declared.rounds.Given.TheVariants as given
 use Rattle.cache_law.specs.declared.rounds.Order.{Order}
 use Rattle.cache_law.specs.declared.rounds.Request.{Request}
 use Rattle.client_graph.specs.declared.round.Next.{Next}
-use Rattle.client_graph.specs.declared.round.Want.{Want as ClientWant}
+use Rattle.client_graph.specs.declared.round.ClientWant.{ClientWant}
 use Rattle.client_task.specs.declared.client.Client.{Client}
 use Rattle.client_task.specs.Rounds.{Wants as ClientWants}
 use Rattle.client_task.specs.Standing.{StandsAt as ClientStands, MayGoOn as ClientMay}
-use Rattle.fetch_graph.specs.declared.fetch.Want.{Want as FetchWant}
+use Rattle.fetch_graph.specs.declared.fetch.FetchWant.{FetchWant}
 use Rattle.fetch_graph.specs.declared.fetch.Next.{Next as FetchNext}
 use Rattle.fetch_graph.specs.Opening.{opening}
 use Rattle.fetch_task.specs.declared.fetch.Fetch.{Fetch}
-use Rattle.fetch_task.specs.Fetches.{Evaluator, Wants as FetchWants}
+use Rattle.fetch_task.specs.Fetches.{Wants as FetchWants}
+use Rattle.vcl_runs.specs.Evaluators.{Evaluator}
 use Rattle.fetch_task.specs.Standing.{StandsAt as FetchStands}
 use Rattle.round_task.specs.declared.want.Want.{Want}
 use Rattle.round_task.specs.declared.want.Want.TheVariants.{Done}

@@ -9,15 +9,15 @@ use Rattle.cache_law.specs.declared.rounds.Given.{Given}
 use Rattle.cache_law.specs.declared.rounds.Given.TheVariants as given
 use Rattle.cache_law.specs.declared.rounds.Order.{Order}
 use Rattle.cache_law.specs.declared.rounds.Request.{Request}
-use Rattle.cache_law.specs.declared.target.Target.{Target}
+use Rattle.directors.specs.declared.target.Target.{Target}
 use Rattle.client_graph.specs.declared.round.Next.{Next}
-use Rattle.client_graph.specs.declared.round.Want.{Want as ClientWant}
-use Rattle.client_graph.specs.declared.round.Want.TheVariants as client
+use Rattle.client_graph.specs.declared.round.ClientWant.{ClientWant}
+use Rattle.client_graph.specs.declared.round.ClientWant.TheVariants as client
 use Rattle.client_task.specs.Laws.{IsUnder}
 use Rattle.client_task.proofs.Vcls.{vcl_of, wants-under}
-use Rattle.fetch_graph.specs.declared.fetch.Want.{Want as FetchWant}
-use Rattle.fetch_graph.specs.declared.fetch.Want.TheVariants as fetch
-use Rattle.fetch_task.specs.Fetches.{Evaluator}
+use Rattle.fetch_graph.specs.declared.fetch.FetchWant.{FetchWant}
+use Rattle.fetch_graph.specs.declared.fetch.FetchWant.TheVariants as fetch
+use Rattle.vcl_runs.specs.Evaluators.{Evaluator}
 use Rattle.fetch_task.specs.Laws.{CallsFor, IsFor}
 use Rattle.fetch_task.proofs.Orders.{wants-for}
 use Rattle.round_task.specs.declared.want.Want.{Want}

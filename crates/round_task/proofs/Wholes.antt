@@ -14,17 +14,18 @@ use Rattle.cache_law.specs.declared.rounds.Given.TheVariants as given
 use Rattle.cache_law.specs.declared.rounds.Order.{Order}
 use Rattle.cache_law.specs.declared.rounds.Request.{Request}
 use Rattle.client_graph.specs.declared.round.Next.{Next}
-use Rattle.client_graph.specs.declared.round.Want.{Want as ClientWant}
-use Rattle.client_graph.specs.declared.round.Want.TheVariants as client
+use Rattle.client_graph.specs.declared.round.ClientWant.{ClientWant}
+use Rattle.client_graph.specs.declared.round.ClientWant.TheVariants as client
 use Rattle.client_graph.specs.Opening.{opening}
 use Rattle.client_task.specs.Laws.{IsAnswer, AnswersIt as ClientAnswers, IsLast as IsClientLast}
 use Rattle.client_task.specs.Rounds.{Wants as ClientWants}
 use Rattle.client_task.proofs.Ends.{nothing-behind}
 use Rattle.client_task.proofs.Live.{goes-on-to-end}
-use Rattle.fetch_graph.specs.declared.fetch.Want.{Want as FetchWant}
-use Rattle.fetch_graph.specs.declared.fetch.Want.TheVariants as fetch
+use Rattle.fetch_graph.specs.declared.fetch.FetchWant.{FetchWant}
+use Rattle.fetch_graph.specs.declared.fetch.FetchWant.TheVariants as fetch
 use Rattle.fetch_graph.specs.Opening.{opening as fetch_opening}
-use Rattle.fetch_task.specs.Fetches.{Evaluator, Wants as FetchWants}
+use Rattle.fetch_task.specs.Fetches.{Wants as FetchWants}
+use Rattle.vcl_runs.specs.Evaluators.{Evaluator}
 use Rattle.fetch_task.specs.Laws.{ComesOf, IsFor}
 use Rattle.fetch_task.proofs.OneWant.{OneTurn}
 use Rattle.fetch_task.proofs.Orders.{wants-for}

@@ -6,7 +6,7 @@ use Rattle.cache_law.specs.declared.call.Reply.{Reply}
 use Rattle.cache_law.specs.declared.call.Reply.TheVariants.{Began}
 use Rattle.cache_law.specs.declared.rounds.Given.{Given}
 use Rattle.cache_law.specs.declared.rounds.Given.TheVariants as given
-use Rattle.client_graph.specs.declared.round.Want.TheVariants as client
+use Rattle.client_graph.specs.declared.round.ClientWant.TheVariants as client
 use Rattle.client_task.specs.Laws.{IsLast as IsClientLast}
 use Rattle.round_task.specs.declared.want.Want.{Want}
 use Rattle.round_task.specs.declared.want.Want.TheVariants.{Cache, Send, Done}

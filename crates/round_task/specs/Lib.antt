@@ -1,5 +1,4 @@
 pub mod Rounds
-pub mod Alike
 pub mod Standing
 pub mod Happened
 pub mod Responses

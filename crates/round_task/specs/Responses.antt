@@ -5,14 +5,9 @@ use Rattle.cache_law.specs.declared.call.Reply.TheVariants.{Began}
 use Rattle.cache_law.specs.declared.rounds.Given.{Given}
 use Rattle.cache_law.specs.declared.rounds.Given.TheVariants as given
 use Rattle.cache_law.specs.declared.rounds.Request.{Request}
-use Rattle.fetch_task.specs.Fetches.{Evaluator}
+use Rattle.vcl_runs.specs.Evaluators.{Evaluator}
 use Rattle.round_task.specs.declared.want.Want.{Want}
 use Rattle.round_task.specs.Rounds.{Wants}
-
--- A language: which programs a text has, and how one runs.
-pub record Language (P : Type 0) : Type 1 where
-  pub programs : List ℕ → P → Type 0
-  pub evaluator : P → Evaluator
 
 -- the text that the round's Begin was told
 abbrev pub text_told : Reply → Option (List ℕ)

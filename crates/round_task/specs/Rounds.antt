@@ -10,14 +10,15 @@ use Rattle.cache_law.specs.declared.rounds.Given.TheVariants as given
 use Rattle.cache_law.specs.declared.rounds.Order.{Order}
 use Rattle.cache_law.specs.declared.rounds.Request.{Request}
 use Rattle.client_graph.specs.declared.round.Next.{Next}
-use Rattle.client_graph.specs.declared.round.Want.{Want as ClientWant}
-use Rattle.client_graph.specs.declared.round.Want.TheVariants as client
+use Rattle.client_graph.specs.declared.round.ClientWant.{ClientWant}
+use Rattle.client_graph.specs.declared.round.ClientWant.TheVariants as client
 use Rattle.client_graph.specs.Opening.{opening}
 use Rattle.client_task.specs.Rounds.{Evaluator as ClientEvaluator, Wants as ClientWants}
-use Rattle.fetch_graph.specs.declared.fetch.Want.{Want as FetchWant}
-use Rattle.fetch_graph.specs.declared.fetch.Want.TheVariants as fetch
+use Rattle.fetch_graph.specs.declared.fetch.FetchWant.{FetchWant}
+use Rattle.fetch_graph.specs.declared.fetch.FetchWant.TheVariants as fetch
 use Rattle.fetch_graph.specs.Opening.{opening as fetch_opening}
-use Rattle.fetch_task.specs.Fetches.{Evaluator, Wants as FetchWants}
+use Rattle.fetch_task.specs.Fetches.{Wants as FetchWants}
+use Rattle.vcl_runs.specs.Evaluators.{Evaluator}
 use Rattle.round_task.specs.declared.want.Want.{Want}
 use Rattle.round_task.specs.declared.want.Want.TheVariants.{Cache, Exchange, Send, Done}
 use Rattle.round_task.specs.declared.want.Passed.{Passed}

@@ -1,12 +1,12 @@
 -- How a round as a value is tied to where it stands.
 use Rattle.std.specs.Prelude.{◌≡◌, ⊤, ℕ, List, Option}
-use Rattle.vcl_turns.specs.declared.turn.Answer.{Answer}
+use Rattle.vcl_context.specs.declared.turn.Answer.{Answer}
 use Rattle.vcl_runs.specs.Runs.{Ran}
 use Rattle.cache_law.specs.declared.rounds.Given.{Given}
 use Rattle.cache_law.specs.declared.rounds.Request.{Request}
 use Rattle.client_task.specs.Standing.{StandsAt as ClientStands, MayGoOn as ClientMay}
 use Rattle.fetch_graph.specs.Opening.{opening}
-use Rattle.fetch_task.specs.Fetches.{Evaluator}
+use Rattle.vcl_runs.specs.Evaluators.{Evaluator}
 use Rattle.fetch_task.specs.Standing.{StandsAt as FetchStands}
 use Rattle.round_task.specs.declared.place.Place.{Place}
 use Rattle.round_task.specs.declared.place.Place.TheVariants as place

@@ -5,7 +5,7 @@ ghost use Rattle.cache_law.specs.declared.rounds.Order.{Order as Ordered};
 ghost use Rattle.client_graph.specs.declared.round.Next.{Next as Opened};
 ghost use Rattle.client_task.specs.Standing.{StandsAt as ClientStands, MayGoOn as ClientMay};
 ghost use Rattle.fetch_graph.specs.Opening.{opening};
-ghost use Rattle.fetch_task.specs.Fetches.{evaluator};
+ghost use Rattle.vcl_runs.specs.Evaluators.{evaluator};
 ghost use Rattle.fetch_task.specs.Standing.{StandsAt as FetchStands};
 ghost use Rattle.round_task.specs.Rounds.{BackToClient, Opening, ToClient, ToFetch, begun, flow_of, for_client, word_of as word_for};
 ghost use Rattle.round_task.specs.Standing.{MayGoOn, SettlesAt};
@@ -17,7 +17,7 @@ use cache_law::rounds::{FetchOutcome, Given, Order, Request};
 use client_task::Client;
 use fetch_task::Fetch;
 use std::alloc::{AllocError, Global};
-use units::lost;
+use units::out_of_memory;
 use vcl_runs::Runner;
 
 /// A place, and what is wanted there.
@@ -51,7 +51,7 @@ fn back_to_client<M: Runner>(
     ensures goes_on { IfOk result (λ settled. MayGoOn (λ run ran. M.stands run program.now ran) M.fits settled.place) }
 {
     let Ok(want) = client.resume(alloc, program, Given::Fetched(outcome)) else {
-        return Err(lost(client));
+        return Err(out_of_memory(client));
     };
     let passed = pass(want);
     match passed {
@@ -92,7 +92,7 @@ pub(crate) fn to_fetch<M: Runner>(
 {
     let word = word_of(drawn, number);
     let Ok(want) = fetch.resume::<M>(alloc, program, word, given) else {
-        return Err(lost((client, fetch)));
+        return Err(out_of_memory((client, fetch)));
     };
     let made = make(number, want);
     match made {
@@ -134,7 +134,7 @@ fn begin_fetch<M: Runner>(
 {
     let number = order.number;
     let Ok(fetch) = start_fetch(alloc, order) else {
-        return Err(lost(client));
+        return Err(out_of_memory(client));
     };
     to_fetch(alloc, program, drawn, client, number, fetch, Given::Start)
 }
@@ -154,7 +154,7 @@ pub(crate) fn to_client<M: Runner>(
     ensures goes_on { IfOk result (λ settled. MayGoOn (λ run ran. M.stands run program.now ran) M.fits settled.place) }
 {
     let Ok(want) = client.resume(alloc, program, given) else {
-        return Err(lost(client));
+        return Err(out_of_memory(client));
     };
     let passed = pass(want);
     match passed {

@@ -2,7 +2,7 @@
 ghost use Rattle.std.specs.Prelude.{◌≡◌, [], ◌∷◌, List, ℕ, IfOk, OnOk, OnErr, IsErr};
 ghost use Rattle.cache_law.specs.declared.rounds.Given.{Given as Gift};
 ghost use Rattle.cache_law.specs.declared.rounds.Request.{Request as Asked};
-ghost use Rattle.fetch_task.specs.Fetches.{evaluator};
+ghost use Rattle.vcl_runs.specs.Evaluators.{evaluator};
 ghost use Rattle.round_task.specs.Rounds.{Node, Wants, flow_of};
 ghost use Rattle.round_task.specs.Standing.{IsAt, MayGoOn, SettlesAt, StandsAt};
 
@@ -11,7 +11,7 @@ use crate::{Place, Want};
 use cache_law::rounds::{Given, Request};
 use std::alloc::{AllocError, Global};
 use std::mem;
-use units::lost;
+use units::out_of_memory;
 use vcl_runs::Runner;
 
 /// A round; `M` runs the subroutines of its client and of its fetches.
@@ -43,7 +43,7 @@ fn take_up<M: Runner>(
             fetch,
         } => to_fetch(alloc, program, drawn, client, number, fetch, given),
         Place::Over => Ok(over(given)),
-        Place::Broken => Err(lost(given)),
+        Place::Broken => Err(out_of_memory(given)),
     }
 }
 

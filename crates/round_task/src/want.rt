@@ -44,30 +44,30 @@ pub(crate) enum Made {
 }
 
 /// What a client's want is to its round.
-pub(crate) fn pass(want: client_graph::Want) -> Passed
+pub(crate) fn pass(want: client_graph::ClientWant) -> Passed
     ensures { result ≡ passed want }
 {
     match want {
-        client_graph::Want::Cache(call) => Passed::Wanted(Want::Cache(call)),
-        client_graph::Want::Send(delivery) => Passed::Wanted(Want::Send(delivery)),
-        client_graph::Want::Done => Passed::Wanted(Want::Done),
-        client_graph::Want::Fetch(order) | client_graph::Want::Background(order) => {
+        client_graph::ClientWant::Cache(call) => Passed::Wanted(Want::Cache(call)),
+        client_graph::ClientWant::Send(delivery) => Passed::Wanted(Want::Send(delivery)),
+        client_graph::ClientWant::Done => Passed::Wanted(Want::Done),
+        client_graph::ClientWant::Fetch(order) | client_graph::ClientWant::Background(order) => {
             Passed::Ordered(order)
         }
     }
 }
 
 /// What the want of the fetch of this number is to its round.
-pub(crate) fn make(number: u64, want: fetch_graph::Want) -> Made
+pub(crate) fn make(number: u64, want: fetch_graph::FetchWant) -> Made
     ensures { result ≡ made_of number want }
 {
     match want {
-        fetch_graph::Want::Cache(call) => Made::Wanted(Want::Cache(call)),
-        fetch_graph::Want::Ask { backend, request } => Made::Wanted(Want::Exchange {
+        fetch_graph::FetchWant::Cache(call) => Made::Wanted(Want::Cache(call)),
+        fetch_graph::FetchWant::Ask { backend, request } => Made::Wanted(Want::Exchange {
             number,
             backend,
             request,
         }),
-        fetch_graph::Want::Done(outcome) => Made::Over(outcome),
+        fetch_graph::FetchWant::Done(outcome) => Made::Over(outcome),
     }
 }

@@ -15,7 +15,8 @@ use Rattle.round_lead.specs.declared.site.Site.{Site}
 use Rattle.connection.specs.declared.ended.Answered.TheVariants.{NoMemory}
 use Rattle.shared_cache.specs.Passes.{IsPassOf}
 use Rattle.shared_cache.specs.Sharing.{CallerKnows, SeesLegal}
-use Rattle.round_lead.specs.Responses.{Language, IsResponse, LedBy}
+use Rattle.round_lead.specs.Responses.{IsResponse, LedBy}
+use Rattle.vcl_runs.specs.Languages.{Language}
 use Rattle.round_lead.specs.Seen.{HasCalled}
 use Rattle.round_lead.specs.Tapes.{ToldIn, WasDrawn}
 use Rattle.round_lead.proofs.Told.{Went-none, Went-then, ToldIn-wider, WasDrawn-wider}

@@ -12,7 +12,8 @@ use Rattle.connection.specs.Requests.{BeginsRequests}
 use Rattle.connection.specs.Serving.{Round as Turn, requests_of, sent_of, AllKept, EndsBehind, Stops}
 use Rattle.connection.specs.declared.ended.Ended.{Ended}
 use Rattle.round_lead.specs.declared.keeping.Round.{Round}
-use Rattle.round_lead.specs.Responses.{Language, IsResponse, LedBy}
+use Rattle.round_lead.specs.Responses.{IsResponse, LedBy}
+use Rattle.vcl_runs.specs.Languages.{Language}
 use Rattle.round_lead.specs.Seen.{HasCalled}
 use Rattle.round_lead.specs.Tapes.{Went, ToldIn, WasDrawn}
 

@@ -7,12 +7,12 @@ use cache_law::CacheCore;
 use cache_law::rounds::Request;
 use connection::{Answered, Responder};
 use http_heads::RequestHead;
-use round_lead::{Programs, Round, Shift, Site, lead};
+use round_lead::{Round, Shift, Site, lead};
 use std::alloc::Global;
 use std::marker::PhantomData;
 use std::sync::Wait;
 use units::Text;
-use vcl_runs::Runner;
+use vcl_runs::{Programs, Runner};
 use wire::{Clock, Dialer, Link};
 use world::Gate;
 
@@ -81,7 +81,7 @@ impl<
 where
     M::Program: Drop,
 {
-    ghost use Rattle.round_lead.specs.Responses.{language_of};
+    ghost use Rattle.vcl_runs.specs.Languages.{language_of};
     ghost use Rattle.server.specs.Serving.{IsReady, IsSound, stand_of};
     ghost use Rattle.server.specs.Transcripts.{LeadsOne};
 

@@ -21,6 +21,3 @@ pub const SESSION_LIMIT: usize = 67_108_864;
 
 /// The greatest moment, in milliseconds since 1970: the last of the year 9999.
 pub const MOMENT_LIMIT: u64 = 253_402_300_799_999;
-
-#[cfg(test)]
-mod tests;

@@ -18,7 +18,7 @@ use Rattle.world.specs.declared.kit.Kit.{Kit}
 use Rattle.connection.specs.Serving.{Round as Turn}
 use Rattle.round_lead.specs.declared.keeping.Round.{Round}
 use Rattle.round_lead.specs.declared.site.Shift.{Shift}
-use Rattle.round_lead.specs.Responses.{Language}
+use Rattle.vcl_runs.specs.Languages.{Language}
 use Rattle.round_lead.specs.Seen.{has_open, HasCalled as Called}
 use Rattle.round_lead.specs.Tapes.{ToldIn, WasDrawn}
 use Rattle.round_lead.proofs.Stays.{response_more}

@@ -13,7 +13,7 @@ use Rattle.entrance.specs.Arriving.{LinkTold}
 use Rattle.connection.specs.declared.ended.Ended.{Ended}
 use Rattle.connection.specs.declared.ended.Ended.TheVariants as ending
 use Rattle.round_lead.specs.declared.site.Shift.{Shift}
-use Rattle.round_lead.specs.Responses.{Language}
+use Rattle.vcl_runs.specs.Languages.{Language}
 use Rattle.round_lead.specs.Seen.{has_open}
 use Rattle.server.specs.declared.transcript.Transcript.{Transcript}
 use Rattle.server.specs.Serving.{stands}

@@ -12,7 +12,7 @@ use Rattle.world.specs.declared.kit.Kit.{Kit}
 use Rattle.connection.specs.Requests.{BeginsRequests}
 use Rattle.connection.specs.Serving.{Round as Turn, requests_of, sent_of, AllKept, EndsBehind, Stops}
 use Rattle.connection.specs.declared.ended.Ended.{Ended}
-use Rattle.round_lead.specs.Responses.{Language}
+use Rattle.vcl_runs.specs.Languages.{Language}
 use Rattle.round_lead.specs.Tapes.{Went, ToldIn, WasDrawn}
 use Rattle.server.specs.declared.transcript.Transcript.{Transcript}
 use Rattle.server.specs.Transcripts.{AreResponses}

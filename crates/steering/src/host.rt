@@ -5,10 +5,10 @@ use crate::service::Steering;
 use crate::stock::Stock;
 use cache_law::CacheCore;
 use crew::Host;
-use round_lead::{Programs, Shift};
+use round_lead::Shift;
 use shared_cache::CachePass;
 use std::alloc::{AllocError, Global};
-use vcl_runs::Runner;
+use vcl_runs::{Programs, Runner};
 use wire::{Clock, Dialer, Link};
 use world::{Gate, Kit};
 
@@ -28,7 +28,7 @@ where
 {
     type Outfit = P;
 
-    ghost use Rattle.round_lead.specs.Responses.{language_of};
+    ghost use Rattle.vcl_runs.specs.Languages.{language_of};
     ghost use Rattle.server.specs.Transcripts.{all_numbers};
     ghost use Rattle.steering.specs.Telling.{Tells};
     ghost use Rattle.steering.specs.Laws.{starts, calls_of, tells_of, longer_of};

@@ -2,13 +2,13 @@
 ghost use Rattle.std.specs.Prelude.{◌≡◌};
 
 use cache_law::CacheCore;
-use round_lead::{Programs, Shift, Site};
+use round_lead::{Shift, Site};
 use server::{Transcript, serve_connection};
 use shared_cache::SharedCache;
 use std::alloc::Global;
 use std::marker::PhantomData;
 use std::sync::Wait;
-use vcl_runs::Runner;
+use vcl_runs::{Programs, Runner};
 use wire::{Clock, Dialer, Link};
 use workers::Service;
 use world::Gate;
@@ -61,7 +61,7 @@ where
 
     type Transcript = Transcript;
 
-    ghost use Rattle.round_lead.specs.Responses.{language_of};
+    ghost use Rattle.vcl_runs.specs.Languages.{language_of};
     ghost use Rattle.steering.specs.Serving.{IsReady, Serves};
 
     ghost Ready = { λ _ cache shift. IsReady cache shift };

@@ -15,8 +15,8 @@ type Lock = Turnstile<Visits>;
 
 type Ticket = Pass<u32, ()>;
 
-/// One turn, in which the caller's number is written down, if memory allows.
-pub fn visit<R: Wait>(rt: &R, lock: &Lock, pass: &mut Ticket, work: u32)
+// One turn, in which the caller's number is written down, if memory allows.
+fn visit<R: Wait>(rt: &R, lock: &Lock, pass: &mut Ticket, work: u32)
     requires { IsPassOf lock.now pass.old }
     ensures { IsPassOf lock.now pass.new × ((known pass.new).number ≡ (known pass.old).number) × ((known pass.new).upto ≡ (known pass.old).upto) }
 {
@@ -34,8 +34,8 @@ fn count_to(work: u32) {
     }
 }
 
-/// So many turns, one after another.
-pub fn visit_often<R: Wait>(rt: &R, lock: &Lock, mut pass: Ticket, task: Task) -> Ticket
+// So many turns, one after another.
+fn visit_often<R: Wait>(rt: &R, lock: &Lock, mut pass: Ticket, task: Task) -> Ticket
     requires { IsPassOf lock.now pass }
     ensures { IsPassOf lock.now result }
 {
@@ -45,8 +45,8 @@ pub fn visit_often<R: Wait>(rt: &R, lock: &Lock, mut pass: Ticket, task: Task) -
     pass
 }
 
-/// So many threads take their turns side by side, each under a number of its own from the pass's upwards.
-pub fn visit_together<R: Threads + Wait + Sync>(
+// So many threads take their turns side by side, each under a number of its own from the pass's upwards.
+fn visit_together<R: Threads + Wait + Sync>(
     rt: &R,
     lock: &Lock,
     mut pass: Ticket,
@@ -81,18 +81,12 @@ pub fn visit_together<R: Threads + Wait + Sync>(
     pass
 }
 
-/// The list that the threads leave, in the order of their turns. None for want of memory for the lock.
-pub fn visits_of<R: Threads + Wait + Sync>(rt: &R, alloc: Global, task: Task) -> Option<Visits> {
+/// How many numbers stand in the list that the threads leave. None for want of memory for the lock.
+pub fn count_visits<R: Threads + Wait + Sync>(rt: &R, alloc: Global, task: Task) -> Option<u64> {
     let Ok((lock, pass)) = Turnstile::new(alloc, Visits::new(alloc), 0) else {
         return None;
     };
     let pass = visit_together(rt, &lock, pass, task.threads, task);
     let (visits, _pass) = lock.close(rt, pass);
-    Some(visits)
-}
-
-/// How many numbers stand in the list.
-pub fn count_visits<R: Threads + Wait + Sync>(rt: &R, alloc: Global, task: Task) -> Option<u64> {
-    let visits = visits_of(rt, alloc, task)?;
     Some(visits.callers.len() as u64)
 }

@@ -4,8 +4,6 @@
 
 mod crowd;
 mod task;
-#[cfg(test)]
-mod tests;
 mod visits;
 
 use crowd::count_visits;

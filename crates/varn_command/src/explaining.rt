@@ -1,11 +1,11 @@
 // What is said on standard error of a run that wasn't whole.
-use program_texts::{order_fault, replay_fault, session_refusal, unseen_refusal, vcl_refusal};
-use serve_words::{Order, OrderError};
+use command_line::{OrderError, ServeOptions};
+use diagnostics::{order_fault, replay_fault, session_refusal, unseen_refusal, vcl_refusal};
 use std::alloc::AllocError;
+use system::{WordsError, tell};
 use units::Text;
 use varn_program::{Note, Status as ReplayStatus, faulty_word};
 use varn_serve::{Served, Status, VclNote};
-use wire::{WordsError, tell};
 use world::World;
 
 const NO_MEMORY: &str = "out of memory";
@@ -85,7 +85,7 @@ fn explain_refusal<W: World>(rt: &HostRuntime, world: &mut W, file: &Text, note:
 pub(crate) fn explain_server<W: World>(
     rt: &HostRuntime,
     world: &mut W,
-    order: &Order,
+    order: &ServeOptions,
     served: &Served,
 ) {
     let file = str::from_utf8(order.file.bytes()).unwrap_or("the file");

@@ -4,17 +4,17 @@ use crate::explaining::{
     explain_words,
 };
 use crate::running::{Outcome, options_of, run};
-use program_texts::Help;
+use diagnostics::Help;
 use std::net::{Net, TcpListener, TcpStream};
 use std::process::ExitCode;
 use std::random::RandomSource;
 use std::rt::{Clock, Files};
 use std::sync::Wait;
 use std::thread::Threads;
+use system::{StreamSink, StreamSource, SystemWorld, WordsError, read_words};
 use units::Text;
 use varn_program::Status;
-use wire::{StreamSink, StreamSource, WordsError, read_words};
-use world::{OpenGate, SystemWorld, World};
+use world::{OpenGate, World};
 
 /// Where a server listens: at all addresses of the machine.
 const ADDRESS: [u8; 4] = [0, 0, 0, 0];

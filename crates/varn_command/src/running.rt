@@ -5,7 +5,7 @@ ghost use Rattle.cache_law.specs.declared.setting.Params.{Params as Limits};
 ghost use Rattle.crew.specs.Hiring.{IsUnused};
 ghost use Rattle.entrance.specs.Arriving.{told_by};
 ghost use Rattle.vcl_library.specs.Functions.{std_functions};
-ghost use Rattle.varn_program.specs.Functions.{std_functions as replay_functions};
+ghost use Rattle.vcl_library.specs.Functions.{std_functions as replay_functions};
 ghost use Rattle.varn_program.specs.Run.{Ends, IsComplete};
 ghost use Rattle.varn_program.specs.Words.{AsksReplay};
 ghost use Rattle.varn_program.specs.declared.outcome.Status.TheVariants as replay_status;
@@ -15,7 +15,7 @@ ghost use Rattle.varn_command.specs.Asking.{Does, code_of, options_of};
 ghost use Rattle.wire.specs.Causes.{Rose};
 ghost use Rattle.world.specs.Keeping.{MayAdd};
 
-use serve_words::{Order, OrderError, read_order};
+use command_line::{OrderError, ServeOptions, read_order};
 use std::alloc::Global;
 use std::sync::Wait;
 use std::thread::Threads;
@@ -30,7 +30,7 @@ pub enum Outcome {
     /// The words don't begin as those of a server.
     Replay(varn_program::Outcome),
     /// The words are this order.
-    Serve(Order, Served),
+    Serve(ServeOptions, Served),
     /// The words begin as those of a server, and give no order.
     Unasked(OrderError),
 }

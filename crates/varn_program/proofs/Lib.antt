@@ -1,7 +1,5 @@
-mod Tables
 pub mod Sessions
 pub mod Asking
 pub mod Outcomes
 mod Options
 mod Texts
-mod Standard

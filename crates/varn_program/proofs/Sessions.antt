@@ -9,8 +9,9 @@ use Rattle.cache_law.specs.declared.call.Entry.{Entry}
 use Rattle.cache_law.specs.declared.rounds.Given.{Given as Gift}
 use Rattle.cache_law.specs.declared.rounds.Request.{Request as Message}
 use Rattle.round_task.specs.declared.want.Want.{Want as RoundWant}
-use Rattle.round_task.specs.Alike.{IsLike}
-use Rattle.round_task.specs.Responses.{Language, text_in}
+use Rattle.vcl_runs.specs.Evaluators.{IsLike}
+use Rattle.round_task.specs.Responses.{text_in}
+use Rattle.vcl_runs.specs.Languages.{Language}
 use Rattle.round_task.proofs.Alike.{wants-like}
 use Rattle.replay.specs.declared.event.Event.{Event}
 use Rattle.replay.specs.declared.event.Script.{Script}
@@ -29,9 +30,9 @@ use Rattle.replay.specs.Rounds.{address, gifts, WantedBy, Wanted}
 use Rattle.replay.specs.Scene.{Round, Scene, Move, hears, calls, fetches, sends, parks, wakes, ends, Runs, Next, Path, Run}
 use Rattle.replay.specs.Turns.{MessageWants, Wants}
 use Rattle.replay.specs.Went.{Went}
-use Rattle.varn_program.specs.Functions.{std_functions}
-use Rattle.varn_program.specs.Meaning.{like-same}
-use Rattle.varn_program.specs.Programs.{IsProgramOf, meant, vcl}
+use Rattle.vcl_library.specs.Functions.{std_functions}
+use Rattle.vcl_library.specs.OneMeaning.{like-same}
+use Rattle.vcl_library.specs.Meaning.{by_trees, meant, vcl}
 
 -- ---- what a client wants
 
@@ -126,10 +127,6 @@ module _ (one other : Request → List Given → Want → Type 0) (link : (reque
   session-as stored session history before now (Some HistoryFull) e = played-as stored session history before now (Some HistoryFull) e
 
 -- ---- the programs of a library
-
--- programs by their trees and by the functions that they were made with
-abbrev pub by_trees : {P : Type 0} → (P → Tree) → (P → List Stored) → Language P
-by_trees tree_of stored_of = record { programs = λ text p. IsProgramOf text (tree_of p) (stored_of p); evaluator = λ p. meant (tree_of p).items (stored_of p) }
 
 trees-vcl : {P : Type 0} (tree_of : P → Tree) (stored_of : P → List Stored) → IsVcl (by_trees tree_of stored_of)
 trees-vcl tree_of stored_of text p is =

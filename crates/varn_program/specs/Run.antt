@@ -20,7 +20,7 @@ use Rattle.replay.specs.Replayed.{SessionEnds, PlayedTo as SessionPlayedTo}
 use Rattle.replay.specs.declared.policy.Request.{Request}
 use Rattle.replay.specs.declared.policy.Given.{Given}
 use Rattle.replay.specs.declared.policy.Want.{Want}
-use Rattle.varn_program.specs.Programs.{vcl}
+use Rattle.vcl_library.specs.Meaning.{vcl}
 use Rattle.varn_program.specs.Words.{AsksReplay}
 use Rattle.varn_program.specs.declared.outcome.Status.{Status}
 use Rattle.varn_program.specs.declared.outcome.Status.TheVariants.{Done, Words, Session, ReadFault, WriteFault, NoMemory, HistoryFull}

@@ -1,20 +1,20 @@
 // The top call.
 ghost use Rattle.std.specs.Prelude.{◌≡◌, ◌⊎◌, [], IfOk, Some, None};
 ghost use Rattle.cache_law.specs.declared.setting.Params.{Params as Limits};
-ghost use Rattle.varn_program.specs.Functions.{std_functions};
+ghost use Rattle.vcl_library.specs.Functions.{std_functions};
 ghost use Rattle.varn_program.specs.Run.{Ends, EndsReplay, IsComplete, opening_boot, outcome_of};
 ghost use Rattle.varn_program.specs.Words.{AsksReplay};
 ghost use Rattle.wire.specs.Causes.{Rose};
 
 use crate::functions::replay_with_std;
-use crate::library::Library;
 use crate::outcome::{Note, Outcome, Status};
 use crate::words::asked;
-use cache_law::{Boot, Params, Shared};
+use cache_law::{Boot, Params};
 use replay::{ReplayError, Replayed, run_session};
 use session_text::{SESSION_LIMIT, SessionError};
 use std::alloc::{AllocError, Global};
-use units::{Sequence, Text};
+use units::{Sequence, Shared, Text};
+use vcl_library::Library;
 use vcl_runner::Run;
 use vmod_host::VmodTable;
 use wire::{ReadError, Sink, Source, read_all};
@@ -103,7 +103,7 @@ pub fn replay<S: Source, K: Sink>(
         Ok(functions) => functions,
         Err(_) => return stopped(alloc, Status::NoMemory, None),
     };
-    let mut library = Library::new(alloc, functions);
+    let mut library = Library::new(functions);
     let replayed = run_session::<Run, Library, K>(
         alloc,
         session,

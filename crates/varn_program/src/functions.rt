@@ -1,13 +1,14 @@
 // A replay with the stored functions that the program has.
 ghost use Rattle.std.specs.Prelude.{◌≡◌, ◌⊎◌, IfOk, OnErr};
-ghost use Rattle.varn_program.specs.Functions.{std_functions, std_signature};
+ghost use Rattle.vcl_library.specs.Functions.{std_functions, std_signature};
 ghost use Rattle.varn_program.specs.Run.{EndsReplay, IsComplete};
 ghost use Rattle.wire.specs.Causes.{Rose};
 
 use crate::command::{replay, stopped};
 use crate::outcome::{Outcome, Status};
-use cache_law::{Params, Shared};
+use cache_law::Params;
 use std::alloc::{AllocError, Global};
+use units::Shared;
 use vcl_values::Kind;
 use vmod_host::{
     INTEGER, STRLEN, Signature, TOLOWER, TOUPPER, Vmod, VmodTable, integer, strlen, tolower,

@@ -6,7 +6,6 @@
 
 mod command;
 mod functions;
-mod library;
 mod limits;
 mod outcome;
 mod words;

@@ -2,9 +2,7 @@
 use Rattle.std.proofs.Common.{◌≡◌, inl, inr, ℕ, Bool, List, [], ◌∷◌, ◌++◌, Option, refl, ap, subst}
 use Rattle.vcl_tree.specs.declared.item.Tree.{Tree}
 use Rattle.vmod_host.specs.declared.signature.Stored.{Stored}
-use Rattle.vcl_library.specs.Programs.{IsProgramOf}
-use Rattle.vcl_library.specs.Backends.{server_at}
-use Rattle.varn_serve.specs.Meaning.{meant, vcl}
+use Rattle.vcl_library.specs.Meaning.{by_trees, meant, vcl}
 use Rattle.http_heads.specs.declared.exchange.Backend.{Backend}
 use Rattle.wire.specs.Flow.{Flow}
 use Rattle.wire.specs.Tapes.{Tape}
@@ -16,11 +14,12 @@ use Rattle.connection.specs.declared.ended.Answered.TheVariants as answered
 use Rattle.connection.specs.Serving.{Round as Turn}
 use Rattle.entrance.specs.Arriving.{LinkTold}
 use Rattle.world.specs.declared.kit.Kit.{Kit}
-use Rattle.fetch_task.specs.Fetches.{Evaluator}
+use Rattle.vcl_runs.specs.Evaluators.{Evaluator}
 use Rattle.round_task.specs.Happened.{behind}
 use Rattle.round_lead.specs.declared.keeping.Round.{Round}
 use Rattle.round_task.specs.Responses.{WantsBy}
-use Rattle.round_lead.specs.Responses.{Language, DidntFit, CutBy, Tells, TellsCut, NeverBegan, IsResponse}
+use Rattle.round_lead.specs.Responses.{DidntFit, CutBy, Tells, TellsCut, NeverBegan, IsResponse}
+use Rattle.vcl_runs.specs.Languages.{Language}
 use Rattle.round_lead.specs.Talks.{TalksOf}
 use Rattle.round_lead.specs.Things.{Runs, text_of}
 use Rattle.round_lead.specs.Tapes.{ToldIn, WasDrawn}
@@ -175,14 +174,6 @@ module _ {P Q L : Type 0} (one : Language P) (other : Language Q) (f : P → Q) 
       }
 
 -- ---- the programs of a library
-
--- programs by their trees and by the functions that they were made with
-abbrev pub by_trees : {P : Type 0} → (P → Tree) → (P → List Stored) → Language P
-by_trees tree_of stored_of = record {
-  programs = λ text p. IsProgramOf text (tree_of p) (stored_of p);
-  evaluator = λ p. meant (tree_of p).items (stored_of p);
-  backends = λ p name. server_at (tree_of p).items name;
-}
 
 pub trees_mean : {P : Type 0} (tree_of : P → Tree) (stored_of : P → List Stored) → MeansAs (by_trees tree_of stored_of) vcl tree_of
 trees_mean tree_of stored_of = record {

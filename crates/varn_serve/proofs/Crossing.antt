@@ -24,9 +24,7 @@ use Rattle.vcl_check.specs.contracts.program.Program as checked
 use Rattle.vcl_program.specs.contracts.compiled.Compiled as compiled
 use Rattle.vcl_program.proofs.code.Code.TheSendSync as code
 use denote.RattleType.{RattleType}
-use Rattle.std.proofs.alloc.Global.TheSendSync as heap
-use Rattle.cache_law.proofs.shared.Shared.TheSendSync as shared
-use Rattle.indexmap.proofs.map.IndexMap.TheSendSync as index_map
+use Rattle.units.proofs.shared.Shared.TheSendSync as shared
 use Rattle.units.proofs.text.Text.TheSendSync as text
 use Rattle.vcl_library.specs.contracts.library.Kept as kept
 use Rattle.vcl_library.specs.contracts.library.Library as library
@@ -89,20 +87,20 @@ compiled_sync = struct_sync (Declared.shape compiled.the_type) (checked_sync, (s
 
 ruleset keeping = (crosses, sendable, compiled_send, compiled_sync, shared.the_send, shared.the_sync, text.the_send, text.the_sync)
 
-ruleset mapping = (crosses, sendable, index_map.the_send, index_map.the_sync, heap.the_send, heap.the_sync)
-
-kept_send : (T : RattleType) (m : _) → IsSend T → IsSync T → IsSend (kept.the_row T m)
+pub kept_send : (T : RattleType) (m : _) → IsSend T → IsSync T → IsSend (kept.the_row T m)
 kept_send T m s y = search keeping depth 60 fits 20000
 
-kept_sync : (T : RattleType) (m : _) → IsSend T → IsSync T → IsSync (kept.the_row T m)
+pub kept_sync : (T : RattleType) (m : _) → IsSend T → IsSync T → IsSync (kept.the_row T m)
 kept_sync T m s y = search keeping depth 60 fits 20000
 
 pub library_send : (T : RattleType) (m : _) → IsSend T → IsSync T → IsSend (library.the_field T m).row
 library_send T m s y =
     let k = kept_send T m s y in
-    struct_send (Declared.shape (library.the_type T m)) (search mapping depth 60 fits 20000, (search keeping depth 60 fits 20000, tt))
+    let l = kept_sync T m s y in
+    struct_send (Declared.shape (library.the_type T m)) (search keeping depth 60 fits 20000, (search keeping depth 60 fits 20000, (search keeping depth 60 fits 20000, tt)))
 
 pub library_sync : (T : RattleType) (m : _) → IsSend T → IsSync T → IsSync (library.the_field T m).row
 library_sync T m s y =
-    let k = kept_sync T m s y in
-    struct_sync (Declared.shape (library.the_type T m)) (search mapping depth 60 fits 20000, (search keeping depth 60 fits 20000, tt))
+    let k = kept_send T m s y in
+    let l = kept_sync T m s y in
+    struct_sync (Declared.shape (library.the_type T m)) (search keeping depth 60 fits 20000, (search keeping depth 60 fits 20000, (search keeping depth 60 fits 20000, tt)))

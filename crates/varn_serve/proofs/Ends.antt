@@ -2,7 +2,7 @@
 use Rattle.std.proofs.Common.{◌≡◌, ℕ, Bool, true, List, [], Option, refl, sym, ◌∙◌, ap, subst}
 use Rattle.vmod_host.specs.declared.signature.Stored.{Stored}
 use Rattle.world.specs.declared.file.File.{File}
-use Rattle.serve_words.specs.declared.order.Order.{Order}
+use Rattle.command_line.specs.declared.order.ServeOptions.{ServeOptions}
 use Rattle.crew.specs.Running.{Held}
 use Rattle.boot_file.specs.declared.error.BootError.{BootError}
 use Rattle.boot_file.specs.declared.error.BootError.TheVariants as without
@@ -13,7 +13,7 @@ use Rattle.varn_serve.specs.declared.ending.Status.{Status}
 use Rattle.varn_serve.specs.declared.ending.Status.TheVariants.{Done, ReadFault, WriteFault, NoMemory, ListenFault, Vcl, HistoryFull}
 use Rattle.varn_serve.specs.Run.{EndsAs, Halts, IsIdle, is_unserved, unbooted_status, unbooted_note}
 
-module _ (read listen write : Type 0) (ended : Bool) (held : Option (List ℕ)) (files : Option (List File)) (stored : List Stored) (order : Order) where
+module _ (read listen write : Type 0) (ended : Bool) (held : Option (List ℕ)) (files : Option (List File)) (stored : List Stored) (order : ServeOptions) where
   pub unbooted_ends : (error : BootError) → Why files order.file stored read error
       → EndsAs (record { read_failed = read; listen_failed = listen; write_failed = write; ended = ended; held = held; holds = held }) files stored order
       (record { status = unbooted_status error; note = unbooted_note error; history = []; transcripts = [] }) (unbooted_status error)
@@ -23,7 +23,7 @@ module _ (read listen write : Type 0) (ended : Bool) (held : Option (List ℕ)) 
   unbooted_ends without.NoMemory why = (refl, refl)
 
 -- the same of what was answered then
-pub unbooted_so : (read listen write : Type 0) (ended : Bool) (held : Option (List ℕ)) (files : Option (List File)) (stored : List Stored) (order : Order) (error : BootError) (served : Served)
+pub unbooted_so : (read listen write : Type 0) (ended : Bool) (held : Option (List ℕ)) (files : Option (List File)) (stored : List Stored) (order : ServeOptions) (error : BootError) (served : Served)
     → served ≡ record { status = unbooted_status error; note = unbooted_note error; history = []; transcripts = [] } → Why files order.file stored read error
     → EndsAs (record { read_failed = read; listen_failed = listen; write_failed = write; ended = ended; held = held; holds = held }) files stored order served served.status
 unbooted_so read listen write ended held files stored order error served same why =

@@ -1,4 +1,3 @@
 pub mod Statuses
 pub mod Endings
-pub mod Meaning
 pub mod Run

@@ -13,13 +13,13 @@ use Rattle.world.specs.Files.{IsShelved}
 use Rattle.boot_file.specs.declared.error.BootError.{BootError}
 use Rattle.boot_file.specs.declared.error.BootError.TheVariants as without
 use Rattle.boot_file.specs.Booting.{Boots}
-use Rattle.serve_words.specs.declared.order.Order.{Order}
+use Rattle.command_line.specs.declared.order.ServeOptions.{ServeOptions}
 use Rattle.server.specs.declared.transcript.Transcript.{Transcript}
 use Rattle.server.specs.Transcripts.{all_numbers}
 use Rattle.crew.specs.Running.{Held, Ran}
 use Rattle.entrance.specs.Arriving.{LinkTold}
-use Rattle.round_lead.specs.Responses.{Language}
-use Rattle.varn_serve.specs.Meaning.{vcl}
+use Rattle.vcl_runs.specs.Languages.{Language}
+use Rattle.vcl_library.specs.Meaning.{vcl}
 use Rattle.steering.specs.Telling.{Tells}
 use Rattle.wire.specs.Flow.{Flow}
 use Rattle.wire.specs.Tapes.{Tape}
@@ -31,7 +31,7 @@ use Rattle.varn_serve.specs.declared.ending.Status.TheVariants.{Done, ReadFault,
 use Rattle.varn_serve.specs.declared.ending.VclNote.{VclNote}
 use Rattle.varn_serve.specs.Endings.{rounds_in, rounds_line}
 
-abbrev pub limits_of : Order → Params
+abbrev pub limits_of : ServeOptions → Params
 limits_of order = record { room = order.room; history = order.history }
 
 -- ---- the history
@@ -54,13 +54,13 @@ pub record IsIdle {L K : Type 0} (before after : Held L K) (served : Served) : T
   pub unserved : is_unserved served.status ≡ true
 
 -- Workers ran over one cache, from the limits of the order and the VCL of its file. `Ran` says what their run comes to.
-pub record Runs (Ran : Beginning → List Entry → List Transcript → Type 0) (files : Option (List File)) (stored : List Stored) (order : Order) (served : Served) : Type 0 where
+pub record Runs (Ran : Beginning → List Entry → List Transcript → Type 0) (files : Option (List File)) (stored : List Stored) (order : ServeOptions) (served : Served) : Type 0 where
   pub boot : Boot
   pub boots : Boots files order.file stored boot
   pub ran : Ran (beginning_of (limits_of order) boot) served.history served.transcripts
 
 -- Nothing was served, or workers ran.
-abbrev pub CameTo : {L K : Type 0} → (Beginning → List Entry → List Transcript → Type 0) → Held L K → Held L K → Option (List File) → List Stored → Order → Served → Type 0
+abbrev pub CameTo : {L K : Type 0} → (Beginning → List Entry → List Transcript → Type 0) → Held L K → Held L K → Option (List File) → List Stored → ServeOptions → Served → Type 0
 CameTo Ran before after files stored order served = IsIdle before after served ⊎ Runs Ran files stored order served
 
 -- What a run of workers comes to whose rounds this language steers: one legal history, of which each round is a response.
@@ -95,11 +95,11 @@ IsWithoutVcl files stored name None = IsShelved files name None
 IsWithoutVcl files stored name (Some note) = (text : List ℕ) × IsShelved files name (Some text) × IsRefusalOf text stored (error.Refused note.kind note.place)
 
 -- as many connections were served as the order says, or no more came
-abbrev pub IsAll : Outside → Order → Served → Type 0
+abbrev pub IsAll : Outside → ServeOptions → Served → Type 0
 IsAll outside order served = (length served.transcripts ≡ order.conns) ⊎ (outside.ended ≡ true)
 
 -- the cause of each status; only a whole run writes
-abbrev pub EndsAs : Outside → Option (List File) → List Stored → Order → Served → Status → Type 0
+abbrev pub EndsAs : Outside → Option (List File) → List Stored → ServeOptions → Served → Status → Type 0
 EndsAs outside files stored order served Done =
     (served.note ≡ None) × IsAll outside order served × Appends outside.held outside.holds (rounds_line (rounds_in served.transcripts))
 EndsAs outside files stored order served WriteFault = (served.note ≡ None) × IsAll outside order served × outside.write_failed

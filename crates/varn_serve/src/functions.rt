@@ -10,14 +10,13 @@ ghost use Rattle.varn_serve.specs.Endings.{is_full};
 ghost use Rattle.varn_serve.specs.Run.{CameTo, EndsAs, RanBy, is_full_status};
 
 use crate::ending::{Served, Status};
-use crate::programs::Functions;
+use crate::programs::{SharedPrograms, stocked_boot};
 use crate::running::{finished, serve_stocked, stopped, unbooted};
-use boot_file::read_boot;
-use cache_law::Shared;
-use serve_words::Order;
+use command_line::ServeOptions;
 use std::alloc::{AllocError, Global};
 use std::sync::Wait;
 use std::thread::Threads;
+use units::Shared;
 use vcl_library::Library;
 use vcl_runner::Run;
 use vcl_values::Kind;
@@ -45,7 +44,7 @@ fn std_signature(
 fn try_serve<R: Threads + Wait + Sync, W: World + Send, G: Gate + Sync, S: Sink>(
     rt: &R,
     alloc: Global,
-    order: &Order,
+    order: &ServeOptions,
     world: &mut W,
     gate: &G,
     sink: &mut S,
@@ -110,12 +109,11 @@ where
         return Err(AllocError);
     };
     let vmods = Shared::new(alloc, vmods)?;
-    let boot = match read_boot(alloc, world, &order.file, &vmods) {
-        Ok(boot) => boot,
+    let (boot, stock) = match stocked_boot(alloc, world, &order.file, vmods) {
+        Ok(stocked) => stocked,
         Err(error) => return Ok(unbooted(alloc, error)),
     };
-    let stock = Functions::new(vmods);
-    match serve_stocked::<R, W, G, Functions, Library, Run>(
+    match serve_stocked::<R, W, G, SharedPrograms, Library, Run>(
         rt, alloc, order, boot, stock, gate, world,
     ) {
         Ok(outcome) => Ok(finished(alloc, outcome, sink)),
@@ -128,7 +126,7 @@ where
 pub fn serve_with_std<R: Threads + Wait + Sync, W: World + Send, G: Gate + Sync, S: Sink>(
     rt: &R,
     alloc: Global,
-    order: &Order,
+    order: &ServeOptions,
     world: &mut W,
     gate: &G,
     sink: &mut S,

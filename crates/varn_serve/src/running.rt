@@ -7,24 +7,23 @@ ghost use Rattle.entrance.specs.Arriving.{told_by};
 ghost use Rattle.wire.specs.Causes.{Rose};
 ghost use Rattle.world.specs.Keeping.{MayAdd};
 ghost use Rattle.varn_serve.specs.Endings.{Told, verdict_of};
-ghost use Rattle.round_lead.specs.Responses.{language_of};
+ghost use Rattle.vcl_runs.specs.Languages.{language_of};
 ghost use Rattle.varn_serve.specs.Run.{Halts, RanIn, limits_of, unbooted_note, unbooted_status};
 
 use crate::ending::{Served, Status, VclNote};
 use crate::rounds::{report, verdict};
 use boot_file::BootError;
 use cache_law::{Boot, CacheCore, Params};
+use command_line::ServeOptions;
 use crew::{Outcome, serve_all};
 use flat_core::FlatCore;
-use round_lead::Programs;
-use serve_words::Order;
 use server::Transcript;
 use std::alloc::Global;
 use std::sync::Wait;
 use std::thread::Threads;
 use steering::{Steering, Stock};
 use units::Sequence;
-use vcl_runs::Runner;
+use vcl_runs::{Programs, Runner};
 use wire::{Dialer, Sink};
 use world::{Gate, World};
 
@@ -91,7 +90,7 @@ pub(crate) fn serve_stocked<
 >(
     rt: &R,
     alloc: Global,
-    order: &Order,
+    order: &ServeOptions,
     boot: Boot,
     stock: F,
     gate: &G,

@@ -1,7 +1,7 @@
 -- The parts that a check computes, put together to the first fault of a text.
 use Rattle.std.proofs.Common.{◌≡◌, ℕ, ◌+◌, Bool, true, false, List, [], ◌∷◌, length, refl, sym, ap, ◌∙◌, subst, Option, Some, None, if◌then◌else◌}
-use Rattle.vcl_calls.specs.declared.call_graph.Call.{Call}
-use Rattle.vcl_calls.specs.Circles.{OnCircleAt, IsLeastPlace}
+use Rattle.vcl_symbols.specs.declared.call_graph.Call.{Call}
+use Rattle.vcl_symbols.specs.Circles.{OnCircleAt, IsLeastPlace}
 use Rattle.vmod_host.specs.declared.signature.Stored.{Stored}
 use Rattle.vcl_tree.specs.Faults.{comes_before}
 use Rattle.vcl_tree.specs.declared.error.Fault.{Fault}

@@ -1,8 +1,8 @@
 -- Rows of what calls lead to, one after another.
 use Rattle.std.proofs.Common.{◌≡◌, ℕ, suc, ◌+◌, Bool, List, [], ◌∷◌, ◌++◌, length, subst, arith}
 use Rattle.std.specs.Prelude.{◌↔◌}
-use Rattle.vcl_calls.specs.declared.call_graph.Call.{Call}
-use Rattle.vcl_calls.specs.Calls.{Reaches, Marked}
+use Rattle.vcl_symbols.specs.declared.call_graph.Call.{Call}
+use Rattle.vcl_symbols.specs.Calls.{Reaches, Marked}
 use Rattle.vcl_check.specs.Reaching.{AreReached}
 
 pub reached-push : (calls : List Call) (k : ℕ) (rows : List (List Bool)) (row : List Bool) (n : ℕ) → n ≡ k + length rows

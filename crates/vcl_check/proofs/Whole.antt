@@ -1,8 +1,8 @@
 -- The first fault of a whole text.
 use Rattle.std.proofs.Common.{◌≡◌, ℕ, ◌≤◌, Bool, false, List, ◌⊎◌, inl, inr, refl, subst, Option, Some, None, ◌||◌, ◌&&◌, ◌==◌, nat_lt, arith}
 use Rattle.std.proofs.lemmas.Bool.Decides.{nat_tests}
-use Rattle.vcl_calls.specs.declared.call_graph.Call.{Call}
-use Rattle.vcl_calls.specs.Circles.{OnCircleAt, IsLeastPlace}
+use Rattle.vcl_symbols.specs.declared.call_graph.Call.{Call}
+use Rattle.vcl_symbols.specs.Circles.{OnCircleAt, IsLeastPlace}
 use Rattle.vcl_tree.specs.Faults.{comes_before}
 use Rattle.vcl_tree.specs.declared.error.Fault.{Fault}
 use Rattle.vcl_tree.specs.declared.error.Refusal.TheVariants as refusal

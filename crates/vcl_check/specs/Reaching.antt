@@ -1,8 +1,8 @@
 -- Calls of subroutines, and from which built-in ones each is reached.
 use Rattle.std.specs.Prelude.{ℕ, suc, ◌↔◌, Bool, true, false, List, [], ◌∷◌, ◌++◌, map, filter_map, Option, Some, None, position, slice_index_or, if◌then◌else◌}
 use Rattle.std.specs.Str.{bytes_eq}
-use Rattle.vcl_calls.specs.declared.call_graph.Call.{Call}
-use Rattle.vcl_calls.specs.Calls.{Reaches, Marked}
+use Rattle.vcl_symbols.specs.declared.call_graph.Call.{Call}
+use Rattle.vcl_symbols.specs.Calls.{Reaches, Marked}
 use Rattle.vcl_language.specs.Names.{is_reserved, subroutine_named}
 use Rattle.vcl_language.specs.declared.scope.Subroutine.{Subroutine}
 use Rattle.vcl_language.specs.declared.subroutines.TheConstants.{SUBROUTINES, SUBROUTINE_NAMES}

@@ -1,6 +1,6 @@
 -- What is asked of a text, each by itself: a text that is sound keeps all of it.
 use Rattle.std.specs.Prelude.{ℕ, ◌≡◌, true, Bool, List, Contains, length, None, slice_get, Some}
-use Rattle.vcl_calls.specs.Circles.{OnCircleAt}
+use Rattle.vcl_symbols.specs.Circles.{OnCircleAt}
 use Rattle.vcl_language.specs.declared.scope.Subroutine.{Subroutine}
 use Rattle.vmod_host.specs.declared.signature.Stored.{Stored}
 use Rattle.vcl_tree.specs.Phrase.{Phrase}

@@ -3,8 +3,8 @@ use Rattle.std.specs.Prelude.{ℕ, ◌≡◌, ◌⊎◌, ◌<◌, Bool, true, fa
 use Rattle.std.specs.List.{list_any}
 use Rattle.vcl_tree.specs.declared.error.VclError.{VclError}
 use Rattle.vcl_tree.specs.declared.error.VclError.TheVariants as error
-use Rattle.vcl_calls.specs.Circles.{OnCircleAt}
-use Rattle.vcl_calls.specs.declared.call_graph.Call.{Call}
+use Rattle.vcl_symbols.specs.Circles.{OnCircleAt}
+use Rattle.vcl_symbols.specs.declared.call_graph.Call.{Call}
 use Rattle.vcl_values.specs.Readings.{HasNoReading, NestsTooDeep}
 use Rattle.vmod_host.specs.declared.signature.Stored.{Stored}
 use Rattle.vcl_tree.specs.declared.error.Fault.{Fault}

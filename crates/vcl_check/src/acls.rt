@@ -7,7 +7,7 @@ use crate::rules::unless;
 use crate::told::{fault_at, lesser};
 use std::alloc::{AllocError, Global};
 use units::Text;
-use vcl_calls::NameIndex;
+use vcl_symbols::NameIndex;
 use vcl_tree::{AclEntry, Fault, Mask, Refusal, behind, dot_in};
 
 fn is_digit(byte: u8) -> bool

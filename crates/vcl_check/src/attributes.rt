@@ -11,8 +11,8 @@ use crate::known::{Tables, Thing};
 use crate::rules::unless;
 use crate::told::{fault_at, lesser};
 use std::alloc::{AllocError, Global};
-use vcl_calls::NameIndex;
 use vcl_language::{AttributeKind, Owner, attribute_named};
+use vcl_symbols::NameIndex;
 use vcl_tree::{Attribute, AttributeValue, Fault, Name, Refusal};
 
 fn value_place(value: &AttributeValue) -> u32

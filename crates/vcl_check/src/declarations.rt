@@ -10,9 +10,9 @@ use crate::mentions::{Mention, MentionKind};
 use crate::rules::unless;
 use crate::told::{fault_at, lesser};
 use std::alloc::{AllocError, Global};
-use units::lost;
-use vcl_calls::NameIndex;
+use units::out_of_memory;
 use vcl_language::{is_module, is_reserved, maker_named, subroutine_named};
+use vcl_symbols::NameIndex;
 use vcl_tree::{Fault, Refusal};
 use vmod_host::Stored;
 
@@ -122,7 +122,7 @@ fn index_of<'t>(alloc: Global, mentions: Vec<Mention<'t>>) -> Result<NameIndex<'
     ensures { IfOk result (λ names. names ≡ names_of mentions.entry.items) }
 {
     let Ok(names) = names_of(alloc, mentions.as_slice()) else {
-        return Err(lost(mentions));
+        return Err(out_of_memory(mentions));
     };
     drop(mentions);
     NameIndex::of(alloc, names)
@@ -138,10 +138,10 @@ pub fn tables_of<'t>(
 {
     let things = things_of(alloc, mentions)?;
     let Ok(imports) = imported_names(alloc, mentions) else {
-        return Err(lost(things));
+        return Err(out_of_memory(things));
     };
     let Ok(names) = declared_names(alloc, mentions) else {
-        return Err(lost((things, imports)));
+        return Err(out_of_memory((things, imports)));
     };
     Ok(Tables {
         imports,

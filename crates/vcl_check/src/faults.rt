@@ -17,8 +17,8 @@ use crate::reaching::{graph_of, numbers_of, roots_of, rows_of};
 use crate::statements::block;
 use crate::told::{fault_at, lesser};
 use std::alloc::{AllocError, Global};
-use units::{Sequence, lost};
-use vcl_calls::NameIndex;
+use units::{Sequence, out_of_memory};
+use vcl_symbols::NameIndex;
 use vcl_tree::{Block, Fault, Item, Refusal};
 use vcl_values::Pattern;
 use vmod_host::Stored;
@@ -119,13 +119,13 @@ fn names_in<'t>(
 {
     let said = mentions(alloc, items)?;
     let Ok(declared) = declarations(alloc, said.as_slice()) else {
-        return Err(lost(said));
+        return Err(out_of_memory(said));
     };
     let Ok(tables) = tables_of(alloc, said.as_slice(), stored) else {
-        return Err(lost((said, declared)));
+        return Err(out_of_memory((said, declared)));
     };
     let Ok(numbers) = numbers_of(alloc, declared.as_slice()) else {
-        return Err(lost(((said, declared), tables)));
+        return Err(out_of_memory(((said, declared), tables)));
     };
     Ok(Names {
         said,
@@ -169,15 +169,15 @@ fn found_by(
     let declared = names.declared.as_slice();
     let graph = graph_of(alloc, &names.tables, &names.numbers, said)?;
     let Ok(reached) = rows_of(alloc, &graph) else {
-        return Err(lost(graph));
+        return Err(out_of_memory(graph));
     };
     let Ok(on_circle) = graph.first_on_circle(alloc) else {
-        return Err(lost((graph, reached)));
+        return Err(out_of_memory((graph, reached)));
     };
     drop(graph);
     let rows = reached.as_slice();
     let Ok(inside) = among_items(alloc, &names.tables, &names.numbers, rows, items) else {
-        return Err(lost(reached));
+        return Err(out_of_memory(reached));
     };
     drop(reached);
     let tried = try_patterns(alloc, said)?;

@@ -9,11 +9,11 @@ use crate::form::Use;
 use crate::seen::Meaning;
 use directors::DirectorKind;
 use std::marker::Model;
-use vcl_calls::NameIndex;
 use vcl_language::{
     Function, Method, Module, Parameter, Scope, Takes, Variable, Word, function_named, maker_named,
     method_of, variable_named, word_named,
 };
+use vcl_symbols::NameIndex;
 use vcl_tree::{behind, dot_in, ends_in};
 use vcl_values::Kind;
 use vmod_host::{Signature, Stored, stored_number};

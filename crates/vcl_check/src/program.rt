@@ -7,7 +7,7 @@ use crate::mentions::mentions;
 use crate::patterns::pattern_texts;
 use std::alloc::{AllocError, Global};
 use units::Sequence;
-use vcl_calls::NameIndex;
+use vcl_symbols::NameIndex;
 use vcl_tree::{Refusal, Tree, VclError};
 use vcl_values::Pattern;
 use vmod_host::{Stored, VmodTable};

@@ -1,14 +1,14 @@
 // Calls of subroutines, and from which built-in ones each is reached.
 ghost use Rattle.std.specs.Prelude.{◌≡◌, ◌∷◌, ◌++◌, ◌<◌, [], map, IfOk, IfSome, OnOk, ◌≤◌, length, slice_index_or, false};
-ghost use Rattle.vcl_calls.specs.Calls.{AreWithin};
+ghost use Rattle.vcl_symbols.specs.Calls.{AreWithin};
 ghost use Rattle.vcl_check.specs.Reaching.{numbered_names, number_in, is_subroutine, callee, call_of, calls_of, AreReached, marking, reaching, roots_of};
 
 use crate::known::{Tables, Thing};
 use crate::mentions::{Mention, MentionKind};
 use std::alloc::{AllocError, Global};
 use units::Sequence;
-use vcl_calls::{Call, CallGraph, NameIndex};
 use vcl_language::{SUBROUTINE_NAMES, SUBROUTINES, Subroutine, is_reserved, subroutine_named};
+use vcl_symbols::{Call, CallGraph, NameIndex};
 
 fn push_names<'t>(out: &mut Vec<&'t [u8]>, names: &[&'static str]) -> Result<(), AllocError>
     ensures { OnOk result (map (λ name. name.now) out.new.items ≡ map (λ name. name.now) out.old.items ++ map (λ name. name.now) names.now) }

@@ -8,8 +8,8 @@ ghost use Rattle.vcl_code.specs.Sights.{target_seen, read_seen};
 
 use crate::callees::{Builtin, builtin_of};
 use std::marker::Model;
-use vcl_calls::NameIndex;
 use vcl_context::{Message, Variable, field_of, variable_of};
+use vcl_symbols::NameIndex;
 use vcl_tree::{behind, dot_in, ends_in};
 use vmod_host::{Stored, stored_number};
 

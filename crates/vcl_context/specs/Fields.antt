@@ -5,14 +5,11 @@ use Rattle.vcl_values.specs.declared.value.Value.TheVariants as value
 use Rattle.vcl_values.specs.Values.{text_of}
 use Rattle.http_heads.specs.declared.fields.Field.{Field}
 use Rattle.http_heads.specs.Fields.{first_value, replaced, without}
+use Rattle.http_heads.specs.Limits.{set_limit}
 use Rattle.vcl_context.specs.declared.context.Context.{Context}
 use Rattle.vcl_context.specs.declared.variable.Message.{Message}
 use Rattle.vcl_context.specs.declared.variable.Message.TheVariants as message
 use Rattle.vcl_context.specs.Carried.{is_field}
-
--- the most fields that a message has after a `set`
-abbrev pub most_fields : ℕ
-most_fields = 72
 
 abbrev pub fields_of : Message → Context → List Field
 fields_of message.Request c = c.request.head.fields
@@ -33,10 +30,10 @@ with_fields message.Response fields c = record c { response = record c.response 
 abbrev pub field_value : Message → List ℕ → Context → Value
 field_value message name c = value.String (first_value name (fields_of message c))
 
--- the fields with all of this name replaced by one, where it is a field and there are no more than 72 then
+-- the fields with all of this name replaced by one, where it is a field and there are no more than the limit then
 abbrev pub set_among : List ℕ → List ℕ → List Field → Option (List Field)
 set_among name text fields =
-    if is_field name text && nat_le (length (replaced name text fields)) most_fields then Some (replaced name text fields) else None
+    if is_field name text && nat_le (length (replaced name text fields)) set_limit then Some (replaced name text fields) else None
 
 -- what a context becomes where a field is set to a value, of which the text is taken; None where the subroutine ends as `fail`
 abbrev pub field_set : Message → List ℕ → Value → Context → Option Context

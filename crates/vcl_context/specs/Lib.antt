@@ -3,6 +3,7 @@ pub mod Fields
 pub mod Kinds
 pub mod Names
 pub mod Reading
+pub mod Reasons
 pub mod Setting
 pub mod Outcomes
-pub mod Unfilled
+pub mod Initial

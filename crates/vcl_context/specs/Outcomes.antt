@@ -8,8 +8,3 @@ abbrev pub Sets : {T E : Type 0} → Result Setting E → T → T → Option T �
 Sets (Ok Done) old new due = due ≡ Some new
 Sets (Ok Refused) old new due = (due ≡ None) × (new ≡ old)
 Sets (Err e) old new due = new ≡ old
-
--- the same of a call that wants no memory
-abbrev pub SetsAlways : {T : Type 0} → Setting → T → T → Option T → Type 0
-SetsAlways Done old new due = due ≡ Some new
-SetsAlways Refused old new due = (due ≡ None) × (new ≡ old)

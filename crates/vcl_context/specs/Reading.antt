@@ -1,5 +1,7 @@
--- What each variable reads as (docs/VCL.md, "Variables").
+-- What each variable reads as (docs/VCL.md, "Variables"). A program has a default backend, to which a request is sent where none
+-- is chosen.
 use Rattle.std.specs.Prelude.{ℕ, ℤ, pos, negsuc, List, [], ◌∷◌, Option, Some, None}
+use Rattle.vcl_values.specs.declared.value.Backend.{Backend as Chosen}
 use Rattle.vcl_values.specs.declared.value.Value.{Value}
 use Rattle.vcl_values.specs.declared.value.Value.TheVariants.{String, Int, Duration, Bool, Ip, Backend}
 use Rattle.http_heads.specs.declared.message.ResponseHead.{ResponseHead}
@@ -31,19 +33,24 @@ abbrev pub time_or_unset : Option ℤ → Value
 time_or_unset None = Duration (negsuc 999)
 time_or_unset (Some time) = Duration time
 
-abbrev pub request_value : RequestVariable → ClientRequest → Value
-request_value request.Method r = String (Some r.head.method)
-request_value request.Url r = String (Some r.head.url)
-request_value request.Proto r = String (Some (version_text r.head.version))
-request_value request.Restarts r = Int r.restarts
-request_value request.Ttl r = time_or_unset r.ttl
-request_value request.Grace r = time_or_unset r.grace
-request_value request.BackendHint r = Backend r.backend_hint
-request_value request.HashAlwaysMiss r = Bool r.hash_always_miss
-request_value request.HashIgnoreBusy r = Bool r.hash_ignore_busy
-request_value request.HashIgnoreVary r = Bool r.hash_ignore_vary
-request_value request.IsHitmiss r = Bool r.is_hitmiss
-request_value request.IsHitpass r = Bool r.is_hitpass
+-- the default backend is read where none is chosen (Varnish Reference Manual, VCL-Variables, "req.backend_hint", "bereq.backend")
+abbrev pub chosen_or : Option Chosen → Option Chosen → Option Chosen
+chosen_or default None = default
+chosen_or default (Some backend) = Some backend
+
+abbrev pub request_value : Option Chosen → RequestVariable → ClientRequest → Value
+request_value default request.Method r = String (Some r.head.method)
+request_value default request.Url r = String (Some r.head.url)
+request_value default request.Proto r = String (Some (version_text r.head.version))
+request_value default request.Restarts r = Int r.restarts
+request_value default request.Ttl r = time_or_unset r.ttl
+request_value default request.Grace r = time_or_unset r.grace
+request_value default request.BackendHint r = Backend (chosen_or default r.backend_hint)
+request_value default request.HashAlwaysMiss r = Bool r.hash_always_miss
+request_value default request.HashIgnoreBusy r = Bool r.hash_ignore_busy
+request_value default request.HashIgnoreVary r = Bool r.hash_ignore_vary
+request_value default request.IsHitmiss r = Bool r.is_hitmiss
+request_value default request.IsHitpass r = Bool r.is_hitpass
 
 abbrev pub object_value : ObjectVariable → CachedObject → Value
 object_value object.Status o = Int (pos o.head.status)
@@ -55,14 +62,14 @@ object_value object.Age o = Duration o.age
 object_value object.Grace o = Duration o.grace
 object_value object.Keep o = Duration o.keep
 
-abbrev pub fetch_request_value : FetchRequestVariable → FetchRequest → Value
-fetch_request_value fetch.Method r = String (Some r.head.method)
-fetch_request_value fetch.Url r = String (Some r.head.url)
-fetch_request_value fetch.Proto r = String (Some (version_text r.head.version))
-fetch_request_value fetch.Backend r = Backend r.backend
-fetch_request_value fetch.Retries r = Int r.retries
-fetch_request_value fetch.Uncacheable r = Bool r.uncacheable
-fetch_request_value fetch.IsBgfetch r = Bool r.is_bgfetch
+abbrev pub fetch_request_value : Option Chosen → FetchRequestVariable → FetchRequest → Value
+fetch_request_value default fetch.Method r = String (Some r.head.method)
+fetch_request_value default fetch.Url r = String (Some r.head.url)
+fetch_request_value default fetch.Proto r = String (Some (version_text r.head.version))
+fetch_request_value default fetch.Backend r = Backend (chosen_or default r.backend)
+fetch_request_value default fetch.Retries r = Int r.retries
+fetch_request_value default fetch.Uncacheable r = Bool r.uncacheable
+fetch_request_value default fetch.IsBgfetch r = Bool r.is_bgfetch
 
 abbrev pub fetch_response_value : FetchResponseVariable → FetchResponse → Value
 fetch_response_value fetched.Status r = Int (pos r.head.status)
@@ -81,14 +88,14 @@ response_value response.Status head = Int (pos head.status)
 response_value response.Reason head = String (Some head.reason)
 response_value response.Proto head = String (Some (version_text head.version))
 
--- the body is what was made, though the language lets nothing read it
-abbrev pub value_of : Variable → Context → Value
-value_of variable.ClientIp c = Ip c.peer.address
-value_of variable.ServerIp c = Ip own_address
-value_of variable.ClientIdentity c = String (Some c.peer.identity)
-value_of (variable.Request v) c = request_value v c.request
-value_of (variable.Object v) c = object_value v c.object
-value_of (variable.FetchRequest v) c = fetch_request_value v c.fetch_request
-value_of (variable.FetchResponse v) c = fetch_response_value v c.fetch_response
-value_of (variable.Response v) c = response_value v c.response
-value_of variable.Body c = String c.body
+-- with this default backend; the body is what was made, though the language lets nothing read it
+abbrev pub value_of : Option Chosen → Variable → Context → Value
+value_of default variable.ClientIp c = Ip c.peer.address
+value_of default variable.ServerIp c = Ip own_address
+value_of default variable.ClientIdentity c = String (Some c.peer.identity)
+value_of default (variable.Request v) c = request_value default v c.request
+value_of default (variable.Object v) c = object_value v c.object
+value_of default (variable.FetchRequest v) c = fetch_request_value default v c.fetch_request
+value_of default (variable.FetchResponse v) c = fetch_response_value v c.fetch_response
+value_of default (variable.Response v) c = response_value v c.response
+value_of default variable.Body c = String c.body

@@ -1,7 +1,7 @@
 -- What a context becomes where a variable is set, and where the subroutine ends as `fail` instead (docs/VCL.md, "Variables").
 -- A text is taken of whatever value a STRING is set to. A variable that is never set, and a value of another type, have no
 -- meaning here: the checker lets neither through.
-use Rattle.std.specs.Prelude.{ℤ, pos, ◌||◌, unsigned_abs, Option, Some, None, option_map, if◌then◌else◌}
+use Rattle.std.specs.Prelude.{ℤ, pos, ◌||◌, unsigned_abs, Option, Some, None, option_map, unwrap_or, if◌then◌else◌}
 use Rattle.std.specs.Int.Signed.{lt_z}
 use Rattle.vcl_values.specs.declared.value.Value.{Value}
 use Rattle.vcl_values.specs.declared.value.Value.TheVariants as value
@@ -23,6 +23,7 @@ use Rattle.vcl_context.specs.declared.variable.FetchResponseVariable.TheVariants
 use Rattle.vcl_context.specs.declared.variable.ResponseVariable.{ResponseVariable}
 use Rattle.vcl_context.specs.declared.variable.ResponseVariable.TheVariants as response
 use Rattle.vcl_context.specs.Carried.{is_token, is_target, is_reason, is_status}
+use Rattle.vcl_context.specs.Reasons.{reason_of}
 
 -- the parts of heads, where the line carries them
 abbrev pub method_set : Value → RequestHead → Option RequestHead
@@ -34,8 +35,12 @@ url_set v head = if is_target (text_of v) then Some (record head { url = text_of
 abbrev pub reason_set : Value → ResponseHead → Option ResponseHead
 reason_set v head = if is_reason (text_of v) then Some (record head { reason = text_of v }) else None
 
+-- a status of the table sets its reason too, and another keeps the one that is there
+abbrev pub with_status : ℤ → ResponseHead → ResponseHead
+with_status number head = record head { status = unsigned_abs number; reason = unwrap_or (reason_of number) head.reason }
+
 abbrev pub status_of_number : ℤ → ResponseHead → Option ResponseHead
-status_of_number number head = if is_status number then Some (record head { status = unsigned_abs number }) else None
+status_of_number number head = if is_status number then Some (with_status number head) else None
 
 abbrev pub status_set : Value → ResponseHead → Option ResponseHead
 status_set (value.Int number) head = status_of_number number head

@@ -7,9 +7,7 @@ ghost use Rattle.httparse.specs.Grammar.{is_uri_byte};
 ghost use Rattle.vcl_context.specs.Carried.{is_token, is_target, is_reason, is_status, is_field, is_line};
 
 use http_header::is_token_char;
-
-/// The most bytes of a field's name.
-const LONGEST_NAME: usize = 65_535;
+use http_heads::MAX_NAME;
 
 pub(crate) fn is_token(text: &[u8]) -> bool
     ensures { result ≡ is_token text.now }
@@ -60,7 +58,7 @@ pub(crate) fn is_status(number: i64) -> bool
 pub(crate) fn is_field(name: &[u8], value: &[u8]) -> bool
     ensures { result ≡ is_field name.now value.now }
 {
-    is_token(name) && name.len() <= LONGEST_NAME && is_line(value)
+    is_token(name) && name.len() <= MAX_NAME && is_line(value)
 }
 
 // No CR, LF and NUL.

@@ -6,9 +6,9 @@ ghost use Rattle.vcl_context.specs.Outcomes.{Sets};
 
 use crate::carried::is_field;
 use crate::context::Context;
-use crate::setting::{MOST_FIELDS, Setting};
+use crate::setting::Setting;
 use crate::variable::Message;
-use http_heads::{FieldError, Fields};
+use http_heads::{FieldError, Fields, MAX_SET_FIELDS};
 use std::alloc::{AllocError, Global};
 use units::{Text, fold_eq};
 use vcl_values::Value;
@@ -74,7 +74,7 @@ impl Context {
 fn set_among(fields: &mut Fields, name: &Text, text: &Text) -> Result<Setting, AllocError>
     ensures { Sets result fields.old fields.new (set_among name.now text.now fields.old) }
 {
-    if !is_field(name.bytes(), text.bytes()) || others(fields, name.bytes()) >= MOST_FIELDS {
+    if !is_field(name.bytes(), text.bytes()) || others(fields, name.bytes()) >= MAX_SET_FIELDS {
         return Ok(Setting::Refused);
     }
     match fields.set(name, text) {

@@ -3,22 +3,27 @@
 //!
 //! Contract for the layer above: `specs/Reading.antt` says what each variable reads as, and `specs/Setting.antt` what a
 //! context becomes where a variable is set, or that the subroutine ends as `fail` there; the calls here do just that. The
-//! variables are those of `vcl_language`, with the same types, and are set where its table lets them be set.
+//! variables are those of `vcl_language`, with the same types, and are set where its table lets them be set. The reasons that go
+//! with statuses are in `specs/Reasons.antt`. `Turn` and its parts are types alone: what a run wants, is given and ends with.
 #![tactic(auto)]
 
-mod blank;
 mod carried;
 mod context;
 mod fields;
+mod initial;
 mod names;
 mod reading;
+mod reasons;
 mod setting;
+mod turn;
 mod variable;
 
-pub use blank::{given_status, made_body, peer_at, uncount, unfilled};
 pub use context::{CachedObject, ClientRequest, Context, FetchRequest, FetchResponse, Peer};
+pub use initial::{body_or_empty, empty_context, peer_at, status_or_503, uncount};
 pub use names::{all_variables, field_of, variable_of};
-pub use setting::{MOST_FIELDS, Setting};
+pub use reasons::reason_or_unknown;
+pub use setting::Setting;
+pub use turn::{Answer, Command, Return, Turn};
 pub use variable::{
     FetchRequestVariable, FetchResponseVariable, Message, ObjectVariable, RequestVariable,
     ResponseVariable, Variable,

@@ -1,10 +1,10 @@
 // What each variable reads as.
-ghost use Rattle.std.specs.Prelude.{◌≡◌, IfOk};
+ghost use Rattle.std.specs.Prelude.{◌≡◌, IfOk, option_map};
 ghost use Rattle.vcl_values.specs.Values.{kind_of};
 ghost use Rattle.http_heads.specs.Printed.{version_text};
 ghost use Rattle.vcl_values.specs.declared.value.Value.TheVariants.{String, Backend as BackendOf};
 ghost use Rattle.vcl_context.specs.Kinds.{kind_of_variable};
-ghost use Rattle.vcl_context.specs.Reading.{value_of, request_value, object_value, fetch_request_value, fetch_response_value, response_value, time_or_unset};
+ghost use Rattle.vcl_context.specs.Reading.{value_of, chosen_or, request_value, object_value, fetch_request_value, fetch_response_value, response_value, time_or_unset};
 
 use crate::context::{CachedObject, ClientRequest, Context, FetchRequest, FetchResponse};
 use crate::variable::{
@@ -23,18 +23,25 @@ const OWN_ADDRESS: [u8; 4] = [127, 0, 0, 1];
 const UNSET_TIME: i64 = -1000;
 
 impl Context {
-    /// What a variable reads as, a value of its type.
-    pub fn read(&self, alloc: Global, variable: Variable) -> Result<Value, AllocError>
-        ensures value { IfOk result (λ v. v ≡ value_of variable self.now) }
-        ensures kind { kind_of (value_of variable self.now) ≡ kind_of_variable variable }
+    /// What a variable reads as, a value of its type. `default` is the backend that a request is sent to where none is chosen.
+    pub fn read(
+        &self,
+        alloc: Global,
+        default: Option<&Backend>,
+        variable: Variable,
+    ) -> Result<Value, AllocError>
+        ensures value { IfOk result (λ v. v ≡ value_of (option_map (λ b. b.now) default.entry) variable self.now) }
+        ensures kind { kind_of (value_of (option_map (λ b. b.now) default.entry) variable self.now) ≡ kind_of_variable variable }
     {
         match variable {
             Variable::ClientIp => Ok(Value::Ip(self.peer.address)),
             Variable::ServerIp => Ok(Value::Ip(OWN_ADDRESS)),
             Variable::ClientIdentity => text_value(&self.peer.identity),
-            Variable::Request(request) => read_request(alloc, &self.request, request),
+            Variable::Request(request) => read_request(alloc, default, &self.request, request),
             Variable::Object(object) => read_object(&self.object, object),
-            Variable::FetchRequest(fetch) => read_fetch_request(alloc, &self.fetch_request, fetch),
+            Variable::FetchRequest(fetch) => {
+                read_fetch_request(alloc, default, &self.fetch_request, fetch)
+            }
             Variable::FetchResponse(fetched) => {
                 read_fetch_response(alloc, &self.fetch_response, fetched)
             }
@@ -46,10 +53,11 @@ impl Context {
 
 fn read_request(
     alloc: Global,
+    default: Option<&Backend>,
     request: &ClientRequest,
     variable: RequestVariable,
 ) -> Result<Value, AllocError>
-    ensures { IfOk result (λ v. v ≡ request_value variable request.now) }
+    ensures { IfOk result (λ v. v ≡ request_value (option_map (λ b. b.now) default.entry) variable request.now) }
 {
     match variable {
         RequestVariable::Method => text_value(&request.head.method),
@@ -58,7 +66,7 @@ fn read_request(
         RequestVariable::Restarts => Ok(Value::Int(request.restarts)),
         RequestVariable::Ttl => Ok(time_value(request.ttl)),
         RequestVariable::Grace => Ok(time_value(request.grace)),
-        RequestVariable::BackendHint => backend_value(&request.backend_hint),
+        RequestVariable::BackendHint => chosen_value(default, &request.backend_hint),
         RequestVariable::HashAlwaysMiss => Ok(Value::Bool(request.hash_always_miss)),
         RequestVariable::HashIgnoreBusy => Ok(Value::Bool(request.hash_ignore_busy)),
         RequestVariable::HashIgnoreVary => Ok(Value::Bool(request.hash_ignore_vary)),
@@ -84,16 +92,17 @@ fn read_object(object: &CachedObject, variable: ObjectVariable) -> Result<Value,
 
 fn read_fetch_request(
     alloc: Global,
+    default: Option<&Backend>,
     request: &FetchRequest,
     variable: FetchRequestVariable,
 ) -> Result<Value, AllocError>
-    ensures { IfOk result (λ v. v ≡ fetch_request_value variable request.now) }
+    ensures { IfOk result (λ v. v ≡ fetch_request_value (option_map (λ b. b.now) default.entry) variable request.now) }
 {
     match variable {
         FetchRequestVariable::Method => text_value(&request.head.method),
         FetchRequestVariable::Url => text_value(&request.head.url),
         FetchRequestVariable::Proto => version_value(alloc, request.head.version),
-        FetchRequestVariable::Backend => backend_value(&request.backend),
+        FetchRequestVariable::Backend => chosen_value(default, &request.backend),
         FetchRequestVariable::Retries => Ok(Value::Int(request.retries)),
         FetchRequestVariable::Uncacheable => Ok(Value::Bool(request.uncacheable)),
         FetchRequestVariable::IsBgfetch => Ok(Value::Bool(request.is_bgfetch)),
@@ -165,6 +174,25 @@ fn time_value(time: Option<i64>) -> Value
     ensures { result ≡ time_or_unset time }
 {
     Value::Duration(time.unwrap_or(UNSET_TIME))
+}
+
+fn default_value(default: Option<&Backend>) -> Result<Value, AllocError>
+    ensures { IfOk result (λ v. v ≡ BackendOf (option_map (λ b. b.now) default.entry)) }
+{
+    match default {
+        Some(backend) => Ok(Value::Backend(Some(backend.copy()?))),
+        None => Ok(Value::Backend(None)),
+    }
+}
+
+// What a choice of a backend reads as.
+fn chosen_value(default: Option<&Backend>, chosen: &Option<Backend>) -> Result<Value, AllocError>
+    ensures { IfOk result (λ v. v ≡ BackendOf (chosen_or (option_map (λ b. b.now) default.entry) chosen.now)) }
+{
+    match chosen {
+        Some(_) => backend_value(chosen),
+        None => default_value(default),
+    }
 }
 
 fn backend_value(backend: &Option<Backend>) -> Result<Value, AllocError>

@@ -1,23 +1,22 @@
 // Setting variables.
-ghost use Rattle.std.specs.Prelude.{◌≡◌, true};
+ghost use Rattle.std.specs.Prelude.{◌≡◌, true, unwrap_or};
 ghost use Rattle.vcl_values.specs.Values.{kind_of};
 ghost use Rattle.vcl_context.specs.Kinds.{accepts};
 ghost use Rattle.vcl_context.specs.Setting.{variable_set};
 ghost use Rattle.vcl_context.specs.Setting as due;
-ghost use Rattle.vcl_context.specs.Outcomes.{Sets, SetsAlways};
+ghost use Rattle.vcl_context.specs.Outcomes.{Sets};
 
 use crate::carried::{is_reason, is_status, is_target, is_token};
 use crate::context::{ClientRequest, Context, FetchRequest, FetchResponse};
 use crate::reading::backend_copy;
+use crate::reasons::reason_of;
 use crate::variable::{
     FetchRequestVariable, FetchResponseVariable, RequestVariable, ResponseVariable, Variable,
 };
 use http_heads::{RequestHead, ResponseHead};
 use std::alloc::{AllocError, Global};
+use units::Text;
 use vcl_values::Value;
-
-/// The most fields that a message has after a `set`.
-pub const MOST_FIELDS: usize = 72;
 
 /// What a `set` comes to.
 #[derive(Clone, Copy, Debug, PartialEq, Eq)]
@@ -118,7 +117,7 @@ fn set_fetch_response(
 {
     match (variable, value) {
         (FetchResponseVariable::Status, Value::Int(number)) => {
-            return Ok(set_status(&mut response.head, *number));
+            return set_status(alloc, &mut response.head, *number);
         }
         (FetchResponseVariable::Reason, _) => return set_reason(alloc, &mut response.head, value),
         (FetchResponseVariable::Ttl, Value::Duration(time)) => response.ttl = time_from_none(*time),
@@ -146,7 +145,7 @@ fn set_response(
     ensures { Sets result head.old head.new (due.response_set variable value.now head.old) }
 {
     match (variable, value) {
-        (ResponseVariable::Status, Value::Int(number)) => Ok(set_status(head, *number)),
+        (ResponseVariable::Status, Value::Int(number)) => set_status(alloc, head, *number),
         (ResponseVariable::Reason, _) => set_reason(alloc, head, value),
         _ => unreachable!(),
     }
@@ -185,14 +184,26 @@ fn set_reason(alloc: Global, head: &mut ResponseHead, value: &Value) -> Result<S
     Ok(Setting::Done)
 }
 
-fn set_status(head: &mut ResponseHead, number: i64) -> Setting
-    ensures { SetsAlways result head.old head.new (due.status_of_number number head.old) }
+// The reason that goes with the status, where there is one.
+fn put_reason(head: &mut ResponseHead, reason: Option<Text>)
+    ensures { head.new ≡ record head.old { reason = unwrap_or reason head.old.reason } }
+{
+    match reason {
+        Some(reason) => head.reason = reason,
+        None => {}
+    }
+}
+
+fn set_status(alloc: Global, head: &mut ResponseHead, number: i64) -> Result<Setting, AllocError>
+    ensures { Sets result head.old head.new (due.status_of_number number head.old) }
 {
     if !is_status(number) {
-        return Setting::Refused;
+        return Ok(Setting::Refused);
     }
+    let reason = reason_of(alloc, number)?;
+    put_reason(head, reason);
     head.status = number.unsigned_abs() as u16;
-    Setting::Done
+    Ok(Setting::Done)
 }
 
 // A negative time unsets.

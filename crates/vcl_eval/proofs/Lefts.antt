@@ -6,10 +6,10 @@ use Rattle.vcl_code.specs.declared.node.Branch.{Branch}
 use Rattle.vcl_code.specs.declared.node.Choice.{Choice}
 use Rattle.vcl_code.specs.declared.node.Choice.TheVariants as choice
 use Rattle.vcl_program.specs.declared.code.Code.{Code}
-use Rattle.vcl_turns.specs.declared.turn.Answer.{Answer}
-use Rattle.vcl_turns.specs.declared.turn.Command.TheVariants as command
-use Rattle.vcl_turns.specs.declared.turn.Return.TheVariants.{Fail}
-use Rattle.vcl_turns.specs.declared.turn.Turn.TheVariants as turn
+use Rattle.vcl_context.specs.declared.turn.Answer.{Answer}
+use Rattle.vcl_context.specs.declared.turn.Command.TheVariants as command
+use Rattle.vcl_context.specs.declared.turn.Return.TheVariants.{Fail}
+use Rattle.vcl_context.specs.declared.turn.Turn.TheVariants as turn
 use Rattle.vcl_operands.specs.Falls.{ChoicesFall}
 use Rattle.vcl_operands.specs.declared.evaluation.Outcome.{Outcome}
 use Rattle.vcl_operands.specs.declared.evaluation.Outcome.TheVariants as outcome

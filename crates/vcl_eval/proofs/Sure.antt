@@ -9,11 +9,11 @@ use Rattle.vcl_context.specs.declared.variable.Message.{Message}
 use Rattle.vcl_code.specs.declared.node.Action.{Action}
 use Rattle.vcl_code.specs.declared.node.Block.TheVariants.{Then}
 use Rattle.vcl_program.specs.declared.code.Code.{Code}
-use Rattle.vcl_turns.specs.declared.turn.Answer.{Answer}
-use Rattle.vcl_turns.specs.declared.turn.Answer.TheVariants as answer
-use Rattle.vcl_turns.specs.declared.turn.Return.{Return}
-use Rattle.vcl_turns.specs.declared.turn.Turn.{Turn}
-use Rattle.vcl_turns.specs.declared.turn.Turn.TheVariants as turn
+use Rattle.vcl_context.specs.declared.turn.Answer.{Answer}
+use Rattle.vcl_context.specs.declared.turn.Answer.TheVariants as answer
+use Rattle.vcl_context.specs.declared.turn.Return.{Return}
+use Rattle.vcl_context.specs.declared.turn.Turn.{Turn}
+use Rattle.vcl_context.specs.declared.turn.Turn.TheVariants as turn
 use Rattle.vcl_operands.specs.Outs.{Out, On, Ends, Asks, Strays, and_then, IsSure, number_of}
 use Rattle.vcl_operands.specs.Nodes.{world, value_at, given_number}
 use Rattle.vcl_operands.proofs.Binds.{sure-along}

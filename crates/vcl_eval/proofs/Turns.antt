@@ -4,9 +4,9 @@ use Rattle.std.proofs.Common.{◌≡◌, ℤ, List, Option, Some, Result, Ok, Er
 use Rattle.vcl_values.specs.declared.value.Value.{Value}
 use Rattle.vmod_host.specs.declared.signature.Stored.{Stored}
 use Rattle.vcl_program.specs.declared.code.Code.{Code}
-use Rattle.vcl_turns.specs.declared.turn.Answer.{Answer}
-use Rattle.vcl_turns.specs.declared.turn.Answer.TheVariants as answer
-use Rattle.vcl_turns.specs.declared.turn.Turn.{Turn}
+use Rattle.vcl_context.specs.declared.turn.Answer.{Answer}
+use Rattle.vcl_context.specs.declared.turn.Answer.TheVariants as answer
+use Rattle.vcl_context.specs.declared.turn.Turn.{Turn}
 use Rattle.vcl_operands.specs.declared.evaluation.Outcome.{Outcome}
 use Rattle.vcl_operands.specs.declared.evaluation.Outcome.TheVariants as outcome
 use Rattle.vcl_operands.specs.declared.frame.Frame.{Frame}

@@ -3,6 +3,5 @@ pub mod Returns
 pub mod Runs
 pub mod Statements
 pub mod States
-pub mod Statuses
 pub mod Turns
 pub mod Weights

@@ -2,11 +2,11 @@
 use Rattle.std.specs.Prelude.{ℕ, ℤ, List, Option, Some, None}
 use Rattle.vmod_host.specs.declared.signature.Stored.{Stored}
 use Rattle.vcl_program.specs.declared.code.Code.{Code}
-use Rattle.vcl_turns.specs.declared.turn.Answer.{Answer}
-use Rattle.vcl_turns.specs.declared.turn.Answer.TheVariants.{Number}
-use Rattle.vcl_turns.specs.declared.turn.Command.TheVariants.{Ban}
-use Rattle.vcl_turns.specs.declared.turn.Return.{Return}
-use Rattle.vcl_turns.specs.declared.turn.Return.TheVariants.{Fail}
+use Rattle.vcl_context.specs.declared.turn.Answer.{Answer}
+use Rattle.vcl_context.specs.declared.turn.Answer.TheVariants.{Number}
+use Rattle.vcl_context.specs.declared.turn.Command.TheVariants.{Ban}
+use Rattle.vcl_context.specs.declared.turn.Return.{Return}
+use Rattle.vcl_context.specs.declared.turn.Return.TheVariants.{Fail}
 use Rattle.vcl_operands.specs.declared.evaluation.Outcome.{Outcome}
 use Rattle.vcl_operands.specs.declared.evaluation.Outcome.TheVariants as outcome
 use Rattle.vcl_operands.specs.Outs.{Out, Ends, and_then, ask}

@@ -5,10 +5,10 @@ use Rattle.vcl_values.specs.declared.value.Value.TheVariants as value
 use Rattle.vcl_context.specs.Carried.{is_status, is_reason}
 use Rattle.vcl_code.specs.declared.node.ReturnWord.{ReturnWord}
 use Rattle.vcl_code.specs.declared.node.ReturnWord.TheVariants as word
-use Rattle.vcl_turns.specs.declared.turn.Return.{Return}
-use Rattle.vcl_turns.specs.declared.turn.Return.TheVariants as ending
+use Rattle.vcl_context.specs.declared.turn.Return.{Return}
+use Rattle.vcl_context.specs.declared.turn.Return.TheVariants as ending
 use Rattle.vcl_operands.specs.Values.{as_text}
-use Rattle.vcl_eval.specs.Statuses.{reason_of}
+use Rattle.vcl_context.specs.Reasons.{reason_or_unknown}
 
 -- a status from 200 to 999, and a reason that the line carries
 abbrev pub answered : (ℤ → List ℕ → Return) → ℤ → List ℕ → Option Return
@@ -26,14 +26,14 @@ plain word.Fetch = Some (Some ending.Fetch)
 plain word.Abandon = Some (Some ending.Abandon)
 plain word.Retry = Some (Some ending.Retry)
 plain word.Ok = Some (Some ending.Ok)
-plain word.Error = Some (answered ending.Error (pos 503) (reason_of (pos 503)))
+plain word.Error = Some (answered ending.Error (pos 503) (reason_or_unknown (pos 503)))
 plain word.Fail = Some None
 plain word.Synth = None
 
 -- with one value: a status whose reason goes with it, or the time of `pass`
 abbrev pub with_one : ReturnWord → Value → Option (Option Return)
-with_one word.Synth (value.Int status) = Some (answered ending.Synth status (reason_of status))
-with_one word.Error (value.Int status) = Some (answered ending.Error status (reason_of status))
+with_one word.Synth (value.Int status) = Some (answered ending.Synth status (reason_or_unknown status))
+with_one word.Error (value.Int status) = Some (answered ending.Error status (reason_or_unknown status))
 with_one word.Pass (value.Duration time) = Some (Some (ending.PassFor time))
 with_one _ v = None
 

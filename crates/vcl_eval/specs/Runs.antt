@@ -16,7 +16,7 @@ use Rattle.vcl_code.specs.declared.node.Branch.{Branch}
 use Rattle.vcl_code.specs.declared.node.Choice.{Choice}
 use Rattle.vcl_code.specs.declared.node.Choice.TheVariants as choice
 use Rattle.vcl_program.specs.declared.code.Code.{Code}
-use Rattle.vcl_turns.specs.declared.turn.Answer.{Answer}
+use Rattle.vcl_context.specs.declared.turn.Answer.{Answer}
 use Rattle.vcl_operands.specs.Outs.{Out, Strays, and_then, fail}
 use Rattle.vcl_operands.specs.Nodes.{world, value_at}
 use Rattle.vcl_eval.specs.declared.finish.Finish.{Finish}

@@ -36,12 +36,12 @@ set_to variable v c = then_due (set_fitted variable c) (fitted (kind_of_variable
 abbrev pub field_to : Message → List ℕ → Value → Context → Option (Option Context)
 field_to message name v c = then_due (λ w. Some (field_set message name w c)) (fitted kind.String v)
 
--- `+=` is `set` to the old text with the value's text behind it
+-- `+=` is `set` to the old text with the value's text behind it; no backend is added to
 abbrev pub appended : Value → Value → Option Value
 appended old v = ok_of (text_value (text_of old ++ text_of v))
 
 abbrev pub append_to : Variable → Value → Context → Option (Option Context)
-append_to variable v c = then_due (λ w. set_to variable w c) (Some (appended (variable_value variable c) v))
+append_to variable v c = then_due (λ w. set_to variable w c) (Some (appended (variable_value None variable c) v))
 
 abbrev pub append_field : Message → List ℕ → Value → Context → Option (Option Context)
 append_field message name v c = then_due (λ w. field_to message name w c) (Some (appended (field_value message name c) v))

@@ -2,9 +2,9 @@
 use Rattle.std.specs.Prelude.{ℕ, ◌+◌, nat_lt, List, Option, Some, None, if◌then◌else◌}
 use Rattle.vcl_values.specs.declared.value.Value.{Value}
 use Rattle.vcl_context.specs.declared.context.Context.{Context}
-use Rattle.vcl_turns.specs.declared.turn.Answer.{Answer}
-use Rattle.vcl_turns.specs.declared.turn.Command.TheVariants.{Ban}
-use Rattle.vcl_turns.specs.declared.turn.Return.{Return}
+use Rattle.vcl_context.specs.declared.turn.Answer.{Answer}
+use Rattle.vcl_context.specs.declared.turn.Command.TheVariants.{Ban}
+use Rattle.vcl_context.specs.declared.turn.Return.{Return}
 use Rattle.vcl_operands.specs.Outs.{Out, On, Ends, Asks, Strays, and_then, fail, known_on, ask}
 use Rattle.vcl_operands.specs.Values.{as_text}
 

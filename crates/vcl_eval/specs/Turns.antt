@@ -3,9 +3,9 @@ use Rattle.std.specs.Prelude.{◌≡◌, ℤ, List, [], ◌∷◌, Option, Some,
 use Rattle.vmod_host.specs.declared.signature.Stored.{Stored}
 use Rattle.vcl_context.specs.declared.context.Context.{Context}
 use Rattle.vcl_program.specs.declared.code.Code.{Code}
-use Rattle.vcl_turns.specs.declared.turn.Answer.{Answer}
-use Rattle.vcl_turns.specs.declared.turn.Answer.TheVariants as answer
-use Rattle.vcl_turns.specs.declared.turn.Command.TheVariants as command
+use Rattle.vcl_context.specs.declared.turn.Answer.{Answer}
+use Rattle.vcl_context.specs.declared.turn.Answer.TheVariants as answer
+use Rattle.vcl_context.specs.declared.turn.Command.TheVariants as command
 use Rattle.vcl_operands.specs.Outs.{Out, On, Ends, Asks, Strays, IsSure}
 use Rattle.vcl_eval.specs.declared.live.Live.{Live}
 use Rattle.vcl_eval.specs.declared.machine.Asked.{Asked}
@@ -14,8 +14,8 @@ use Rattle.vcl_eval.specs.declared.machine.Machine.{Machine}
 use Rattle.vcl_eval.specs.declared.machine.Waiting.{Waiting}
 use Rattle.vcl_eval.specs.declared.task.Task.{Task}
 use Rattle.vcl_eval.specs.declared.task.Task.TheVariants as task
-use Rattle.vcl_turns.specs.declared.turn.Turn.{Turn}
-use Rattle.vcl_turns.specs.declared.turn.Turn.TheVariants as turn
+use Rattle.vcl_context.specs.declared.turn.Turn.{Turn}
+use Rattle.vcl_context.specs.declared.turn.Turn.TheVariants as turn
 use Rattle.vcl_eval.specs.States.{State}
 use Rattle.vcl_eval.specs.Lives.{rest_of, counted_on}
 

@@ -8,8 +8,8 @@ use Rattle.vcl_eval.specs.declared.finish.Finish.TheVariants as finish
 use Rattle.vcl_eval.specs.declared.finish.Plan.{Plan}
 use Rattle.vcl_eval.specs.declared.finish.Plan.TheVariants as plan
 use Rattle.vcl_operands.specs.Weights.{power, frames_weight}
-use Rattle.vcl_turns.specs.declared.turn.Turn.{Turn}
-use Rattle.vcl_turns.specs.declared.turn.Turn.TheVariants.{Need, End}
+use Rattle.vcl_context.specs.declared.turn.Turn.{Turn}
+use Rattle.vcl_context.specs.declared.turn.Turn.TheVariants.{Need, End}
 use Rattle.vcl_eval.specs.declared.live.Live.{Live}
 use Rattle.vcl_eval.specs.declared.machine.Asked.{Asked}
 use Rattle.vcl_eval.specs.declared.machine.Asked.TheVariants as asked

@@ -1,6 +1,6 @@
 // Runs from one command to the next.
 ghost use Rattle.std.specs.Prelude.{◌≡◌, ◌<◌, List, IfOk};
-ghost use Rattle.vcl_turns.specs.declared.turn.Answer.{Answer as AnswerHere};
+ghost use Rattle.vcl_context.specs.declared.turn.Answer.{Answer as AnswerHere};
 ghost use Rattle.vcl_operands.specs.Outs.{IsSure};
 ghost use Rattle.vcl_eval.specs.Lives.{rest_of, task_after, stopped, counted_on};
 ghost use Rattle.vcl_eval.specs.Turns.{Left, WaitsFor, SureFor, SuitsAsked, behind_answer};
@@ -11,9 +11,9 @@ use crate::live::Live;
 use crate::machine::Asked;
 use crate::task::{Stop, Task};
 use std::alloc::{AllocError, Global};
+use vcl_context::{Answer, Return};
 use vcl_operands::{Evaluation, Outcome};
 use vcl_program::Compiled;
-use vcl_turns::{Answer, Return};
 use vmod_host::VmodTable;
 
 impl Live {

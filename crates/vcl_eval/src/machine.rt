@@ -1,7 +1,7 @@
 // A run of a subroutine that stops and goes on.
 ghost use Rattle.std.specs.Prelude.{◌≡◌, ℕ, List, IfOk, OnOk, OnErr, IsSome, None, option_map};
 ghost use Rattle.vmod_host.specs.declared.signature.Stored.{Stored};
-ghost use Rattle.vcl_turns.specs.declared.turn.Answer.{Answer as AnswerHere};
+ghost use Rattle.vcl_context.specs.declared.turn.Answer.{Answer as AnswerHere};
 ghost use Rattle.vcl_operands.specs.Outs.{Out, IsSure};
 ghost use Rattle.vcl_eval.specs.States.{State};
 ghost use Rattle.vcl_program.specs.declared.code.Code.{Code};
@@ -15,11 +15,10 @@ use crate::live::Live;
 use crate::task::Stop;
 use std::alloc::{AllocError, Global};
 use std::mem;
-use vcl_context::Context;
+use vcl_context::{Answer, Command, Context, Turn};
 use vcl_language::Subroutine;
 use vcl_operands::{Evaluation, Stack};
 use vcl_program::{Compiled, number_of};
-use vcl_turns::{Answer, Command, Turn};
 use vmod_host::VmodTable;
 
 /// What a run waits for.

@@ -2,14 +2,13 @@
 ghost use Rattle.std.specs.Prelude.{◌≡◌, IfOk, IsSome, Some};
 ghost use Rattle.vcl_context.specs.Carried.{is_status, is_reason};
 ghost use Rattle.vcl_eval.specs.Returns.{plain, with_one, with_two, answered};
-ghost use Rattle.vcl_eval.specs.Statuses.{reason_of};
-ghost use Rattle.vcl_turns.specs.declared.turn.Return.TheVariants.{Synth, Error};
+ghost use Rattle.vcl_context.specs.declared.turn.Return.TheVariants.{Synth, Error};
 
 use std::alloc::{AllocError, Global};
 use units::Text;
 use vcl_code::ReturnWord;
+use vcl_context::{Return, reason_or_unknown};
 use vcl_operands::short_text;
-use vcl_turns::Return;
 use vcl_values::Value;
 
 /// A word alone, or none where the run ends as `fail`.
@@ -28,7 +27,7 @@ pub fn plain(alloc: Global, word: ReturnWord) -> Result<Option<Return>, AllocErr
         ReturnWord::Abandon => Ok(Some(Return::Abandon)),
         ReturnWord::Retry => Ok(Some(Return::Retry)),
         ReturnWord::Ok => Ok(Some(Return::Ok)),
-        ReturnWord::Error => Ok(erred(503, reason_of(alloc, 503)?)),
+        ReturnWord::Error => Ok(erred(503, reason_or_unknown(alloc, 503)?)),
         ReturnWord::Fail => Ok(None),
         ReturnWord::Synth => unreachable!(),
     }
@@ -45,9 +44,12 @@ pub fn with_one(
 {
     match (word, value) {
         (ReturnWord::Synth, Value::Int(status)) => {
-            Ok(synthesized(*status, reason_of(alloc, *status)?))
+            Ok(synthesized(*status, reason_or_unknown(alloc, *status)?))
         }
-        (ReturnWord::Error, Value::Int(status)) => Ok(erred(*status, reason_of(alloc, *status)?)),
+        (ReturnWord::Error, Value::Int(status)) => Ok(erred(
+            *status,
+            reason_or_unknown(alloc, *status)?,
+        )),
         (ReturnWord::Pass, Value::Duration(time)) => Ok(Some(Return::PassFor(*time))),
         _ => unreachable!(),
     }
@@ -107,21 +109,4 @@ fn is_reason(text: &[u8]) -> bool
 {
     text.iter()
         .all(|byte| *byte == b'\t' || (*byte >= b' ' && *byte != 0x7f))
-}
-
-// The reason that goes with a status (RFC 9110, section 15).
-fn reason_of(alloc: Global, status: i64) -> Result<Text, AllocError>
-    ensures { IfOk result (λ reason. reason ≡ reason_of status) }
-{
-    match status {
-        200 => Text::of(alloc, b"OK"),
-        400 => Text::of(alloc, b"Bad Request"),
-        403 => Text::of(alloc, b"Forbidden"),
-        404 => Text::of(alloc, b"Not Found"),
-        405 => Text::of(alloc, b"Method Not Allowed"),
-        500 => Text::of(alloc, b"Internal Server Error"),
-        501 => Text::of(alloc, b"Not Implemented"),
-        503 => Text::of(alloc, b"Service Unavailable"),
-        _ => Text::of(alloc, b"Unknown"),
-    }
 }

@@ -77,7 +77,7 @@ pub fn append_to(
     requires { IsSome (append_to variable value.now context.old) }
     ensures { SetsDue result context.old context.new (append_to variable value.now context.old) }
 {
-    let old = context.read(alloc, variable)?;
+    let old = context.read(alloc, None, variable)?;
     match appended(alloc, &old, value)? {
         Some(value) => set_to(alloc, context, variable, &value),
         None => Ok(Setting::Refused),

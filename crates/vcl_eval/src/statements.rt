@@ -1,7 +1,7 @@
 // Steps of a run.
 ghost use Rattle.std.specs.Prelude.{◌≡◌, ◌<◌, ◌≤◌, ◌+◌, List, IfOk, length, slice_get, option_copied};
 ghost use Rattle.vmod_host.specs.declared.signature.Stored.{Stored};
-ghost use Rattle.vcl_turns.specs.declared.turn.Answer.{Answer};
+ghost use Rattle.vcl_context.specs.declared.turn.Answer.{Answer};
 ghost use Rattle.vcl_operands.specs.Outs.{and_then, IsSure};
 ghost use Rattle.vcl_eval.specs.Lives.{state_of, behind, rest_of, ended, told};
 ghost use Rattle.vcl_eval.specs.Weights.{weight, run_weight, plan_weight, choice_weight, most_weight, IsStep};
@@ -15,14 +15,13 @@ use crate::task::Task;
 use std::alloc::{AllocError, Global};
 use units::Text;
 use vcl_code::{Block, Branch, Choice};
-use vcl_context::{Message, Setting};
+use vcl_context::{Message, Return, Setting};
 use vcl_operands::{compiled_falls, short_text};
 use vcl_program::Compiled;
-use vcl_turns::Return;
 use vcl_values::Value;
 
 /// The most statements of a run.
-pub const MOST_STATEMENTS: u32 = 100_000;
+pub const MAX_STATEMENTS: u32 = 100_000;
 
 impl Live {
     /// The block on top.
@@ -60,7 +59,7 @@ impl Live {
             None => unreachable!(),
             Some(Block::End) => Ok(Task::Run),
             Some(Block::Then(action, next)) => {
-                if self.statements >= MOST_STATEMENTS {
+                if self.statements >= MAX_STATEMENTS {
                     return Ok(Task::End(Return::Fail));
                 }
                 self.statements += 1;

@@ -1,7 +1,7 @@
 // What a run does next.
 use crate::finish::Finish;
 use units::Text;
-use vcl_turns::Return;
+use vcl_context::Return;
 use vcl_values::Value;
 
 /// What a run does next.

@@ -20,6 +20,3 @@ pub use scope::{Scope, Subroutine, has};
 pub use subroutines::{SUBROUTINE_NAMES, SUBROUTINES, is_reserved, subroutine_named};
 pub use variables::{Variable, variable_named};
 pub use words::{Word, word_named};
-
-#[cfg(test)]
-mod tests;

@@ -1,3 +1,5 @@
 pub mod Functions
 pub mod Programs
 pub mod Backends
+pub mod Meaning
+pub mod OneMeaning

@@ -1,77 +1,141 @@
-// Programs by the numbers of their VCLs.
-ghost use Rattle.std.specs.Prelude.{◌≡◌, IfOk, IfSome};
+// Programs of texts, made once.
+ghost use Rattle.std.specs.Prelude.{◌≡◌, ◌↔◌, IfOk, IfSome, IsSome, IsSomeAnd, IsTrue};
 ghost use Rattle.vcl_library.specs.Functions.{std_functions};
 ghost use Rattle.vcl_library.specs.Programs.{IsProgramOf};
 
 use crate::backends::backend_of;
-use cache_law::Shared;
 use http_heads::Backend;
-use indexmap::IndexMap;
-use round_lead::Programs;
 use std::alloc::{AllocError, Global};
-use units::Text;
+use std::mem;
+use units::{Shared, Text};
 use vcl_runner::{Executable, Run};
+use vcl_runs::Programs;
 use vcl_soundness::{backends_are_there, program_never_strays, standard_are_meant};
 use vcl_store::program_of;
 use vmod_host::VmodTable;
 
-/// A program with the text that it was made of.
+/// A program with its VCL's number and the text that it was made of.
 #[derive(Drop)]
 pub struct Kept {
-    text: Text,
-    program: Shared<Executable>,
-    ghost is: { IsProgramOf text program.compiled.program.tree program.compiled.program.stored },
+    pub vcl: u32,
+    pub text: Text,
+    pub program: Shared<Executable>,
+    pub ghost is: { IsProgramOf text program.compiled.program.tree program.compiled.program.stored },
 }
 
-/// The programs that were made, each by its VCL's number. Their texts may call the functions of the module `std`.
+/// The two programs that were asked for last. Their texts may call the functions of the module `std`.
 #[derive(Drop)]
 pub struct Library {
-    kept: IndexMap<u32, Kept>,
+    latest: Option<Shared<Kept>>,
+    other: Option<Shared<Kept>>,
     functions: Shared<VmodTable>,
     ghost standard: { functions.stored ≡ std_functions },
 }
 
+fn make(alloc: Global, functions: Shared<VmodTable>, text: &Text) -> Result<Executable, AllocError>
+    requires { functions.stored ≡ std_functions }
+    ensures { IfOk result (λ made. IsProgramOf text.now made.compiled.program.tree made.compiled.program.stored) }
+{
+    match program_of(alloc, text, &functions) {
+        Ok(compiled) => {
+            program_never_strays(&compiled);
+            backends_are_there(&compiled);
+            standard_are_meant();
+            Ok(Executable::of(compiled, functions))
+        }
+        Err(_) => Err(AllocError),
+    }
+}
+
+impl Kept {
+    /// The program of the text of the VCL of this number. A text that a cache keeps has one, so that memory alone can be wanting.
+    pub fn of(
+        alloc: Global,
+        functions: Shared<VmodTable>,
+        vcl: u32,
+        text: &Text,
+    ) -> Result<Shared<Kept>, AllocError>
+        requires { functions.stored ≡ std_functions }
+        ensures { IfOk result (λ kept. (kept.vcl ≡ vcl) × (kept.text ≡ text.now)) }
+    {
+        let program = Shared::new(alloc, make(alloc, functions, text)?)?;
+        let kept = Kept {
+            vcl,
+            text: text.copy()?,
+            program,
+        };
+        Shared::new(alloc, kept)
+    }
+}
+
+// Whether this is the program of the VCL of this number and this text.
+fn is_of(kept: &Option<Shared<Kept>>, vcl: u32, text: &Text) -> bool
+    ensures { IsTrue result ↔ IsSomeAnd kept.now (λ kept. (kept.vcl ≡ vcl) × (kept.text ≡ text.now)) }
+{
+    match kept {
+        Some(kept) => kept.vcl == vcl && kept.text == *text,
+        None => false,
+    }
+}
+
 impl Library {
     /// A library that keeps nothing.
-    pub fn new(alloc: Global, functions: Shared<VmodTable>) -> Library
+    pub fn new(functions: Shared<VmodTable>) -> Library
         requires { functions.stored ≡ std_functions }
     {
         Library {
-            kept: IndexMap::new(alloc),
+            latest: None,
+            other: None,
             functions,
         }
     }
 
-    // The program that is kept by this number, if it is that of the text.
-    fn find(&self, vcl: u32, text: &Text) -> Option<&Kept>
-        ensures { IfSome result (λ kept. kept.now.text ≡ text.now) }
+    /// A library that keeps this program.
+    pub fn with(functions: Shared<VmodTable>, latest: Shared<Kept>) -> Library
+        requires { functions.stored ≡ std_functions }
     {
-        let kept = self.kept.get(&vcl)?;
-        if kept.text == *text { Some(kept) } else { None }
+        Library {
+            latest: Some(latest),
+            other: None,
+            functions,
+        }
     }
 
-    fn make(&self, alloc: Global, text: &Text) -> Result<Executable, AllocError>
-        ensures { IfOk result (λ made. IsProgramOf text.now made.compiled.program.tree made.compiled.program.stored) }
+    // The program that is kept of the text of this VCL, which is the latest then; none where none is kept.
+    fn find(&mut self, vcl: u32, text: &Text) -> Option<&Shared<Kept>>
+        ensures same { IfSome result (λ kept. (kept.now.vcl ≡ vcl) × (kept.now.text ≡ text.now)) }
+        ensures latest { IsSomeAnd self.old.latest (λ kept. (kept.vcl ≡ vcl) × (kept.text ≡ text.now)) → IsSome result }
+        ensures other { IsSomeAnd self.old.other (λ kept. (kept.vcl ≡ vcl) × (kept.text ≡ text.now)) → IsSome result }
     {
-        match program_of(alloc, text, &self.functions) {
-            Ok(compiled) => {
-                program_never_strays(&compiled);
-                backends_are_there(&compiled);
-                standard_are_meant();
-                Ok(Executable::of(compiled, self.functions.copy()?))
-            }
-            Err(_) => Err(AllocError),
+        if is_of(&self.other, vcl, text) {
+            mem::swap(&mut self.latest, &mut self.other);
         }
+        if is_of(&self.latest, vcl, text) {
+            self.latest.as_ref()
+        } else {
+            None
+        }
+    }
+
+    // Keeps the program as the latest one, and lets the one before the last go.
+    fn keep(&mut self, kept: Shared<Kept>)
+        ensures { (self.new.latest ≡ Some kept) × (self.new.other ≡ self.old.latest) }
+    {
+        self.other = self.latest.take();
+        self.latest = Some(kept);
     }
 }
 
 impl Programs<Run> for Library {
     ghost use Rattle.vcl_library.specs.Backends.{server_at};
+    ghost use Rattle.vcl_library.specs.OneMeaning.{one-meaning};
     ghost use Rattle.vcl_library.specs.Programs.{IsProgramOf};
 
     ghost of_text = { λ text program. IsProgramOf text program.compiled.program.tree program.compiled.program.stored };
 
     ghost backends = { λ program name. server_at program.compiled.program.tree.items name };
+
+    ghost one_meaning = { λ text one other p q. one-meaning text one.compiled.program.tree other.compiled.program.tree one.compiled.program.stored other.compiled.program.stored p q };
 
     fn program(
         &mut self,
@@ -82,12 +146,9 @@ impl Programs<Run> for Library {
         if let Some(kept) = self.find(vcl, text) {
             return kept.program.copy();
         }
-        let program = Shared::new(alloc, self.make(alloc, text)?)?;
-        let kept = Kept {
-            text: text.copy()?,
-            program: program.copy()?,
-        };
-        self.kept.insert(vcl, kept)?;
+        let kept = Kept::of(alloc, self.functions.copy()?, vcl, text)?;
+        let program = kept.program.copy()?;
+        self.keep(kept);
         Ok(program)
     }
 

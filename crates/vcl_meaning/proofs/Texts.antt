@@ -21,7 +21,7 @@ use Rattle.vcl_code.specs.Statements.{numbered_block}
 use Rattle.vcl_program.specs.declared.code.Code.{Code}
 use Rattle.vcl_program.specs.Blocks.{Heads, heads, own_block, with_own, all_own, no_bodies, in_front, body, with_body, all_bodies}
 use Rattle.vcl_program.specs.Codes.{known_of, own_of, built_in_of, code_of}
-use Rattle.vcl_turns.specs.declared.turn.Answer.{Answer}
+use Rattle.vcl_context.specs.declared.turn.Answer.{Answer}
 use Rattle.vcl_operands.specs.Falls.{Falls, ChoicesFall}
 use Rattle.vcl_operands.specs.Later.{Later}
 use Rattle.vcl_operands.specs.Outs.{Out, and_then, fail}

@@ -26,7 +26,7 @@ use Rattle.vcl_code.specs.Expressions.{called as numbered_call}
 use Rattle.vcl_code.specs.Statements.{Acts, Arms, one_arm, chained, with_more_arms, if_acted, else_acted, set_acted, append_acted, unset_acted, call_acted, return_acted, action_of, arms_of, arm_of, actions_of, numbered_block}
 use Rattle.vcl_code.specs.Statements.{with_one as acted_one, performed as performed_act}
 use Rattle.vcl_program.specs.declared.code.Code.{Code}
-use Rattle.vcl_turns.specs.declared.turn.Answer.{Answer}
+use Rattle.vcl_context.specs.declared.turn.Answer.{Answer}
 use Rattle.vcl_operands.specs.Falls.{Falls, ChoicesFall}
 use Rattle.vcl_operands.specs.Later.{Later}
 use Rattle.vcl_operands.specs.Outs.{Out, On, Ends, Asks, Strays, and_then}

@@ -22,8 +22,8 @@ use Rattle.vcl_code.specs.Names.{Known, Target, Plain, Field, NoTarget, target_o
 use Rattle.vcl_code.specs.Expressions.{second_string}
 use Rattle.vcl_program.specs.declared.declarations.Declarations.{Declarations}
 use Rattle.vcl_program.specs.Declarations.{nothing as undeclared, with_items}
-use Rattle.vcl_program.specs.Codes.{known_of}
-use Rattle.vcl_turns.specs.declared.turn.Answer.{Answer}
+use Rattle.vcl_program.specs.Codes.{known_of, default_of}
+use Rattle.vcl_context.specs.declared.turn.Answer.{Answer}
 use Rattle.vcl_operands.specs.Outs.{Out, Strays, and_then, fail, IsSure}
 use Rattle.vcl_operands.specs.Meaning.{Scene, Operand, value_of, operands_of}
 use Rattle.vcl_operands.specs.Meaning.{called as call_value}
@@ -63,7 +63,14 @@ bodies_of subroutine (i ∷ is) = body_of subroutine i (bodies_of subroutine is)
 
 -- expressions, with what is done with their values
 abbrev pub scene_in : Text → Context → Scene
-scene_in t c = record { backends = t.declared.backends; acls = t.declared.acls; directors = t.declared.directors; stored = t.known.stored; context = c }
+scene_in t c = record {
+  backends = t.declared.backends;
+  default = slice_get t.declared.backends (default_of t.declared.backends);
+  acls = t.declared.acls;
+  directors = t.declared.directors;
+  stored = t.known.stored;
+  context = c;
+}
 
 abbrev pub then_with : Operand → (Value → Doing) → Doing
 then_with operand next s = and_then (in_state s (operand s.answers)) next

@@ -2,7 +2,7 @@
 ghost use Rattle.std.specs.Prelude.{◌≡◌, List};
 ghost use Rattle.vcl_language.specs.declared.scope.Subroutine.{Subroutine};
 ghost use Rattle.vcl_context.specs.declared.context.Context.{Context};
-ghost use Rattle.vcl_turns.specs.declared.turn.Answer.{Answer};
+ghost use Rattle.vcl_context.specs.declared.turn.Answer.{Answer};
 ghost use Rattle.vcl_eval.specs.Runs.{run_at};
 ghost use Rattle.vcl_meaning.specs.Meaning.{run_of};
 

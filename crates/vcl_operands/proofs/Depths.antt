@@ -6,7 +6,7 @@ use Rattle.vcl_code.specs.declared.node.Arguments.TheVariants.{Zero, One, Two, T
 use Rattle.vcl_code.specs.declared.node.Node.{Node}
 use Rattle.vcl_code.specs.declared.node.Node.TheVariants as node
 use Rattle.vcl_values.specs.declared.value.Value.{Value}
-use Rattle.vcl_turns.specs.declared.turn.Answer.{Answer}
+use Rattle.vcl_context.specs.declared.turn.Answer.{Answer}
 use Rattle.vcl_operands.specs.declared.frame.Binary.{Binary}
 use Rattle.vcl_operands.specs.declared.frame.Binary.TheVariants as binary
 use Rattle.vcl_operands.specs.declared.frame.Frame.TheVariants as frame

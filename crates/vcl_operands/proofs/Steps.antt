@@ -7,7 +7,7 @@ use Rattle.vcl_values.specs.Values.{truth_of}
 use Rattle.vcl_values.specs.declared.value.Value.{Value}
 use Rattle.vcl_code.specs.declared.node.Arguments.{Arguments}
 use Rattle.vcl_code.specs.declared.node.Node.{Node}
-use Rattle.vcl_turns.specs.declared.turn.Answer.{Answer}
+use Rattle.vcl_context.specs.declared.turn.Answer.{Answer}
 use Rattle.vcl_operands.specs.declared.frame.Doing.{Doing}
 use Rattle.vcl_operands.specs.declared.frame.Doing.TheVariants as doing
 use Rattle.vcl_operands.specs.declared.frame.Frame.{Frame}

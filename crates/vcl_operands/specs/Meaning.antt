@@ -21,21 +21,29 @@ use Rattle.vcl_code.specs.Names.{Known, Plain, Field, NoTarget, Read, OfTarget, 
 use Rattle.vcl_code.specs.Expressions.{ordered_as, asks_match, second_string}
 use Rattle.vcl_program.specs.declared.code.Code.{Code}
 use Rattle.vcl_program.specs.declared.code.Director.{Director}
-use Rattle.vcl_turns.specs.declared.turn.Answer.{Answer}
-use Rattle.vcl_turns.specs.declared.turn.Command.TheVariants.{Xkey}
+use Rattle.vcl_context.specs.declared.turn.Answer.{Answer}
+use Rattle.vcl_context.specs.declared.turn.Command.TheVariants.{Xkey}
 use Rattle.vcl_operands.specs.Outs.{Out, On, Strays, and_then, known_on, made_on, ask, number_of}
-use Rattle.vcl_operands.specs.Values.{ok_of, as_text, truth_value, opposite, matched, sought, ordered, summed, lessened, substituted, backend_at, director_at, asked, applied}
+use Rattle.vcl_operands.specs.Values.{ok_of, as_text, truth_value, opposite, matched, sought, ordered, summed, lessened, substituted, default_backend, backend_at, director_at, asked, applied}
 
--- what a text declares, in its order, the stored functions, and the values of variables
+-- what a text declares, in its order, and its default backend, the stored functions, and the values of variables
 pub record Scene : Type 0 where
   pub backends : List Backend
+  pub default : Option Backend
   pub acls : List (List AclEntry)
   pub directors : List Director
   pub stored : List Stored
   pub context : Context
 
 abbrev pub scene : Code → List Stored → Context → Scene
-scene code stored context = record { backends = code.backends; acls = code.acls; directors = code.directors; stored = stored; context = context }
+scene code stored context = record {
+  backends = code.backends;
+  default = default_backend code;
+  acls = code.acls;
+  directors = code.directors;
+  stored = stored;
+  context = context;
+}
 
 -- what an expression comes to with these answers
 abbrev pub Operand : Type 0
@@ -43,7 +51,7 @@ Operand = List Answer → Out (List Answer) Value
 
 -- a name that is read
 abbrev pub named_value : Scene → Read → Option (Option Value)
-named_value scene (OfTarget (Plain variable)) = Some (Some (variable_value variable scene.context))
+named_value scene (OfTarget (Plain variable)) = Some (Some (variable_value scene.default variable scene.context))
 named_value scene (OfTarget (Field message name)) = Some (Some (field_value message name scene.context))
 named_value scene (OfTarget NoTarget) = None
 named_value scene (Truth truth) = Some (Some (value.Bool truth))

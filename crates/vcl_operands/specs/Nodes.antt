@@ -22,11 +22,11 @@ use Rattle.vcl_operands.specs.declared.frame.Unary.{Unary}
 use Rattle.vcl_operands.specs.declared.frame.Unary.TheVariants as unary
 use Rattle.vcl_operands.specs.declared.evaluation.Outcome.{Outcome}
 use Rattle.vcl_operands.specs.declared.evaluation.Outcome.TheVariants as outcome
-use Rattle.vcl_turns.specs.declared.turn.Answer.{Answer}
-use Rattle.vcl_turns.specs.declared.turn.Command.TheVariants.{Xkey}
+use Rattle.vcl_context.specs.declared.turn.Answer.{Answer}
+use Rattle.vcl_context.specs.declared.turn.Command.TheVariants.{Xkey}
 use Rattle.vcl_operands.specs.Outs.{On, Strays, and_then, fail, made_on, ask, number_of}
 use Rattle.vcl_operands.specs.Meaning.{Operand, decides, purged}
-use Rattle.vcl_operands.specs.Values.{literal, named_field, truth_value, opposite, matched, sought, ordered, summed, lessened, substituted, backend_at, director_at, asked, applied}
+use Rattle.vcl_operands.specs.Values.{literal, named_field, truth_value, opposite, matched, sought, ordered, summed, lessened, substituted, default_backend, backend_at, director_at, asked, applied}
 
 -- what is done with one value, and with two
 abbrev pub changed : Code → Unary → Value → Option (Option Value)
@@ -87,7 +87,7 @@ leaf code context (node.Int n) = Some (Some (value.Int n))
 leaf code context (node.Duration time) = Some (Some (value.Duration time))
 leaf code context (node.Truth truth) = Some (Some (value.Bool truth))
 leaf code context (node.Backend k) = backend_at code.backends k
-leaf code context (node.Read variable) = Some (Some (variable_value variable context))
+leaf code context (node.Read variable) = Some (Some (variable_value (default_backend code) variable context))
 leaf code context (node.ReadField message k) = named_field context code.arena.texts message k
 leaf code context (node.Director k) = director_at code.directors k
 leaf code context _ = None

@@ -22,6 +22,7 @@ use Rattle.vcl_context.specs.Kinds.{fits}
 use Rattle.vcl_context.specs.Fields.{field_value}
 use Rattle.vcl_context.specs.declared.context.Context.{Context}
 use Rattle.vcl_context.specs.declared.variable.Message.{Message}
+use Rattle.vcl_program.specs.declared.code.Code.{Code}
 use Rattle.vcl_program.specs.declared.code.Director.{Director}
 use Rattle.vcl_operands.specs.Lists.{takes}
 
@@ -89,6 +90,10 @@ backend_value backend = value.Backend (Some backend)
 
 abbrev pub backend_at : List Backend → ℕ → Option (Option Value)
 backend_at backends k = option_map (λ backend. Some (backend_value backend)) (slice_get backends k)
+
+-- the one that a request is sent to where none is chosen
+abbrev pub default_backend : Code → Option Backend
+default_backend code = slice_get code.backends code.default_backend
 
 -- a director by its number, with the text that it is asked with
 abbrev pub director_value : Option (List ℕ) → Director → Value

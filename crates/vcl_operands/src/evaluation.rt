@@ -1,6 +1,6 @@
 // The evaluation of an expression, which stops where a purge by keys is wanted.
 ghost use Rattle.std.specs.Prelude.{◌≡◌, ◌<◌, ◌≤◌, ◌+◌, ◌∷◌, [], List, IfOk, length, slice_get};
-ghost use Rattle.vcl_turns.specs.declared.turn.Answer.{Answer};
+ghost use Rattle.vcl_context.specs.declared.turn.Answer.{Answer};
 ghost use Rattle.vcl_operands.specs.Outs.{and_then, IsSure};
 ghost use Rattle.vcl_operands.specs.Nodes.{World, world, value_at, left_of, rest_of, came_to, given_number, given_if, with_rest};
 ghost use Rattle.vcl_operands.specs.Weights.{power, weight, frames_weight, arguments_weight, LeavesLess, IsBegun};

@@ -6,7 +6,7 @@ ghost use Rattle.vcl_context.specs.declared.context.Context.{Context};
 ghost use Rattle.vcl_code.specs.declared.arena.Arena.{Arena};
 ghost use Rattle.vcl_code.specs.Names.{Known};
 ghost use Rattle.vcl_code.specs.Expressions.{numbered};
-ghost use Rattle.vcl_turns.specs.declared.turn.Answer.{Answer};
+ghost use Rattle.vcl_context.specs.declared.turn.Answer.{Answer};
 ghost use Rattle.vcl_operands.specs.Falls.{Falls, ChoicesFall};
 ghost use Rattle.vcl_operands.specs.Later.{Later};
 ghost use Rattle.vcl_operands.specs.Meaning.{scene, value_of};

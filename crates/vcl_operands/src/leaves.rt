@@ -1,14 +1,14 @@
 // Values of nodes without parts.
-ghost use Rattle.std.specs.Prelude.{◌≡◌, IfOk, IsSome, Some};
+ghost use Rattle.std.specs.Prelude.{◌≡◌, IfOk, IsSome, Some, option_map};
 ghost use Rattle.vcl_operands.specs.Nodes.{leaf};
-ghost use Rattle.vcl_operands.specs.Values.{backend_at, director_at, director_value, literal, named_field};
+ghost use Rattle.vcl_operands.specs.Values.{default_backend as default_in, backend_at, director_at, director_value, literal, named_field};
 
 use std::alloc::{AllocError, Global};
 use units::Text;
 use vcl_code::Node;
 use vcl_context::{Context, Message};
-use vcl_program::{Compiled, Director};
-use vcl_values::{Backend, MOST_TEXT, Value};
+use vcl_program::{Code, Compiled, Director};
+use vcl_values::{Backend, MAX_TEXT, Value};
 
 /// What a node without parts is worth, or none where a limit is passed.
 pub(crate) fn leaf(
@@ -26,7 +26,9 @@ pub(crate) fn leaf(
         Node::Duration(time) => Ok(Some(Value::Duration(time))),
         Node::Truth(truth) => Ok(Some(Value::Bool(truth))),
         Node::Backend(number) => { Ok(Some(backend_at(program.code.backends.as_slice(), number)?)) }
-        Node::Read(variable) => Ok(Some(context.read(alloc, variable)?)),
+        Node::Read(variable) => {
+            Ok(Some(context.read(alloc, default_backend(&program.code), variable)?))
+        }
         Node::ReadField(message, number) => {
             let texts = program.code.arena.texts.as_slice();
             Ok(Some(field(context, texts, message, number)?))
@@ -46,7 +48,7 @@ fn literal(texts: &[Text], number: usize) -> Result<Option<Value>, AllocError>
     let Some(text) = texts.get(number) else {
         unreachable!();
     };
-    if text.bytes().len() <= MOST_TEXT {
+    if text.bytes().len() <= MAX_TEXT {
         Ok(Some(Value::String(Some(text.copy()?))))
     } else {
         Ok(None)
@@ -66,6 +68,13 @@ fn field(
         unreachable!();
     };
     context.read_field(message, name.bytes())
+}
+
+// The backend that a request is sent to where none is chosen.
+fn default_backend(code: &Code) -> Option<&Backend>
+    ensures { option_map (λ b. b.now) result ≡ default_in code.now }
+{
+    code.backends.as_slice().get(code.default_backend)
 }
 
 fn backend_at(backends: &[Backend], number: usize) -> Result<Value, AllocError>

@@ -10,14 +10,14 @@ use acl_match::Acl;
 use std::alloc::{AllocError, Global};
 use units::Text;
 use vcl_program::{Compiled, Director};
-use vcl_values::{Comparison, MOST_TEXT, Pattern, Value, ValueError, compare, difference, sum};
+use vcl_values::{Comparison, MAX_TEXT, Pattern, Value, ValueError, compare, difference, sum};
 
 /// A value as a text, or none where that has over 65,536 bytes.
 pub fn short_text(alloc: Global, value: &Value) -> Result<Option<Text>, AllocError>
     ensures { IfOk result (λ text. text ≡ as_text value.now) }
 {
     let text = value.text(alloc)?;
-    if text.bytes().len() > MOST_TEXT {
+    if text.bytes().len() > MAX_TEXT {
         Ok(None)
     } else {
         Ok(Some(text))

@@ -10,7 +10,7 @@ ghost use Rattle.vcl_tree.specs.Numbers.{opposite};
 ghost use Rattle.vcl_parse.specs.Steps.{set_label};
 
 use std::alloc::{AllocError, Global};
-use units::{Text, lost};
+use units::{Text, out_of_memory};
 use vcl_tree::{Action, Addend, Block, Branch, Comparison, Expression, Name, Operation, Statement};
 
 /// Two values in boxes. Their types aren't known here, so that a value that is let go is no more than that.
@@ -41,7 +41,7 @@ pub fn any_of(
     }
     let second = others.remove(0);
     let Ok((first, second)) = boxed(alloc, first, second) else {
-        return Err(lost(others));
+        return Err(out_of_memory(others));
     };
     let operation = Operation::Any(first, second, others);
     Ok(Expression { operation })
@@ -62,7 +62,7 @@ pub fn all_of(
     }
     let second = others.remove(0);
     let Ok((first, second)) = boxed(alloc, first, second) else {
-        return Err(lost(others));
+        return Err(out_of_memory(others));
     };
     let operation = Operation::All(first, second, others);
     Ok(Expression { operation })
@@ -83,7 +83,7 @@ pub fn sum_from(
     }
     let second = others.remove(0);
     let Ok((first, second)) = boxed(alloc, first, second) else {
-        return Err(lost(others));
+        return Err(out_of_memory(others));
     };
     let operation = Operation::Sum(first, second, others);
     Ok(Expression { operation })
@@ -136,7 +136,7 @@ pub fn call_of(
             let operation = Operation::Call(place, name, arguments);
             Ok(Expression { operation })
         }
-        Err(_) => Err(lost(arguments)),
+        Err(_) => Err(out_of_memory(arguments)),
     }
 }
 
@@ -152,7 +152,7 @@ pub fn called_statement(
             let action = Action::Run(Name { place, text }, arguments);
             Ok(Statement { action })
         }
-        Err(_) => Err(lost(arguments)),
+        Err(_) => Err(out_of_memory(arguments)),
     }
 }
 

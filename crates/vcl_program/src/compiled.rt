@@ -8,9 +8,9 @@ use crate::code::Code;
 use crate::numbering::numbered;
 use acl_match::{Acl, AclEntries, AclError};
 use std::alloc::{AllocError, Global};
-use units::{Sequence, Text, lost};
-use vcl_calls::NameIndex;
+use units::{Sequence, Text, out_of_memory};
 use vcl_check::{Program, sound_keeps};
+use vcl_symbols::NameIndex;
 use vcl_values::Pattern;
 
 /// A sound text in numbers. It keeps the patterns and the address lists of the text, each built once.
@@ -32,13 +32,13 @@ impl Compiled {
         ensures stored { IfOk result (λ compiled. compiled.program.stored ≡ program.stored) }
     {
         let Ok(code) = numbered(alloc, &program.tree, program.stored.as_slice()) else {
-            return Err(lost(program));
+            return Err(out_of_memory(program));
         };
         let Ok(pattern_numbers) = numbers_of(alloc, &program, &code) else {
-            return Err(lost((program, code)));
+            return Err(out_of_memory((program, code)));
         };
         let Ok(acls) = acls_in(alloc, &program, &code) else {
-            return Err(lost(((program, code), pattern_numbers)));
+            return Err(out_of_memory(((program, code), pattern_numbers)));
         };
         Ok(Compiled {
             program,

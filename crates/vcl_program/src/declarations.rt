@@ -8,7 +8,7 @@ use crate::code::Director;
 use acl_match::AclEntries;
 use directors::DirectorKind;
 use std::alloc::{AllocError, Global};
-use units::{Sequence, Text, lost};
+use units::{Sequence, Text, out_of_memory};
 use vcl_code::Thing;
 use vcl_language::{is_reserved, maker_named};
 use vcl_tree::{AclEntry, Action, Block, Item, Statement};
@@ -33,7 +33,7 @@ pub fn declared_in(alloc: Global, items: &[Item]) -> Result<Declarations, AllocE
     let mut declarations = Declarations::new(alloc);
     for item in items {
         let Ok(()) = declarations.item(alloc, item) else {
-            return Err(lost(declarations));
+            return Err(out_of_memory(declarations));
         };
     }
     Ok(declarations)

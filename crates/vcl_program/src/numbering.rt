@@ -11,9 +11,9 @@ use crate::code::{Code, Member};
 use crate::declarations::{Declarations, declared_in};
 use crate::members::members;
 use std::alloc::{AllocError, Global};
-use units::{Sequence, Text, lost};
-use vcl_calls::NameIndex;
+use units::{Sequence, Text, out_of_memory};
 use vcl_code::{Arena, Names, Thing};
+use vcl_symbols::NameIndex;
 use vcl_tree::{Item, Tree};
 use vcl_values::Backend;
 use vmod_host::Stored;
@@ -25,7 +25,7 @@ pub fn numbered(alloc: Global, tree: &Tree, stored: &[Stored]) -> Result<Code, A
     let items = tree.items.as_slice();
     let declared = declared_in(alloc, items)?;
     let Ok(parts) = parts_under(alloc, &declared, stored, items) else {
-        return Err(lost(declared));
+        return Err(out_of_memory(declared));
     };
     let Declarations {
         imports,
@@ -83,13 +83,13 @@ fn parts_of(alloc: Global, names: &Names<'_>, items: &[Item]) -> Result<Parts, A
 {
     let members = members(alloc, names, items)?;
     let Ok(mut arena) = Arena::new(alloc) else {
-        return Err(lost(members));
+        return Err(out_of_memory(members));
     };
     let Ok(customs) = own_blocks(alloc, names, items, &mut arena) else {
-        return Err(lost((members, arena)));
+        return Err(out_of_memory((members, arena)));
     };
     let Ok(built_in) = built_in_blocks(alloc, names, items, &mut arena) else {
-        return Err(lost(((members, arena), customs)));
+        return Err(out_of_memory(((members, arena), customs)));
     };
     Ok(Parts {
         arena,
@@ -108,10 +108,10 @@ fn names_of<'t>(
 {
     let imports = index_of(alloc, declared.imports.as_slice())?;
     let Ok(names) = index_of(alloc, declared.names.as_slice()) else {
-        return Err(lost(imports));
+        return Err(out_of_memory(imports));
     };
     let Ok(things) = things_of(alloc, declared.things.as_slice()) else {
-        return Err(lost((imports, names)));
+        return Err(out_of_memory((imports, names)));
     };
     Ok(Names {
         imports,

@@ -1,8 +1,8 @@
 -- Rows that mark what calls lead to tell of each subroutine the same.
 use Rattle.std.proofs.Common.{◌≡◌, ℕ, suc, Bool, true, false, List, [], ◌∷◌, length, Option, Some, None, refl, sym, ◌∙◌, ap, if◌then◌else◌, slice_index_or, arith}
 use Rattle.std.specs.Prelude.{◌↔◌}
-use Rattle.vcl_calls.specs.declared.call_graph.Call.{Call}
-use Rattle.vcl_calls.specs.Calls.{Marked, Reaches}
+use Rattle.vcl_symbols.specs.declared.call_graph.Call.{Call}
+use Rattle.vcl_symbols.specs.Calls.{Marked, Reaches}
 use Rattle.vcl_language.specs.Names.{is_reserved, subroutine_named}
 use Rattle.vcl_language.specs.declared.scope.Subroutine.{Subroutine}
 use Rattle.vcl_language.specs.declared.subroutines.TheConstants.{SUBROUTINES}

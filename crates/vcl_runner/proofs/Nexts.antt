@@ -8,11 +8,11 @@ use Rattle.vmod_host.specs.declared.signature.Stored.{Stored}
 use Rattle.vcl_context.specs.declared.context.Context.{Context}
 use Rattle.vcl_language.specs.declared.scope.Subroutine.{Subroutine}
 use Rattle.vcl_program.specs.declared.code.Code.{Code}
-use Rattle.vcl_turns.specs.declared.turn.Answer.{Answer}
-use Rattle.vcl_turns.specs.declared.turn.Answer.TheVariants as answer
-use Rattle.vcl_turns.specs.declared.turn.Command.TheVariants as command
-use Rattle.vcl_turns.specs.declared.turn.Turn.{Turn}
-use Rattle.vcl_turns.specs.declared.turn.Turn.TheVariants as turn
+use Rattle.vcl_context.specs.declared.turn.Answer.{Answer}
+use Rattle.vcl_context.specs.declared.turn.Answer.TheVariants as answer
+use Rattle.vcl_context.specs.declared.turn.Command.TheVariants as command
+use Rattle.vcl_context.specs.declared.turn.Turn.{Turn}
+use Rattle.vcl_context.specs.declared.turn.Turn.TheVariants as turn
 use Rattle.vcl_operands.specs.Outs.{Out, On, Ends, Asks, Strays, IsSure}
 use Rattle.vcl_eval.specs.declared.machine.Machine.{Machine}
 use Rattle.vcl_eval.specs.declared.machine.Waiting.{Waiting}

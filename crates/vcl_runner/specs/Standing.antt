@@ -4,9 +4,9 @@ use Rattle.std.proofs.Common.{sym, ◌∙◌}
 use Rattle.vcl_tree.specs.declared.item.Item.{Item}
 use Rattle.vmod_host.specs.declared.signature.Stored.{Stored}
 use Rattle.vcl_program.specs.declared.code.Code.{Code}
-use Rattle.vcl_turns.specs.declared.turn.Answer.{Answer}
-use Rattle.vcl_turns.specs.declared.turn.Turn.{Turn}
-use Rattle.vcl_turns.specs.declared.turn.Turn.TheVariants as turn
+use Rattle.vcl_context.specs.declared.turn.Answer.{Answer}
+use Rattle.vcl_context.specs.declared.turn.Turn.{Turn}
+use Rattle.vcl_context.specs.declared.turn.Turn.TheVariants as turn
 use Rattle.vcl_operands.specs.Outs.{Out, On, Ends, Asks, Strays, IsSure}
 use Rattle.vcl_eval.specs.declared.machine.Machine.{Machine}
 use Rattle.vcl_eval.specs.declared.machine.Waiting.{Waiting}

@@ -6,8 +6,8 @@ use Rattle.vcl_values.specs.declared.value.Backend.{Backend}
 use Rattle.vcl_program.specs.declared.code.Code.{Code}
 use Rattle.vcl_program.specs.declared.code.Director.{Director}
 use Rattle.vcl_program.specs.declared.code.Member.{Member as Placed}
-use Rattle.cache_law.specs.declared.target.Member.{Member}
-use Rattle.cache_law.specs.declared.target.Target.{Target}
+use Rattle.directors.specs.declared.target.Member.{Member}
+use Rattle.directors.specs.declared.target.Target.{Target}
 
 -- a backend as a member; one that is declared as none has the weight 0
 abbrev pub member : Backend → ℕ → Member

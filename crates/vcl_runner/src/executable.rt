@@ -3,7 +3,7 @@ ghost use Rattle.std.specs.Prelude.{◌≡◌, ◌<◌, All, length};
 ghost use Rattle.vcl_meaning.specs.Meaning.{NeverStrays};
 ghost use Rattle.vcl_runner.specs.Sure.{never_strays_alone};
 
-use cache_law::Shared;
+use units::Shared;
 use vcl_program::Compiled;
 use vmod_host::VmodTable;
 

@@ -9,14 +9,13 @@ ghost use Rattle.vcl_runner.specs.Targets.{target_named as name_target, default_
 
 use crate::executable::Executable;
 use crate::targets::{default_target, target_named};
-use cache_law::Target;
+use directors::Target;
 use std::alloc::{AllocError, Global};
-use vcl_context::Context;
+use vcl_context::{Answer, Context, Turn};
 use vcl_eval::Machine;
 use vcl_language::Subroutine;
 use vcl_meaning::numbers_run;
 use vcl_runs::Runner;
-use vcl_turns::{Answer, Turn};
 use vcl_values::Backend;
 
 /// A run of a subroutine by the evaluator.

@@ -3,8 +3,7 @@ ghost use Rattle.std.specs.Prelude.{◌≡◌, ◌<◌, All, [], IfOk, IfSome, O
 ghost use Rattle.std.specs.Str.{bytes_eq};
 ghost use Rattle.vcl_runner.specs.Targets.{member, one_more, with_members, members_of, director_at, single, backend_at, director_named, backend_named, backend_or, target_named, default_target};
 
-use cache_law::{Member, Target};
-use directors::DirectorKind;
+use directors::{DirectorKind, Member, Target};
 use std::alloc::{AllocError, Global};
 use units::{Sequence, Text};
 use vcl_program::{Code, Director, Member as Placed};

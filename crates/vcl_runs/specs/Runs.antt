@@ -2,11 +2,11 @@
 use Rattle.std.specs.Prelude.{⊤, ℕ, pos, ◌<◌, ◌^◌, List, [], ◌∷◌, ◌++◌}
 use Rattle.vcl_context.specs.declared.context.Context.{Context}
 use Rattle.vcl_language.specs.declared.scope.Subroutine.{Subroutine}
-use Rattle.vcl_turns.specs.declared.turn.Answer.{Answer}
-use Rattle.vcl_turns.specs.declared.turn.Answer.TheVariants as answer
-use Rattle.vcl_turns.specs.declared.turn.Command.TheVariants.{Ban, Xkey}
-use Rattle.vcl_turns.specs.declared.turn.Turn.{Turn}
-use Rattle.vcl_turns.specs.declared.turn.Turn.TheVariants.{Need, End}
+use Rattle.vcl_context.specs.declared.turn.Answer.{Answer}
+use Rattle.vcl_context.specs.declared.turn.Answer.TheVariants as answer
+use Rattle.vcl_context.specs.declared.turn.Command.TheVariants.{Ban, Xkey}
+use Rattle.vcl_context.specs.declared.turn.Turn.{Turn}
+use Rattle.vcl_context.specs.declared.turn.Turn.TheVariants.{Need, End}
 
 -- a subroutine that runs: what it began with, and what it was answered so far
 pub record Ran : Type 0 where

@@ -2,17 +2,16 @@
 ghost use Rattle.std.specs.Prelude.{◌≡◌, ℕ, Option, IfOk, OnOk, false};
 ghost use Rattle.vcl_language.specs.Scopes.{has};
 ghost use Rattle.vcl_language.specs.declared.scope.Scope.TheVariants.{Init};
-ghost use Rattle.vcl_turns.specs.declared.turn.Answer.{Answer as Told};
-ghost use Rattle.vcl_turns.specs.declared.turn.Turn.{Turn as Turned};
+ghost use Rattle.vcl_context.specs.declared.turn.Answer.{Answer as Told};
+ghost use Rattle.vcl_context.specs.declared.turn.Turn.{Turn as Turned};
 ghost use Rattle.vcl_values.specs.declared.value.Backend.{Backend as Named};
-ghost use Rattle.cache_law.specs.declared.target.Target.{Target as Sought};
+ghost use Rattle.directors.specs.declared.target.Target.{Target as Sought};
 ghost use Rattle.vcl_runs.specs.Runs.{Ran, begun, answered, Awaits, LeavesLess};
 
-use cache_law::Target;
+use directors::Target;
 use std::alloc::{AllocError, Global};
-use vcl_context::Context;
+use vcl_context::{Answer, Context, Turn};
 use vcl_language::Subroutine;
-use vcl_turns::{Answer, Turn};
 use vcl_values::Backend;
 
 /// A run of a subroutine.

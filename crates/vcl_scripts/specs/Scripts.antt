@@ -3,13 +3,13 @@ use Rattle.std.specs.Prelude.{◌≡◌, ◌≢◌, ⊤, ℕ, pos, Bool, true, f
 use Rattle.vcl_context.specs.declared.context.Context.{Context}
 use Rattle.vcl_language.specs.declared.scope.Subroutine.{Subroutine}
 use Rattle.vcl_language.specs.declared.scope.Subroutine.TheVariants as subroutine
-use Rattle.vcl_turns.specs.declared.turn.Answer.{Answer}
-use Rattle.vcl_turns.specs.declared.turn.Answer.TheVariants.{Begin}
-use Rattle.vcl_turns.specs.declared.turn.Command.TheVariants.{Ban, Xkey}
-use Rattle.vcl_turns.specs.declared.turn.Return.{Return}
-use Rattle.vcl_turns.specs.declared.turn.Return.TheVariants as word
-use Rattle.vcl_turns.specs.declared.turn.Turn.{Turn}
-use Rattle.vcl_turns.specs.declared.turn.Turn.TheVariants.{Need, End}
+use Rattle.vcl_context.specs.declared.turn.Answer.{Answer}
+use Rattle.vcl_context.specs.declared.turn.Answer.TheVariants.{Begin}
+use Rattle.vcl_context.specs.declared.turn.Command.TheVariants.{Ban, Xkey}
+use Rattle.vcl_context.specs.declared.turn.Return.{Return}
+use Rattle.vcl_context.specs.declared.turn.Return.TheVariants as word
+use Rattle.vcl_context.specs.declared.turn.Turn.{Turn}
+use Rattle.vcl_context.specs.declared.turn.Turn.TheVariants.{Need, End}
 use Rattle.vcl_runs.specs.Runs.{Ran}
 use Rattle.vcl_scripts.specs.declared.script.Route.{Route}
 use Rattle.vcl_scripts.specs.declared.script.Route.TheVariants as route

@@ -4,13 +4,12 @@ ghost use Rattle.std.proofs.Common.{◌∙◌, sym};
 ghost use Rattle.vcl_context.specs.declared.context.Context.{Context as Worked};
 ghost use Rattle.vcl_scripts.specs.Scripts.{routed, word_of, is_recv as recv, ended, turn_of, IsContext, IsRun, Fits, left_of};
 
-use cache_law::Target;
+use directors::Target;
 use std::alloc::{AllocError, Global};
 use units::{Copied, Text};
-use vcl_context::Context;
+use vcl_context::{Answer, Command, Context, Return, Turn};
 use vcl_language::Subroutine;
 use vcl_runs::Runner;
-use vcl_turns::{Answer, Command, Return, Turn};
 use vcl_values::Backend;
 
 /// How vcl_recv ends.

@@ -184,7 +184,7 @@ text-accepted k e = subst (λ (x : Kind). takes_sort x (sort.Value kind.String) 
 
 pub variable-appended : (w : Variable) → is_set w ≡ true → kind_of_variable w ≡ kind.String → (v : Value) (c : Context) → IsDue (append_to w v c)
 variable-appended w h t v c =
-    let due = appended (variable_value w c) v in
+    let due = appended (variable_value None w c) v in
     then-there (IsOf kind.String) (λ x. set_to w x c) (Some due) (known-makes (IsOf kind.String) due (λ x e. text-of _ x e))
     (λ x p. variable-set w h kind.String (text-accepted (kind_of_variable w) t) x p c)
 

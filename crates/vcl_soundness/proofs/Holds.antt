@@ -7,8 +7,8 @@ use Rattle.vcl_values.specs.declared.value.Kind.{Kind}
 use Rattle.vcl_values.specs.declared.value.Value.{Value}
 use Rattle.vcl_values.specs.Values.{kind_of}
 use Rattle.vcl_context.specs.declared.context.Context.{Context}
-use Rattle.vcl_turns.specs.declared.turn.Answer.{Answer}
-use Rattle.vcl_turns.specs.declared.turn.Return.{Return}
+use Rattle.vcl_context.specs.declared.turn.Answer.{Answer}
+use Rattle.vcl_context.specs.declared.turn.Return.{Return}
 use Rattle.vcl_operands.specs.Outs.{Out, On, Ends, Asks, Strays, and_then, known_on, made_on, IsSure}
 use Rattle.vcl_operands.specs.Meaning.{Operand}
 use Rattle.vcl_operands.specs.Values.{in_range}

@@ -83,7 +83,7 @@ ReadsAs numbers scene name _ = ⊥
 
 module _ (known : check.Known) (numbers : Known) (scene : Scene) (stands : Stands known numbers scene) where
   variable-read : (name : List ℕ) (v : Row) (t : Target) (s : Subroutine) → TargetOf v t → has v.read s ≡ true → ReadIs scene v.kind (of_target numbers name t)
-  variable-read name v (Plain w) s h r = reads-as w scene.context ∙ h.kind
+  variable-read name v (Plain w) s h r = reads-as scene.default w scene.context ∙ h.kind
   variable-read name v (Field message field) s h r = sym h
   variable-read name v NoTarget s h r = absurd h
 

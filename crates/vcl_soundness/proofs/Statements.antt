@@ -50,8 +50,8 @@ use Rattle.vcl_code.specs.declared.node.ReturnWord.{ReturnWord}
 use Rattle.vcl_code.specs.declared.node.ReturnWord.TheVariants as word
 use Rattle.vcl_code.specs.Names.{Target, Plain, Field, NoTarget, target_of, subroutine_of, word_of, callee_of}
 use Rattle.vcl_code.specs.Expressions.{second_string}
-use Rattle.vcl_turns.specs.declared.turn.Answer.{Answer as Told}
-use Rattle.vcl_turns.specs.declared.turn.Command.TheVariants.{Ban}
+use Rattle.vcl_context.specs.declared.turn.Answer.{Answer as Told}
+use Rattle.vcl_context.specs.declared.turn.Command.TheVariants.{Ban}
 use Rattle.vcl_operands.specs.Outs.{and_then, fail, known_on, ask}
 use Rattle.vcl_operands.specs.Values.{as_text}
 use Rattle.vcl_operands.specs.Meaning.{Operand, Scene, value_of, operands_of}

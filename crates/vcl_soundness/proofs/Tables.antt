@@ -5,6 +5,7 @@ use Rattle.std.specs.List.{position_or_len}
 use Rattle.std.proofs.lemmas.Bool.{ltb-true, lt-ltb}
 use Rattle.std.proofs.lemmas.List.Quantifiers.{position-Some}
 use Rattle.std.proofs.lemmas.Option.{none-some, same_Some}
+use Rattle.vcl_values.specs.declared.value.Backend.{Backend}
 use Rattle.vcl_values.specs.declared.value.Kind.{Kind}
 use Rattle.vcl_values.specs.declared.value.Kind.TheVariants as kind
 use Rattle.vcl_values.specs.Values.{kind_of}
@@ -245,19 +246,19 @@ time-kind : (o : Option _) → kind_of (time_or_unset o) ≡ kind.Duration
 time-kind None = refl
 time-kind (Some t) = refl
 
-request-reads : (v : RequestVariable) (r : ClientRequest) → kind_of (request_value v r) ≡ request_kind v
-request-reads request.Method r = refl
-request-reads request.Url r = refl
-request-reads request.Proto r = refl
-request-reads request.Restarts r = refl
-request-reads request.Ttl r = time-kind r.ttl
-request-reads request.Grace r = time-kind r.grace
-request-reads request.BackendHint r = refl
-request-reads request.HashAlwaysMiss r = refl
-request-reads request.HashIgnoreBusy r = refl
-request-reads request.HashIgnoreVary r = refl
-request-reads request.IsHitmiss r = refl
-request-reads request.IsHitpass r = refl
+request-reads : (d : Option Backend) (v : RequestVariable) (r : ClientRequest) → kind_of (request_value d v r) ≡ request_kind v
+request-reads d request.Method r = refl
+request-reads d request.Url r = refl
+request-reads d request.Proto r = refl
+request-reads d request.Restarts r = refl
+request-reads d request.Ttl r = time-kind r.ttl
+request-reads d request.Grace r = time-kind r.grace
+request-reads d request.BackendHint r = refl
+request-reads d request.HashAlwaysMiss r = refl
+request-reads d request.HashIgnoreBusy r = refl
+request-reads d request.HashIgnoreVary r = refl
+request-reads d request.IsHitmiss r = refl
+request-reads d request.IsHitpass r = refl
 
 object-reads : (v : ObjectVariable) (o : CachedObject) → kind_of (object_value v o) ≡ object_kind v
 object-reads object.Status o = refl
@@ -269,14 +270,14 @@ object-reads object.Age o = refl
 object-reads object.Grace o = refl
 object-reads object.Keep o = refl
 
-fetch-reads : (v : FetchRequestVariable) (r : FetchRequest) → kind_of (fetch_request_value v r) ≡ fetch_request_kind v
-fetch-reads fetch.Method r = refl
-fetch-reads fetch.Url r = refl
-fetch-reads fetch.Proto r = refl
-fetch-reads fetch.Backend r = refl
-fetch-reads fetch.Retries r = refl
-fetch-reads fetch.Uncacheable r = refl
-fetch-reads fetch.IsBgfetch r = refl
+fetch-reads : (d : Option Backend) (v : FetchRequestVariable) (r : FetchRequest) → kind_of (fetch_request_value d v r) ≡ fetch_request_kind v
+fetch-reads d fetch.Method r = refl
+fetch-reads d fetch.Url r = refl
+fetch-reads d fetch.Proto r = refl
+fetch-reads d fetch.Backend r = refl
+fetch-reads d fetch.Retries r = refl
+fetch-reads d fetch.Uncacheable r = refl
+fetch-reads d fetch.IsBgfetch r = refl
 
 fetched-reads : (v : FetchResponseVariable) (r : FetchResponse) → kind_of (fetch_response_value v r) ≡ fetch_response_kind v
 fetched-reads fetched.Status r = refl
@@ -295,16 +296,16 @@ response-reads response.Status head = refl
 response-reads response.Reason head = refl
 response-reads response.Proto head = refl
 
-pub reads-as : (w : Variable) (c : Context) → kind_of (value_of w c) ≡ kind_of_variable w
-reads-as variable.ClientIp c = refl
-reads-as variable.ServerIp c = refl
-reads-as variable.ClientIdentity c = refl
-reads-as (variable.Request v) c = request-reads v c.request
-reads-as (variable.Object v) c = object-reads v c.object
-reads-as (variable.FetchRequest v) c = fetch-reads v c.fetch_request
-reads-as (variable.FetchResponse v) c = fetched-reads v c.fetch_response
-reads-as (variable.Response v) c = response-reads v c.response
-reads-as variable.Body c = refl
+pub reads-as : (d : Option Backend) (w : Variable) (c : Context) → kind_of (value_of d w c) ≡ kind_of_variable w
+reads-as d variable.ClientIp c = refl
+reads-as d variable.ServerIp c = refl
+reads-as d variable.ClientIdentity c = refl
+reads-as d (variable.Request v) c = request-reads d v c.request
+reads-as d (variable.Object v) c = object-reads v c.object
+reads-as d (variable.FetchRequest v) c = fetch-reads d v c.fetch_request
+reads-as d (variable.FetchResponse v) c = fetched-reads v c.fetch_response
+reads-as d (variable.Response v) c = response-reads v c.response
+reads-as d variable.Body c = refl
 
 -- what is read somewhere is no body
 pub not-body : (v : Row) (w : Variable) (s : Subroutine) → IsRow v w → has v.read s ≡ true → is_body w ≡ false

@@ -23,8 +23,8 @@ use Rattle.vcl_code.specs.declared.names.Callee.TheVariants as callee
 use Rattle.vcl_code.specs.Names.{Known, read_of, acl_of, callee_of}
 use Rattle.vcl_code.specs.Expressions.{second_string}
 use Rattle.vcl_program.specs.declared.code.Director.{Director}
-use Rattle.vcl_turns.specs.declared.turn.Answer.{Answer}
-use Rattle.vcl_turns.specs.declared.turn.Command.TheVariants.{Xkey}
+use Rattle.vcl_context.specs.declared.turn.Answer.{Answer}
+use Rattle.vcl_context.specs.declared.turn.Command.TheVariants.{Xkey}
 use Rattle.vcl_operands.specs.Outs.{On, Strays, and_then, known_on, made_on, ask, number_of}
 use Rattle.vcl_operands.specs.Meaning.{Scene, Operand, named_value, purged, values_of, all_values, called, decides, sought_in, matched_in, value_of, operands_of}
 use Rattle.vcl_operands.specs.Values.{ok_of, as_text, opposite, matched, sought, ordered, summed, lessened, substituted, director_value, director_at, asked_with, asked, fitted, joined, all_fitted, meant, answered, applied}

@@ -14,7 +14,7 @@ use Rattle.vcl_values.specs.Values.{kind_of, truth_of}
 use Rattle.vcl_values.specs.Operators.{text_value, int_value, duration_value, sum_of, difference_of, compared}
 use Rattle.vcl_check.specs.declared.seen.Sort.TheVariants as sort
 use Rattle.vcl_check.specs.Kinds.{is_condition, is_ordered, same_kind, adds, sum_kind, difference_kind, accepts}
-use Rattle.vcl_turns.specs.declared.turn.Answer.{Answer}
+use Rattle.vcl_context.specs.declared.turn.Answer.{Answer}
 use Rattle.vcl_operands.specs.Outs.{On, and_then, made_on}
 use Rattle.vcl_operands.specs.Meaning.{Operand, decided_by, decides}
 use Rattle.vcl_operands.specs.Values.{ok_of, as_text, truth_value, opposite, ordered, matched, fitted, text, replaced_in, substituted}

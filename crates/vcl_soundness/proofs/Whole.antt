@@ -41,7 +41,7 @@ use Rattle.vcl_code.specs.declared.names.Thing.TheVariants as thing
 use Rattle.vcl_code.specs.Names.{Known, thing_named, subroutine_in, subroutine_of}
 use Rattle.vcl_program.specs.Declarations.{nothing as undeclared, with_items, is_init}
 use Rattle.vcl_program.specs.declared.declarations.Declarations.{Declarations}
-use Rattle.vcl_turns.specs.declared.turn.Answer.{Answer}
+use Rattle.vcl_context.specs.declared.turn.Answer.{Answer}
 use Rattle.vcl_operands.specs.Outs.{IsSure}
 use Rattle.vcl_eval.specs.States.{state, Doing, most_statements}
 use Rattle.vcl_meaning.specs.Meaning.{Text, text_of, bodies_of, body_of, is_body_of, scene_in, block_of, body_on, called_within, called, bodies_done, run_of}

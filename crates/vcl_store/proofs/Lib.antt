@@ -4,7 +4,5 @@ pub mod Expressions
 pub mod Names
 pub mod Refusals
 pub mod Rows
-pub mod Statements
 pub mod Values
 pub mod Weights
-pub mod Whole

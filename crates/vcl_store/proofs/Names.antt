@@ -1,16 +1,13 @@
 -- A name that is known to the check of a text has a meaning in numbers too.
-use Rattle.std.proofs.Common.{◌≡◌, ℕ, ◌+◌, ◌==◌, Bool, true, false, take, drop, List, refl, sym, ap, ◌∙◌, subst, codes, position, Option, Some, None, is_some, option_and_then, if◌then◌else◌}
+use Rattle.std.proofs.Common.{◌≡◌, ℕ, ◌+◌, ◌==◌, Bool, true, false, take, drop, List, refl, sym, ap, ◌∙◌, codes, position, Option, Some, None, is_some, option_and_then, if◌then◌else◌}
 use Rattle.std.specs.Str.{bytes_eq}
 use Rattle.std.proofs.lemmas.Option.{none-some}
 use Rattle.directors.specs.declared.director.DirectorKind.{DirectorKind}
 use Rattle.vcl_tree.specs.Endings.{ends_in}
 use Rattle.vcl_language.specs.Functions.{function_named, method_of}
-use Rattle.vcl_language.specs.Variables.{variable_named}
-use Rattle.vcl_language.specs.Words.{word_named}
 use Rattle.vcl_language.specs.declared.functions.Function.{Function}
 use Rattle.vcl_language.specs.declared.functions.Method.TheVariants as method
 use Rattle.vcl_language.specs.declared.variables.Variable.{Variable as Row}
-use Rattle.vcl_language.specs.declared.words.Word.{Word}
 use Rattle.vmod_host.specs.declared.signature.Stored.{Stored}
 use Rattle.vmod_host.specs.Stored.{is_named}
 use Rattle.vcl_check.specs.declared.form.Use.TheVariants as use'
@@ -18,19 +15,15 @@ use Rattle.vcl_check.specs.declared.known.Thing.{Thing as Checked}
 use Rattle.vcl_check.specs.declared.known.Thing.TheVariants as checked
 use Rattle.vcl_check.specs.declared.seen.Meaning.{Meaning}
 use Rattle.vcl_check.specs.declared.seen.Meaning.TheVariants as meaning
-use Rattle.vcl_check.specs.declared.seen.Sort.{Sort}
-use Rattle.vcl_check.specs.declared.seen.Sort.TheVariants as sort
 use Rattle.vcl_check.specs.Known as check
-use Rattle.vcl_check.specs.Known.{is_truth, is_available, without, meaning_of, of_variable, of_read, of_read_thing, of_object, function_at, of_module, stored_named, of_stored, of_function, of_word, of_called}
+use Rattle.vcl_check.specs.Known.{is_available, without, meaning_of, of_variable, of_object, function_at, of_module, stored_named, of_stored, of_function, of_called}
 use Rattle.vcl_check.specs.Rules.{is_known}
-use Rattle.vcl_check.specs.Views.{sort_of}
 use Rattle.vcl_code.specs.declared.callees.Builtin.{Builtin}
 use Rattle.vcl_code.specs.declared.names.Callee.TheVariants as callee
 use Rattle.vcl_code.specs.declared.names.Thing.{Thing}
 use Rattle.vcl_code.specs.declared.names.Thing.TheVariants as thing
-use Rattle.vcl_code.specs.declared.node.ReturnWord.{ReturnWord}
-use Rattle.vcl_code.specs.Names.{Known, Target, Plain, Field, NoTarget, Read, OfTarget, Truth, NoRead, thing_named, target_of, of_thing, of_target, read_of, acl_in, acl_of, subroutine_in, subroutine_of, builtin_of, word_of, stored_at, stored_of, director_in, stored_or_director, builtin_or_other, callee_of}
-use Rattle.vcl_store.proofs.Rows.{false-true, if-true, IsTarget, target-found, IsRowOf, function-row, no-function-row, word-row}
+use Rattle.vcl_code.specs.Names.{Known, thing_named, subroutine_in, subroutine_of, builtin_of, stored_at, stored_of, director_in, stored_or_director, builtin_or_other, callee_of}
+use Rattle.vcl_store.proofs.Rows.{false-true, if-true, IsRowOf, function-row, no-function-row}
 use Rattle.vcl_store.proofs.Weights.{are_weightless, asked-weightless, stored-weightless}
 
 -- a thing of a name has a number
@@ -49,22 +42,6 @@ pub record Meet (known : check.Known) (numbers : Known) : Type 0 where
   pub stored : known.stored ≡ numbers.stored
   pub things : (name : List ℕ) (t : Checked) → check.thing_named known name ≡ Some t → IsThing t (thing_named numbers name)
 
-backend-is : (o : Option Thing) → IsThing checked.Backend o → (k : ℕ) × (o ≡ Some (thing.Backend k))
-backend-is None h = absurd h
-backend-is (Some (thing.Backend k)) h = (k, refl)
-backend-is (Some thing.Other) h = absurd h
-backend-is (Some (thing.Acl k)) h = absurd h
-backend-is (Some (thing.Director k)) h = absurd h
-backend-is (Some (thing.Subroutine k)) h = absurd h
-
-acl-is : (o : Option Thing) → IsThing checked.Acl o → (k : ℕ) × (o ≡ Some (thing.Acl k))
-acl-is None h = absurd h
-acl-is (Some (thing.Acl k)) h = (k, refl)
-acl-is (Some thing.Other) h = absurd h
-acl-is (Some (thing.Backend k)) h = absurd h
-acl-is (Some (thing.Director k)) h = absurd h
-acl-is (Some (thing.Subroutine k)) h = absurd h
-
 director-is : (kind : DirectorKind) (o : Option Thing) → IsThing (checked.Object (Some kind)) o → (k : ℕ) × (o ≡ Some (thing.Director k))
 director-is kind None h = absurd h
 director-is kind (Some (thing.Director k)) h = (k, refl)
@@ -81,81 +58,10 @@ subroutine-is (Some (thing.Acl k)) h = absurd h
 subroutine-is (Some (thing.Backend k)) h = absurd h
 subroutine-is (Some (thing.Director k)) h = absurd h
 
--- what is read
-abbrev pub ReadStands : Read → Type 0
-ReadStands (OfTarget found) = IsTarget found
-ReadStands NoRead = ⊥
-ReadStands _ = Unit {0}
-
-abbrev pub ReadAs : Known → List ℕ → Sort → Type 0
-ReadAs numbers name (sort.Value kind) = ReadStands (read_of numbers name)
-ReadAs numbers name sort.Acl = (k : ℕ) × (acl_of numbers name ≡ Some k)
-ReadAs numbers name _ = ⊥
-
-found-read : (numbers : Known) (name : List ℕ) (t : Target) → IsTarget t → ReadStands (of_target numbers name t)
-found-read numbers name (Plain variable) h = tt
-found-read numbers name (Field message field) h = tt
-found-read numbers name NoTarget h = absurd h
-
-truth-read : (numbers : Known) (name : List ℕ) (t : Target) → is_truth name ≡ true → ReadStands (of_target numbers name t)
-truth-read numbers name (Plain variable) h = tt
-truth-read numbers name (Field message field) h = tt
-truth-read numbers name NoTarget h = by-words (bytes_eq name (codes "true")) (bytes_eq name (codes "false")) h
-  where
-    by-words : (p q : Bool) → (if p then true else q) ≡ true → ReadStands (if p then Truth true else (if q then Truth false else of_thing (thing_named numbers name)))
-    by-words true q h = tt
-    by-words false true h = tt
-    by-words false false h = absurd (false-true h)
-
-thing-read : (numbers : Known) (name : List ℕ) (t : Target) (k : ℕ) → thing_named numbers name ≡ Some (thing.Backend k) → ReadStands (of_target numbers name t)
-thing-read numbers name (Plain variable) k e = tt
-thing-read numbers name (Field message field) k e = tt
-thing-read numbers name NoTarget k e = by-words (bytes_eq name (codes "true")) (bytes_eq name (codes "false"))
-  where
-    of-backend : (o : Option Thing) → o ≡ Some (thing.Backend k) → ReadStands (of_thing o)
-    of-backend o e = subst (λ (x : Option Thing). ReadStands (of_thing x)) (sym e) tt
-
-    by-words : (p q : Bool) → ReadStands (if p then Truth true else (if q then Truth false else of_thing (thing_named numbers name)))
-    by-words true q = tt
-    by-words false true = tt
-    by-words false false = of-backend (thing_named numbers name) e
-
-pub name-read : (known : check.Known) (numbers : Known) → Meet known numbers → (name : List ℕ) → is_known (meaning_of known use'.Read name) ≡ true
-    → ReadAs numbers name (sort_of (meaning_of known use'.Read name))
-unfolding meaning_of read_of acl_of
-name-read known numbers m name h = by-variable (variable_named name) refl h
-  where
-    by-thing : (o : Option Checked) → check.thing_named known name ≡ o → is_known (of_read_thing o) ≡ true → ReadAs numbers name (sort_of (of_read_thing o))
-    by-thing (Some checked.Backend) e h = let b = backend-is (thing_named numbers name) (m.things name checked.Backend e) in thing-read numbers name (target_of name) b.0 b.1
-    by-thing (Some checked.Acl) e h = let b = acl-is (thing_named numbers name) (m.things name checked.Acl e) in (b.0, ap acl_in b.1)
-    by-thing (Some checked.Probe) e h = absurd (false-true h)
-    by-thing (Some checked.Subroutine) e h = absurd (false-true h)
-    by-thing (Some (checked.Object kind)) e h = absurd (false-true h)
-    by-thing (Some checked.NoObject) e h = absurd (false-true h)
-    by-thing None e h = absurd (false-true h)
-
-    by-truth : (b : Bool) → is_truth name ≡ b → is_known (if b then meaning.Truth else of_read_thing (check.thing_named known name)) ≡ true
-        → ReadAs numbers name (sort_of (if b then meaning.Truth else of_read_thing (check.thing_named known name)))
-    by-truth true e h = truth-read numbers name (target_of name) e
-    by-truth false e h = by-thing (check.thing_named known name) refl h
-
-    by-variable : (o : Option Row) → variable_named name ≡ o → is_known (of_read known name o) ≡ true → ReadAs numbers name (sort_of (of_read known name o))
-    by-variable (Some v) e h = found-read numbers name (target_of name) (target-found name v e)
-    by-variable None e h = by-truth (is_truth name) refl h
-
 -- what is set, added to or unset
 pub known-variable : (o : Option Row) → is_known (of_variable o) ≡ true → (v : Row) × (o ≡ Some v)
 known-variable (Some v) h = (v, refl)
 known-variable None h = absurd (false-true h)
-
--- a word of return
-pub known-word : (known : check.Known) (name : List ℕ) → is_known (meaning_of known use'.Word name) ≡ true → (r : ReturnWord) × (word_of name ≡ Some r)
-unfolding meaning_of
-known-word known name h = by-row (word_named name) refl h
-  where
-    by-row : (o : Option Word) → word_named name ≡ o → is_known (of_word o) ≡ true → (r : ReturnWord) × (word_of name ≡ Some r)
-    by-row (Some w) e h = word-row name w e
-    by-row None e h = absurd (false-true h)
 
 -- a subroutine that is called
 pub known-subroutine : (known : check.Known) (numbers : Known) → Meet known numbers → (name : List ℕ) → is_known (meaning_of known use'.Subroutine name) ≡ true

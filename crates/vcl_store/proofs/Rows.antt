@@ -9,7 +9,6 @@ use Rattle.vcl_values.specs.declared.value.Kind.TheVariants as kind
 use Rattle.vcl_language.specs.Functions.{function_named}
 use Rattle.vcl_language.specs.Scopes.{has}
 use Rattle.vcl_language.specs.Variables.{is_field_of, plain_named, field_named, or_else, variable_named}
-use Rattle.vcl_language.specs.Words.{word_named}
 use Rattle.vcl_language.specs.declared.functions.Function.{Function}
 use Rattle.vcl_language.specs.declared.functions.Parameter.TheVariants.{Value, Pattern}
 use Rattle.vcl_language.specs.declared.functions.Takes.{Takes}
@@ -20,17 +19,14 @@ use Rattle.vcl_language.specs.declared.scope.Scope.TheVariants as scope
 use Rattle.vcl_language.specs.declared.scope.Subroutine.{Subroutine}
 use Rattle.vcl_language.specs.declared.variables.TheConstants.{VARIABLES as ROWS, FIELDS}
 use Rattle.vcl_language.specs.declared.variables.Variable.{Variable as Row}
-use Rattle.vcl_language.specs.declared.words.TheConstants.{WORDS as LANGUAGE_WORDS}
-use Rattle.vcl_language.specs.declared.words.Word.{Word}
 use Rattle.vcl_context.specs.Names.{behind, field_among, variable_of, field_of}
 use Rattle.vcl_context.specs.declared.names.TheConstants.{NAMES, VARIABLES, FRONTS, MESSAGES}
 use Rattle.vcl_context.specs.declared.variable.Message.{Message}
 use Rattle.vcl_context.specs.declared.variable.Variable.{Variable}
-use Rattle.vcl_code.specs.Names.{Target, Field, NoTarget, plain_or_field, target_of, builtin_of, word_of}
+use Rattle.vcl_code.specs.Names.{Target, Field, NoTarget, plain_or_field, target_of, builtin_of}
 use Rattle.vcl_code.specs.declared.callees.Builtin.{Builtin}
 use Rattle.vcl_code.specs.declared.callees.Builtin.TheVariants as builtin
-use Rattle.vcl_code.specs.declared.callees.TheConstants.{BUILTINS, BUILTIN_NAMES, WORDS, WORD_NAMES}
-use Rattle.vcl_code.specs.declared.node.ReturnWord.{ReturnWord}
+use Rattle.vcl_code.specs.declared.callees.TheConstants.{BUILTINS, BUILTIN_NAMES}
 
 pub false-true : false ≡ true → ⊥
 false-true e = cc
@@ -225,7 +221,3 @@ function-row name f e = at-function (position (λ known. bytes_eq known.now name
 pub no-function-row : (name : List ℕ) → function_named name ≡ None → builtin_of name ≡ None
 unfolding function_named builtin_of
 no-function-row name e = no-row-in FUNCTIONS BUILTINS (position (λ known. bytes_eq known.now name) BUILTIN_NAMES) refl e
-
-pub word-row : (name : List ℕ) (w : Word) → word_named name ≡ Some w → (r : ReturnWord) × (word_of name ≡ Some r)
-unfolding word_named word_of
-word-row name w e = row-in LANGUAGE_WORDS WORDS (position (λ known. bytes_eq known.now name) WORD_NAMES) w refl e

@@ -2,7 +2,6 @@
 ghost use Rattle.std.specs.Prelude.{◌≡◌, IfOk, IfErr};
 ghost use Rattle.vcl_check.specs.Texts.{IsSound};
 ghost use Rattle.vcl_store.specs.Joined.{IsJoined};
-ghost use Rattle.vcl_store.specs.Presence.{HasNoAbsent};
 ghost use Rattle.vcl_store.specs.Refusals.{IsRefusalOf};
 
 use crate::joined::joined_tree;
@@ -18,7 +17,6 @@ use vmod_host::VmodTable;
 pub fn program_of(alloc: Global, text: &Text, vmods: &VmodTable) -> Result<Compiled, VclError>
     ensures joined { IfOk result (λ compiled. IsJoined text.now compiled.program.tree) }
     ensures stored { IfOk result (λ compiled. compiled.program.stored ≡ vmods.now.stored) }
-    ensures whole { IfOk result (λ compiled. HasNoAbsent compiled.program.tree.items compiled.program.stored) }
     ensures refused { IfErr result (IsRefusalOf text.now vmods.now.stored) }
 {
     let program = checked(alloc, text, vmods)?;

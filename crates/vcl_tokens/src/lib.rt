@@ -13,6 +13,3 @@ mod words;
 
 pub use pieces::{TEXT_LIMIT, Tokens, one_reading, tokens};
 pub use spelling::{Form, State};
-
-#[cfg(test)]
-mod tests;

@@ -13,6 +13,6 @@ mod sums;
 mod value;
 
 pub use comparisons::{Comparison, compare};
-pub use pattern::{MOST_PATTERN, Pattern, PatternError};
-pub use sums::{MOST_MILLISECONDS, MOST_TEXT, ValueError, difference, sum};
+pub use pattern::{MAX_PATTERN, Pattern, PatternError};
+pub use sums::{MAX_MILLISECONDS, MAX_TEXT, ValueError, difference, sum};
 pub use value::{Backend, Kind, Value};

@@ -9,7 +9,7 @@ ghost use Rattle.regex.specs.Bytes.{regex_source};
 ghost use Rattle.vcl_values.specs.ReadHere.{IsReadHere};
 
 use crate::replacement::expanded;
-use crate::sums::{MOST_TEXT, ValueError};
+use crate::sums::{MAX_TEXT, ValueError};
 use regex::bytes::{Captures, Regex};
 use std::alloc::{AllocError, Global};
 use std::error::Error;
@@ -18,7 +18,7 @@ use std::marker::Model;
 use units::Text;
 
 /// The most bytes of a pattern.
-pub const MOST_PATTERN: usize = 4096;
+pub const MAX_PATTERN: usize = 4096;
 
 /// Why a text is no pattern here.
 #[derive(Clone, Copy, Debug, PartialEq, Eq)]
@@ -71,7 +71,7 @@ impl Pattern {
         ensures no_reading { length text.now ≤ 4096 → HasNoReading text.now
             → IsErrOf result PatternError.Refused ⊎ IsErrOf result PatternError.NoMemory }
     {
-        if text.bytes().len() > MOST_PATTERN {
+        if text.bytes().len() > MAX_PATTERN {
             return Err(PatternError::TooLong);
         }
         let Ok(source) = str::from_utf8(text.bytes()) else {
@@ -103,7 +103,7 @@ impl Pattern {
         ensures { Gives result (text_within (replaced self.now text.now by.now all)) }
     {
         let bytes = cut_replaced(alloc, &self.regex, text.bytes(), by.bytes(), all)?;
-        if bytes.len() > MOST_TEXT {
+        if bytes.len() > MAX_TEXT {
             return Err(ValueError::TooLong);
         }
         Ok(Text::from_vec(bytes)?)
@@ -131,7 +131,7 @@ fn cut_replaced(
     ensures { IfOk result (λ out. IsCutFrom text_limit (replaced (regex_source regex.now) text.now by.now all) out.items) }
 {
     let mut matcher = regex.matcher(alloc)?;
-    let mut room = MOST_TEXT + 1;
+    let mut room = MAX_TEXT + 1;
     let out = matcher.replacen_with(
         alloc,
         text,

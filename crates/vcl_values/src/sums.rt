@@ -11,10 +11,10 @@ use std::fmt;
 use units::Text;
 
 /// The most milliseconds of a duration, either way.
-pub const MOST_MILLISECONDS: i128 = 10_000_000_000_000;
+pub const MAX_MILLISECONDS: i128 = 10_000_000_000_000;
 
 /// The most bytes of a text value.
-pub const MOST_TEXT: usize = 65_536;
+pub const MAX_TEXT: usize = 65_536;
 
 /// Why there is no sum or difference.
 #[derive(Clone, Copy, Debug, PartialEq, Eq)]
@@ -92,7 +92,7 @@ fn as_int(number: i128) -> Result<Value, ValueError>
 fn as_duration(milliseconds: i128) -> Result<Value, ValueError>
     ensures { result ≡ duration_value milliseconds }
 {
-    if milliseconds < -MOST_MILLISECONDS || MOST_MILLISECONDS < milliseconds {
+    if milliseconds < -MAX_MILLISECONDS || MAX_MILLISECONDS < milliseconds {
         return Err(ValueError::Range);
     }
     Ok(Value::Duration(milliseconds as i64))
@@ -110,7 +110,7 @@ fn joined(alloc: Global, left: &Value, right: &Value) -> Result<Value, ValueErro
 fn joined_text(alloc: Global, front: &[u8], back: &[u8]) -> Result<Value, ValueError>
     ensures { Gives result (text_value (front.now ++ back.now)) }
 {
-    if front.len() > MOST_TEXT || back.len() > MOST_TEXT - front.len() {
+    if front.len() > MAX_TEXT || back.len() > MAX_TEXT - front.len() {
         return Err(ValueError::TooLong);
     }
     Ok(Value::String(Some(text_of_two(alloc, front, back)?)))

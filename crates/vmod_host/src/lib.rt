@@ -10,8 +10,6 @@ mod integers;
 mod signature;
 mod strings;
 mod table;
-#[cfg(test)]
-mod tests;
 mod vmod;
 
 pub use integers::integer;

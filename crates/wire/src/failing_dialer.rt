@@ -168,7 +168,7 @@ impl Dialer for FailingDialer {
         let peer = dialed(host, port)?;
         let place = place(self.alloc)?;
         if let Some(plan) = self.next_plan() {
-            return Ok(link_of(self.alloc, plan, peer).placed(place));
+            return Ok(link_of(self.alloc, plan, peer).at_place(place));
         }
         add(&mut self.latest, place, Dial::Failed(peer));
         self.dials.fault();

@@ -89,7 +89,7 @@ impl FailingLink {
     }
 
     /// The connection with a place.
-    pub fn placed<P: Drop>(self, place: P) -> FailingLink<P>
+    pub fn at_place<P: Drop>(self, place: P) -> FailingLink<P>
         ensures { result ≡ self }
     {
         FailingLink {

@@ -8,7 +8,6 @@
 
 mod calls;
 mod clock;
-mod command_line;
 mod copying;
 mod failing;
 mod failing_dialer;
@@ -19,10 +18,6 @@ mod link;
 mod peer;
 mod scripted_clock;
 mod sending;
-mod stream;
-mod system_clock;
-mod tcp_dialer;
-mod tcp_link;
 mod traits;
 mod unfailing;
 mod unfailing_dialer;
@@ -30,7 +25,6 @@ mod unfailing_link;
 
 pub use calls::Calls;
 pub use clock::Clock;
-pub use command_line::{WordsError, read_words, tell};
 pub use copying::{ReadError, WriteFault, read_all, write_all};
 pub use failing::{FailingSink, FailingSource};
 pub use failing_dialer::{Dial, DialedLink, FailingDialer, Plan};
@@ -40,10 +34,6 @@ pub use link::{DialError, Dialer, Link};
 pub use peer::{Peer, Talk};
 pub use scripted_clock::ScriptedClock;
 pub use sending::{write_link, write_most};
-pub use stream::{StreamSink, StreamSource};
-pub use system_clock::SystemClock;
-pub use tcp_dialer::TcpDialer;
-pub use tcp_link::TcpLink;
 pub use traits::{Failed, Sink, Source};
 pub use unfailing::{UnfailingSink, UnfailingSource};
 pub use unfailing_dialer::UnfailingDialer;

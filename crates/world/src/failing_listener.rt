@@ -55,7 +55,7 @@ impl Coming {
         let reads = Direction::new(plan.failing_reads, plan.most);
         let writes = Direction::new(plan.failing_writes, plan.most);
         let link = FailingLink::new(alloc, plan.input, reads, writes, Peer::Accepted(address));
-        (link.placed(place), address)
+        (link.at_place(place), address)
     }
 }
 

@@ -12,9 +12,6 @@ mod gate;
 mod kit;
 mod listener;
 mod planned_kit;
-mod port_link;
-mod port_listener;
-mod system_world;
 mod worlds;
 
 pub use failing_listener::{AcceptedLink, Coming, FailingListener};
@@ -24,7 +21,4 @@ pub use gate::{Gate, OpenGate, Place};
 pub use kit::Kit;
 pub use listener::Listener;
 pub use planned_kit::{KitClock, PlannedKit};
-pub use port_link::PortLink;
-pub use port_listener::PortListener;
-pub use system_world::SystemWorld;
 pub use worlds::World;

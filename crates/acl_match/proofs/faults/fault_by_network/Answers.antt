@@ -9,11 +9,11 @@ use Rattle.acl_match.proofs.faults.fault_by_network.Goals as goal
 pub loop-place-init : goal.loop-place-init
 loop-place-init c = record { short = AllShort-nil; recorded = Records-nil c.new-signs.result c.new-signs.ensures.empty }
 
-pub returns-then-entry-gt-LONGEST_MASK-clause-mask : goal.returns-then-entry-gt-LONGEST_MASK-clause-mask
-returns-then-entry-gt-LONGEST_MASK-clause-mask c = λ place is.
+pub returns-then-entry-gt-MAX_MASK-clause-mask : goal.returns-then-entry-gt-MAX_MASK-clause-mask
+returns-then-entry-gt-MAX_MASK-clause-mask c = λ place is.
     let same : c.loop-place.place ≡ place = cc in
     let P : ℕ → Type 0 = λ i. IsFirstMask c.args.entries.now i in
-    subst P same (record { before = IsSound-recorded _ c.loop-place.signs c.loop-place.invariant.short c.loop-place.invariant.recorded; here = (_, slice_get-get_or _ _ _ c.loop-place-test.true, c.if-entry-gt-LONGEST_MASK.true) })
+    subst P same (record { before = IsSound-recorded _ c.loop-place.signs c.loop-place.invariant.short c.loop-place.invariant.recorded; here = (_, slice_get-get_or _ _ _ c.loop-place-test.true, c.if-entry-gt-MAX_MASK.true) })
 
 pub returns-in-Ok-true-clause-clash : goal.returns-in-Ok-true-clause-clash
 returns-in-Ok-true-clause-clash c = λ place is.

@@ -9,11 +9,11 @@ use Rattle.acl_match.proofs.faults.fault_by_pair.Goals as goal
 pub loop-place-init : goal.loop-place-init
 loop-place-init c = IsSound-nil
 
-pub returns-then-entry-gt-LONGEST_MASK-clause-mask : goal.returns-then-entry-gt-LONGEST_MASK-clause-mask
-returns-then-entry-gt-LONGEST_MASK-clause-mask c = λ place is.
+pub returns-then-entry-gt-MAX_MASK-clause-mask : goal.returns-then-entry-gt-MAX_MASK-clause-mask
+returns-then-entry-gt-MAX_MASK-clause-mask c = λ place is.
     let same : c.loop-place.place ≡ place = cc in
     let P : ℕ → Type 0 = λ i. IsFirstMask c.args.entries.now i in
-    subst P same (record { before = c.loop-place.invariant; here = (_, slice_get-get_or _ _ _ c.loop-place-test.true, c.if-entry-gt-LONGEST_MASK.true) })
+    subst P same (record { before = c.loop-place.invariant; here = (_, slice_get-get_or _ _ _ c.loop-place-test.true, c.if-entry-gt-MAX_MASK.true) })
 
 pub returns-then-clashes_with_any-clause-clash : goal.returns-then-clashes_with_any-clause-clash
 returns-then-clashes_with_any-clause-clash c = λ place is.
@@ -23,7 +23,7 @@ returns-then-clashes_with_any-clause-clash c = λ place is.
 
 pub loop-place-preserved : goal.loop-place-preserved
 loop-place-preserved c = rw (take_more c.args.entries.now c.loop-place.place (record { address = []; mask = 0; negated = false }) c.loop-place-test.true)
-    (IsSound-push _ _ c.loop-place.invariant c.if-entry-gt-LONGEST_MASK.false (λ clash. false≢true (c.if-clashes_with_any.ensures.1 clash)))
+    (IsSound-push _ _ c.loop-place.invariant c.if-entry-gt-MAX_MASK.false (λ clash. false≢true (c.if-clashes_with_any.ensures.1 clash)))
 
 pub returns-clause-ok : goal.returns-clause-ok
 returns-clause-ok c =

@@ -1,6 +1,6 @@
 use Rattle.std.proofs.Common.{refl}
 use Rattle.client_graph.specs.Opening.{opening}
-use Rattle.client_graph.specs.declared.round.Spot.TheVariants.{Look}
+use Rattle.client_graph.specs.declared.round.WaitPoint.TheVariants.{Look}
 use Rattle.client_task.specs.Rounds.{Between, evaluator}
 use Rattle.client_task.proofs.Tidy.{reaches-tidy}
 use Rattle.client_task.proofs.laws.looks_up_without_a_fetch.Goals as goal

@@ -23,7 +23,7 @@ returns g c =
     let runner = g.M.Runner in
     let e = evaluator runner.turns runner.targets c.args.program.now in
     record {
-      went = if_ok _ _ c.go.result (λ gone h. went-from e _ runner.fits _ _ gone (entering e c.args.state c.args.context c.args.round)
+      went = if_ok _ _ c.go.result (λ run_step h. went-from e _ runner.fits _ _ run_step (entering e c.args.state c.args.context c.args.round)
           (h (begun (subroutine_of c.args.state) c.args.context) (subst (λ (s : Subroutine). runner.stands c.in-Ok.run' c.args.program.now (begun s c.args.context)) c.subroutine.ensures c.in-Ok.ensures.stands))) c.go.ensures.went;
       lowers = c.go.ensures.lowers;
     }

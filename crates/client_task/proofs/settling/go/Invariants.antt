@@ -1,6 +1,6 @@
 use Rattle.std.proofs.Common.{◌≡◌}
 use Rattle.vcl_runs.specs.Runs.{Ran, answered}
-use Rattle.client_graph.specs.declared.round.Want.{Want}
+use Rattle.client_graph.specs.declared.round.ClientWant.{ClientWant}
 use Rattle.client_task.specs.Rounds.{Node, Runs, Settles, evaluator}
 use Rattle.client_task.proofs.settling.go.Given as goal
 
@@ -15,7 +15,7 @@ invariant-runs g l =
       same : l.state ≡ l.fn.state;
       goes : (first : Ran) → runner.stands l.fn.run l.fn.program first
           → (ran : Ran) × runner.stands l.run l.fn.program ran
-          × ((node : Node) (want : Want) → Settles e (Runs l.state (answered l.answer ran) l.fn.round) node want
+          × ((node : Node) (want : ClientWant) → Settles e (Runs l.state (answered l.answer ran) l.fn.round) node want
           → Settles e (Runs l.fn.state (answered l.fn.answer first) l.fn.round) node want);
     }
 

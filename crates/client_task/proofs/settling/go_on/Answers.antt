@@ -13,7 +13,7 @@ pub returns-in-Stops : goal.returns-in-Stops
 returns-in-Stops g c = λ ran s.
     let runner = g.M.Runner in
     let e = evaluator runner.turns runner.targets c.args.program.now in
-    stopped e _ runner.fits _ c.in_ok-gone.gone c.in-Stops.settled c.in-Stops.is (c.in_ok-gone.ensures.went ran s)
+    stopped e _ runner.fits _ c.in_ok-run_step.run_step c.in-Stops.settled c.in-Stops.is (c.in_ok-run_step.ensures.went ran s)
 
 pub returns-in-Leads : goal.returns-in-Leads
 returns-in-Leads g c =
@@ -21,5 +21,5 @@ returns-in-Leads g c =
     let e = evaluator runner.turns runner.targets c.args.program.now in
     if_ok _ _ c.settle.result
     (λ settled h ran s. settled-from e _ runner.fits (Runs c.args.state (answered c.args.answer ran) c.args.round) (Moves c.in-Leads.next) settled
-    (led e _ runner.fits _ c.in_ok-gone.gone c.in-Leads.next c.in-Leads.is (c.in_ok-gone.ensures.went ran s)) h)
+    (led e _ runner.fits _ c.in_ok-run_step.run_step c.in-Leads.next c.in-Leads.is (c.in_ok-run_step.ensures.went ran s)) h)
     c.settle.ensures

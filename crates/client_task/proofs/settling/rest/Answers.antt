@@ -6,4 +6,4 @@ pub returns : goal.returns
 returns g c =
     let runner = g.M.Runner in
     rested (evaluator runner.turns runner.targets c.args.program.now) (λ run ran. runner.stands run c.args.program.now ran) runner.fits
-    c.args.spot c.args.round c.in-Ok.hint c.in-Ok-ask.want c.in-Ok.ensures c.in-Ok-ask.ensures
+    c.args.point c.args.round c.in-Ok.hint c.in-Ok-ask.want c.in-Ok.ensures c.in-Ok-ask.ensures

@@ -34,7 +34,7 @@ returns-in_ok-next-in-Between g c =
     let runner = g.M.Runner in
     let e = evaluator runner.turns runner.targets c.args.program.now in
     record {
-      broken = λ b. absurd (not-broken-between c.args.place c.in-Between.spot c.in-Between.round c.in-Between.is b);
+      broken = λ b. absurd (not-broken-between c.args.place c.in-Between.point c.in-Between.round c.in-Between.is b);
       settles = if_ok _ _ c.settle-in-Between.result
-          (λ settled h. settles-between e _ runner.fits c.args.place c.in-Between.spot c.in-Between.round c.in_ok-next-in-Between.next c.args.given settled c.in-Between.is c.in_ok-next-in-Between.ensures h) c.settle-in-Between.ensures;
+          (λ settled h. settles-between e _ runner.fits c.args.place c.in-Between.point c.in-Between.round c.in_ok-next-in-Between.next c.args.given settled c.in-Between.is c.in_ok-next-in-Between.ensures h) c.settle-in-Between.ensures;
     }

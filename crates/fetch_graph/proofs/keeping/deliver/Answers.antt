@@ -7,5 +7,5 @@ use Rattle.fetch_graph.proofs.keeping.deliver.Goals as goal
 pub returns : goal.returns
 unfolding delivered
 returns c =
-    subst (λ (r : Response). IfOk c.hand_over.result (λ next. next ≡ handed c.args.fetch.order.looked c.args.kept r c.args.context c.args.fetch))
+    subst (λ (r : Response). IfOk c.hand_over.result (λ next. next ≡ handed c.args.fetch.order.looked c.args.store_as r c.args.context c.args.fetch))
     c.in-Ok.ensures c.hand_over.ensures

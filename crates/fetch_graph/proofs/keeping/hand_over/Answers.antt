@@ -7,10 +7,10 @@ use Rattle.fetch_graph.proofs.keeping.hand_over.Goals as goal
 pub returns-in-None : goal.returns-in-None
 unfolding handed
 returns-in-None c =
-    subst (λ (looked : Option Query). IfOk c.deliver_passed.result (λ next. next ≡ handed looked c.args.kept c.args.response c.args.context c.args.fetch))
+    subst (λ (looked : Option Query). IfOk c.deliver_passed.result (λ next. next ≡ handed looked c.args.store_as c.args.response c.args.context c.args.fetch))
     (sym c.in-None.is) c.deliver_passed.ensures
 
 pub returns-in-Some : goal.returns-in-Some
 returns-in-Some c =
-    subst (λ (looked : Option Query). IfOk c.insert.result (λ next. next ≡ handed looked c.args.kept c.args.response c.args.context c.args.fetch))
+    subst (λ (looked : Option Query). IfOk c.insert.result (λ next. next ≡ handed looked c.args.store_as c.args.response c.args.context c.args.fetch))
     (sym c.in-Some.is) (c.insert.ensures c.in-Some.field-0)

@@ -1,4 +1,4 @@
-use Rattle.fetch_task.specs.Fetches.{evaluator}
+use Rattle.vcl_runs.specs.Evaluators.{evaluator}
 use Rattle.fetch_task.proofs.Orders.{retries-few}
 use Rattle.fetch_task.proofs.laws.few_retries.Goals as goal
 

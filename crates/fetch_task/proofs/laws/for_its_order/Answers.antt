@@ -1,4 +1,4 @@
-use Rattle.fetch_task.specs.Fetches.{evaluator}
+use Rattle.vcl_runs.specs.Evaluators.{evaluator}
 use Rattle.fetch_task.proofs.Orders.{wants-for}
 use Rattle.fetch_task.proofs.laws.for_its_order.Goals as goal
 

@@ -1,4 +1,4 @@
-use Rattle.fetch_task.specs.Fetches.{evaluator}
+use Rattle.vcl_runs.specs.Evaluators.{evaluator}
 use Rattle.fetch_task.proofs.OneWant.{wants-one}
 use Rattle.fetch_task.proofs.laws.one_want.Goals as goal
 

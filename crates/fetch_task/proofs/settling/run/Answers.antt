@@ -4,7 +4,7 @@ use Rattle.vcl_language.specs.Scopes.{has}
 use Rattle.vcl_language.specs.declared.scope.Scope.TheVariants.{Init}
 use Rattle.fetch_task.proofs.Subroutines.{no-init}
 use Rattle.vcl_runs.specs.Runs.{begun}
-use Rattle.fetch_task.specs.Fetches.{evaluator}
+use Rattle.vcl_runs.specs.Evaluators.{evaluator}
 use Rattle.fetch_task.proofs.Going.{asking, ending, if_ok}
 use Rattle.fetch_task.proofs.Lowering.{abandoned-lower, led-lower}
 use Rattle.fetch_task.proofs.settling.run.Goals as goal

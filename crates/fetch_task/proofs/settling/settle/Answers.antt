@@ -1,7 +1,8 @@
 use Rattle.std.proofs.Common.{◌<◌, subst, sym}
 use Rattle.fetch_graph.specs.declared.fetch.Next.{Next}
 use Rattle.fetch_graph.specs.declared.fetch.Next.TheVariants.{Enter, Rest}
-use Rattle.fetch_task.specs.Fetches.{evaluator, rests}
+use Rattle.fetch_task.specs.Fetches.{rests}
+use Rattle.vcl_runs.specs.Evaluators.{evaluator}
 use Rattle.fetch_task.specs.Standing.{weight_of}
 use Rattle.fetch_task.proofs.Going.{at-next}
 use Rattle.fetch_task.proofs.settling.settle.Goals as goal
@@ -24,5 +25,5 @@ pub returns-in-Rest : goal.returns-in-Rest
 returns-in-Rest g c =
     let runner = g.M.Runner in
     let e = evaluator runner.turns runner.targets runner.default_of c.args.program.now in
-    let from = at-next e c.args.next c.states.next (Rest c.in-Rest.spot c.in-Rest.fetch) c.in-Rest.is c.states.invariant in
-    from (Rest c.in-Rest.spot c.in-Rest.fetch) (rests c.in-Rest.spot c.in-Rest.fetch)
+    let from = at-next e c.args.next c.states.next (Rest c.in-Rest.point c.in-Rest.fetch) c.in-Rest.is c.states.invariant in
+    from (Rest c.in-Rest.point c.in-Rest.fetch) (rests c.in-Rest.point c.in-Rest.fetch)

@@ -1,4 +1,4 @@
-use Rattle.fetch_task.specs.Fetches.{evaluator}
+use Rattle.vcl_runs.specs.Evaluators.{evaluator}
 use Rattle.fetch_task.specs.Standing.{LeadsTo, weight_of}
 use Rattle.fetch_task.proofs.settling.settle.Given as goal
 

@@ -1,5 +1,5 @@
 use Rattle.std.proofs.Common.{◌<◌, ◌∙◌, length, arith, ap}
-use Rattle.flat_core.specs.Kept.{counted_in}
+use Rattle.flat_core.specs.StoredObject.{counted_in}
 use Rattle.flat_core.proofs.Passes.{length-passed, one_passed, passed_whole}
 use Rattle.flat_core.proofs.lists.count_hit.Goals as goal
 

@@ -1,5 +1,5 @@
 use Rattle.std.proofs.Common.{◌≡◌}
-use Rattle.flat_core.specs.Kept.{counted_in}
+use Rattle.flat_core.specs.StoredObject.{counted_in}
 use Rattle.flat_core.proofs.Passes.{passed}
 use Rattle.flat_core.proofs.lists.count_hit.Given as goal
 

@@ -1,6 +1,6 @@
 use Rattle.std.proofs.Common.{rules}
 use Rattle.std.proofs.lemmas.Fn.{filter_same}
-use Rattle.flat_core.specs.Kept.{stays}
+use Rattle.flat_core.specs.StoredObject.{stays}
 use Rattle.flat_core.proofs.lists.drop_stale.Goals as goal
 
 pub returns-clause-items : goal.returns-clause-items

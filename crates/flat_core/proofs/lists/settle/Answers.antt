@@ -1,6 +1,6 @@
 use Rattle.std.proofs.Common.{rules, arith, ◌≡◌, ◌<◌, length, get_or}
-use Rattle.flat_core.specs.declared.kept.Fate.TheVariants.{Stays}
-use Rattle.flat_core.specs.Kept.{moved_on}
+use Rattle.flat_core.specs.declared.stored_object.Fate.TheVariants.{Stays}
+use Rattle.flat_core.specs.StoredObject.{moved_on}
 use Rattle.flat_core.proofs.Objects.{settle_start, all_stay, settle_more, settle_whole}
 use Rattle.flat_core.proofs.lists.settle.Goals as goal
 

@@ -1,5 +1,5 @@
 use Rattle.std.proofs.Common.{◌≡◌, ◌++◌, take, drop}
-use Rattle.flat_core.specs.Kept.{settled}
+use Rattle.flat_core.specs.StoredObject.{settled}
 use Rattle.flat_core.proofs.lists.settle.Given as goal
 
 -- the objects before this place stand behind the others, as their fates leave them

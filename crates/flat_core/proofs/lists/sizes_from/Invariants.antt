@@ -1,5 +1,5 @@
 use Rattle.std.proofs.Common.{◌≡◌, ◌-◌, ◌^◌, ◌+◌, min, take}
-use Rattle.flat_core.specs.Kept.{sizes_staying}
+use Rattle.flat_core.specs.StoredObject.{sizes_staying}
 use Rattle.flat_core.proofs.lists.sizes_from.Given as goal
 
 -- the objects so far are counted

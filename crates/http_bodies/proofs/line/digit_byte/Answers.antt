@@ -9,19 +9,19 @@ use Rattle.http_bodies.proofs.LineFacts.{size_digit, size_full, size_least}
 use Rattle.http_bodies.proofs.LivingFacts.{line_lives}
 use Rattle.http_bodies.proofs.line.digit_byte.Goals as goal
 
-pub returns-then-digits-eq-MOST_DIGITS-clause-refused : goal.returns-then-digits-eq-MOST_DIGITS-clause-refused
-returns-then-digits-eq-MOST_DIGITS-clause-refused c =
+pub returns-then-digits-eq-MAX_DIGITS-clause-refused : goal.returns-then-digits-eq-MAX_DIGITS-clause-refused
+returns-then-digits-eq-MAX_DIGITS-clause-refused c =
     inl (
       refl,
       λ text added left. size_full c.args.size c.args.spare c.args.byte c.requires.hex text added
-          (subst (λ n. LineLeft (Size n c.args.size c.args.spare) (c.args.byte ∷ text) added) c.if-digits-eq-MOST_DIGITS.true left),
+          (subst (λ n. LineLeft (Size n c.args.size c.args.spare) (c.args.byte ∷ text) added) c.if-digits-eq-MAX_DIGITS.true left),
     )
 
 pub returns-then-grown-from-clause-refused : goal.returns-then-grown-from-clause-refused
 returns-then-grown-from-clause-refused c =
     let grown = c.args.size * 16 + digit_value c.args.byte in
     let step = size_digit c.args.digits c.args.size c.args.spare c.args.byte c.requires.hex in
-    let lives = line_lives (Size (c.args.digits + 1) (c.args.size * 16 + digit_value c.args.byte) c.args.spare) (omega (arith, c.requires.sound.waits.0, c.if-digits-eq-MOST_DIGITS.false), λ none. absurd (omega (arith, none))) in
+    let lives = line_lives (Size (c.args.digits + 1) (c.args.size * 16 + digit_value c.args.byte) c.args.spare) (omega (arith, c.requires.sound.waits.0, c.if-digits-eq-MAX_DIGITS.false), λ none. absurd (omega (arith, none))) in
     inr (
       refl,
       (lives.byte ∷ lives.text, lives.added, (step (lives.byte ∷ lives.text) lives.added).0 lives.left),

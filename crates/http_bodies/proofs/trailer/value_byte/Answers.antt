@@ -12,9 +12,9 @@ returns-then-byte-eq10-clause-next c =
     subst (λ b. IsNext (FieldValue c.args.fields c.args.left) b (Line (TrailerLine c.args.fields (c.args.left - 1)))) (sym c.if-byte-eq10.true)
     (value_feed c.args.fields c.args.left (omega (arith, c.requires.waits)))
 
-pub returns-then-left-lt-LEAST_VALUE-clause-refused : goal.returns-then-left-lt-LEAST_VALUE-clause-refused
-returns-then-left-lt-LEAST_VALUE-clause-refused c =
-    inl (refl, value_none c.args.fields c.args.left c.args.byte c.if-byte-eq10.false (inl c.if-left-lt-LEAST_VALUE.true))
+pub returns-then-left-lt-MIN_VALUE-clause-refused : goal.returns-then-left-lt-MIN_VALUE-clause-refused
+returns-then-left-lt-MIN_VALUE-clause-refused c =
+    inl (refl, value_none c.args.fields c.args.left c.args.byte c.if-byte-eq10.false (inl c.if-left-lt-MIN_VALUE.true))
 
 pub returns-then-byte-eq13-clause-next : goal.returns-then-byte-eq13-clause-next
 returns-then-byte-eq13-clause-next c =

@@ -39,27 +39,27 @@ returns-in_err-head-in-Ok-Complete-clause-answer c =
     c.in-Some.ensures.0 c.parse_request.auto.headers within complete in
     subst (AnswersRequest c.args.bytes.now) (sym (passed_on c.from_residual.result NoMemory c.from_residual.ensures.1)) (_, _, has, c.in-Some.ensures.1)
 
-pub returns-then-front-lt-LONGEST_HEAD-clause-answer : goal.returns-then-front-lt-LONGEST_HEAD-clause-answer
-returns-then-front-lt-LONGEST_HEAD-clause-answer c =
+pub returns-then-front-lt-MAX_HEAD-clause-answer : goal.returns-then-front-lt-MAX_HEAD-clause-answer
+returns-then-front-lt-MAX_HEAD-clause-answer c =
     let none = rw c.in-Ok-Partial.field-0-is at c.in-Ok-Partial.ensures.partial in
     let open_end = rw c.in-Ok-Partial.field-0-is at c.in-Ok-Partial.ensures.unfinished in
     told_none requests NeverHasRequest MayBecomeRequest c.args.bytes.now c.in-Some.front.now c.in-Some.ensures.0 c.in-Some.ensures.1 none open_end
-    c.if-front-lt-LONGEST_HEAD.true
+    c.if-front-lt-MAX_HEAD.true
 
-pub returns-then-front-lt-LONGEST_HEAD-clause-found : goal.returns-then-front-lt-LONGEST_HEAD-clause-found
-returns-then-front-lt-LONGEST_HEAD-clause-found c message count has =
+pub returns-then-front-lt-MAX_HEAD-clause-found : goal.returns-then-front-lt-MAX_HEAD-clause-found
+returns-then-front-lt-MAX_HEAD-clause-found c message count has =
     let none = rw c.in-Ok-Partial.field-0-is at c.in-Ok-Partial.ensures.partial in
     absurd (lacks requests c.args.bytes.now c.in-Some.front.now c.in-Some.ensures.0 none message count has)
 
-pub returns-else-front-lt-LONGEST_HEAD-clause-answer : goal.returns-else-front-lt-LONGEST_HEAD-clause-answer
-returns-else-front-lt-LONGEST_HEAD-clause-answer c =
+pub returns-else-front-lt-MAX_HEAD-clause-answer : goal.returns-else-front-lt-MAX_HEAD-clause-answer
+returns-else-front-lt-MAX_HEAD-clause-answer c =
     let none = rw c.in-Ok-Partial.field-0-is at c.in-Ok-Partial.ensures.partial in
     let open_end = rw c.in-Ok-Partial.field-0-is at c.in-Ok-Partial.ensures.unfinished in
     told_long requests NeverHasRequest MayBecomeRequest c.args.bytes.now c.in-Some.front.now c.in-Some.ensures.0 c.in-Some.ensures.1 none open_end
-    c.if-front-lt-LONGEST_HEAD.false
+    c.if-front-lt-MAX_HEAD.false
 
-pub returns-else-front-lt-LONGEST_HEAD-clause-found : goal.returns-else-front-lt-LONGEST_HEAD-clause-found
-returns-else-front-lt-LONGEST_HEAD-clause-found c message count has =
+pub returns-else-front-lt-MAX_HEAD-clause-found : goal.returns-else-front-lt-MAX_HEAD-clause-found
+returns-else-front-lt-MAX_HEAD-clause-found c message count has =
     let none = rw c.in-Ok-Partial.field-0-is at c.in-Ok-Partial.ensures.partial in
     absurd (lacks requests c.args.bytes.now c.in-Some.front.now c.in-Some.ensures.0 none message count has)
 

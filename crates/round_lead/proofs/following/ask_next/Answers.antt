@@ -1,5 +1,5 @@
 -- One want is answered, and the round is asked again.
-use Rattle.fetch_task.specs.Fetches.{evaluator}
+use Rattle.vcl_runs.specs.Evaluators.{evaluator}
 use Rattle.round_lead.proofs.Onward.{fails, goes_one, stops_behind}
 use Rattle.round_lead.proofs.Told.{Went-told}
 use Rattle.round_lead.proofs.following.ask_next.Goals as goal

@@ -1,6 +1,6 @@
 -- The round went on to where it stands, and the caller's round is open.
 use Rattle.std.proofs.Common.{◌≡◌, ◌≤◌, true}
-use Rattle.fetch_task.specs.Fetches.{evaluator}
+use Rattle.vcl_runs.specs.Evaluators.{evaluator}
 use Rattle.round_task.specs.Standing.{MayGoOn}
 use Rattle.shared_cache.specs.Passes.{IsPassOf}
 use Rattle.turnstile.specs.Handles.{known}

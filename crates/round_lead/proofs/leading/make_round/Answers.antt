@@ -1,7 +1,7 @@
 -- What is kept of a round, from its Begin to its End.
 use Rattle.std.proofs.Common.{sym, ◌∙◌}
 use Rattle.cache_law.specs.declared.call.Call.TheVariants.{End}
-use Rattle.round_lead.specs.Responses.{language_of}
+use Rattle.vcl_runs.specs.Languages.{language_of}
 use Rattle.turnstile.specs.Handles.{known}
 use Rattle.round_lead.specs.Steps.{stood}
 use Rattle.round_lead.proofs.Did.{did_call}

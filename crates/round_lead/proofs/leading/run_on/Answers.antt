@@ -1,7 +1,7 @@
 -- A round asked for its first want, and on to where its End is wanted.
 use Rattle.std.proofs.Common.{[], inl}
 use Rattle.std.proofs.lemmas.Result.{on_ok_weaker, IfErr-weaker}
-use Rattle.round_lead.specs.Responses.{language_of}
+use Rattle.vcl_runs.specs.Languages.{language_of}
 use Rattle.round_task.specs.declared.want.Want.TheVariants.{Done}
 use Rattle.round_lead.specs.Steps.{stood}
 use Rattle.round_lead.proofs.Going.{cut_at_once, whole_from, cuts_from}

@@ -1,4 +1,4 @@
-use Rattle.fetch_task.specs.Fetches.{evaluator}
+use Rattle.vcl_runs.specs.Evaluators.{evaluator}
 use Rattle.round_task.proofs.Wholes.{begun-once}
 use Rattle.round_task.proofs.laws.begun_once.Goals as goal
 

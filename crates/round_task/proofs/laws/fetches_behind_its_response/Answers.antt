@@ -1,4 +1,4 @@
-use Rattle.fetch_task.specs.Fetches.{evaluator}
+use Rattle.vcl_runs.specs.Evaluators.{evaluator}
 use Rattle.round_task.proofs.Wholes.{fetch-behind}
 use Rattle.round_task.proofs.laws.fetches_behind_its_response.Goals as goal
 

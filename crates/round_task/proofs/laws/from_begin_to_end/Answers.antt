@@ -1,4 +1,4 @@
-use Rattle.fetch_task.specs.Fetches.{evaluator}
+use Rattle.vcl_runs.specs.Evaluators.{evaluator}
 use Rattle.round_task.specs.Responses.{AnyWord}
 use Rattle.round_task.proofs.Fronts.{whole-round}
 use Rattle.round_task.proofs.laws.from_begin_to_end.Goals as goal

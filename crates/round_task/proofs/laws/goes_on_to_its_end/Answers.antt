@@ -1,4 +1,4 @@
-use Rattle.fetch_task.specs.Fetches.{evaluator}
+use Rattle.vcl_runs.specs.Evaluators.{evaluator}
 use Rattle.round_task.proofs.Wholes.{goes-on-round}
 use Rattle.round_task.proofs.laws.goes_on_to_its_end.Goals as goal
 

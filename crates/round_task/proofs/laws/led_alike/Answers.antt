@@ -1,4 +1,4 @@
-use Rattle.fetch_task.specs.Fetches.{evaluator}
+use Rattle.vcl_runs.specs.Evaluators.{evaluator}
 use Rattle.round_task.proofs.Alike.{wants-like}
 use Rattle.round_task.proofs.laws.led_alike.Goals as goal
 

@@ -1,4 +1,4 @@
-use Rattle.fetch_task.specs.Fetches.{evaluator}
+use Rattle.vcl_runs.specs.Evaluators.{evaluator}
 use Rattle.round_task.proofs.Wholes.{looks-again-round}
 use Rattle.round_task.proofs.laws.looks_up_again.Goals as goal
 

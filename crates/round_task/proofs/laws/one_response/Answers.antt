@@ -1,4 +1,4 @@
-use Rattle.fetch_task.specs.Fetches.{evaluator}
+use Rattle.vcl_runs.specs.Evaluators.{evaluator}
 use Rattle.round_task.proofs.Wholes.{one-response-round}
 use Rattle.round_task.proofs.laws.one_response.Goals as goal
 

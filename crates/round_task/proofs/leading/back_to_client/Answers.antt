@@ -1,6 +1,6 @@
 use Rattle.std.proofs.Common.{◌∷◌, sym, ◌∙◌}
 use Rattle.cache_law.specs.declared.rounds.Given.TheVariants as given
-use Rattle.fetch_task.specs.Fetches.{evaluator}
+use Rattle.vcl_runs.specs.Evaluators.{evaluator}
 use Rattle.round_task.proofs.Settling.{broke, over-may, passed-back}
 use Rattle.round_task.proofs.leading.back_to_client.Goals as goal
 

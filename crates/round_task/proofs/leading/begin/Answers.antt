@@ -1,7 +1,7 @@
 use Rattle.std.proofs.Common.{[], ap}
 use Rattle.cache_law.specs.declared.call.Reply.{Reply}
 use Rattle.client_graph.specs.Opening.{opening}
-use Rattle.fetch_task.specs.Fetches.{evaluator}
+use Rattle.vcl_runs.specs.Evaluators.{evaluator}
 use Rattle.round_task.specs.Rounds.{begun}
 use Rattle.round_task.proofs.Settling.{begun-other, if_ok, over-may, settled-flow, settled-over}
 use Rattle.round_task.proofs.leading.begin.Goals as goal

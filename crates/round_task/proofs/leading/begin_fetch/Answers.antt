@@ -1,5 +1,5 @@
 use Rattle.std.proofs.Common.{[], refl}
-use Rattle.fetch_task.specs.Fetches.{evaluator}
+use Rattle.vcl_runs.specs.Evaluators.{evaluator}
 use Rattle.round_task.proofs.Settling.{begun-fetch, if_ok}
 use Rattle.round_task.proofs.leading.begin_fetch.Goals as goal
 

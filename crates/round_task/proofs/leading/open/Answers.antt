@@ -1,6 +1,6 @@
 use Rattle.std.proofs.Common.{ap}
 use Rattle.cache_law.specs.declared.rounds.Given.{Given}
-use Rattle.fetch_task.specs.Fetches.{evaluator}
+use Rattle.vcl_runs.specs.Evaluators.{evaluator}
 use Rattle.round_task.specs.Rounds.{Opening, flow_of}
 use Rattle.round_task.proofs.Settling.{if_ok, opened-other, over-may, settled-flow, settled-over}
 use Rattle.round_task.proofs.leading.open.Goals as goal

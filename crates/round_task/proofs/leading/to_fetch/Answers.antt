@@ -1,6 +1,6 @@
 use Rattle.std.proofs.Common.{◌∷◌, sym, ◌∙◌}
 use Rattle.fetch_graph.specs.Opening.{opening}
-use Rattle.fetch_task.specs.Fetches.{evaluator}
+use Rattle.vcl_runs.specs.Evaluators.{evaluator}
 use Rattle.round_task.proofs.Settling.{asked-on, behind, if_ok, returned}
 use Rattle.round_task.proofs.leading.to_fetch.Goals as goal
 

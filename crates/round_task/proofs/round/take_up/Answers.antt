@@ -1,4 +1,4 @@
-use Rattle.fetch_task.specs.Fetches.{evaluator}
+use Rattle.vcl_runs.specs.Evaluators.{evaluator}
 use Rattle.round_task.proofs.Settling.{each-client, each-fetch, each-opening, each-over, if_ok, may-client, may-fetch, not-broken, over-may}
 use Rattle.round_task.proofs.round.take_up.Goals as goal
 

@@ -1,7 +1,7 @@
 use Rattle.std.proofs.Common.{◌⊎◌, sym, subst}
 use Rattle.wire.specs.Causes.{Rose}
 use Rattle.cache_law.specs.declared.setting.Params.{Params}
-use Rattle.varn_program.specs.Functions.{std_functions}
+use Rattle.vcl_library.specs.Functions.{std_functions}
 use Rattle.varn_program.specs.Run.{IsComplete}
 use Rattle.varn_program.proofs.Asking.{one_replay}
 use Rattle.varn_program.proofs.command.run.Goals as goal

@@ -1,9 +1,9 @@
 use Rattle.std.proofs.Common.{◌≡◌, ◌∙◌, ◌⊎◌, List, subst}
 use Rattle.vmod_host.specs.declared.signature.Stored.{Stored}
 use Rattle.wire.specs.Causes.{Rose}
-use Rattle.varn_program.specs.Functions.{std_functions}
+use Rattle.vcl_library.specs.Functions.{std_functions}
 use Rattle.varn_program.specs.Run.{EndsReplay, IsComplete}
-use Rattle.varn_program.proofs.Tables.{all_four}
+use Rattle.vcl_library.proofs.Tables.{all_four}
 use Rattle.varn_program.proofs.functions.try_replay.Goals as goal
 
 pub returns-in_ok-vmods-in-Ok-clause-ends : goal.returns-in_ok-vmods-in-Ok-clause-ends

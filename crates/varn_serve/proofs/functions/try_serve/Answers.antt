@@ -5,11 +5,11 @@ use denote.Param.Send.{sendable}
 use Rattle.vcl_library.specs.Functions.{std_functions}
 use Rattle.vcl_library.proofs.Tables.{all_four}
 use Rattle.varn_serve.proofs.Carried.{by_vcl}
-use Rattle.varn_serve.proofs.Crossing.{compiled_send, compiled_sync, library_send, library_sync}
+use Rattle.varn_serve.proofs.Crossing.{compiled_send, compiled_sync, kept_send, kept_sync, library_send, library_sync}
 use Rattle.varn_serve.proofs.Ends.{idle_halted, idle_unbooted, unbooted_so}
 use Rattle.varn_serve.proofs.functions.try_serve.Goals as goal
 
-ruleset crossing = (crosses, sendable, compiled_send, compiled_sync, library_send, library_sync)
+ruleset crossing = (crosses, sendable, compiled_send, compiled_sync, kept_send, kept_sync, library_send, library_sync)
 
 pub serve_stocked-requires-send-M-Program : goal.serve_stocked-requires-send-M-Program
 serve_stocked-requires-send-M-Program g c κs within = search crossing depth 60 fits 20000
@@ -31,7 +31,7 @@ returns-in-Err-clause-ends g c =
     let made : c.in-Ok.vmods.stored ≡ std_functions =
     (rw c.in_ok-from_array.ensures.items at c.in-Ok.ensures.ok)
     ∙ all_four _ _ _ _ c.in_ok-tolower_signature.ensures c.in_ok-toupper_signature.ensures c.in_ok-integer_signature.ensures c.in_ok-strlen_signature.ensures in
-    let same : c.deref.result.now.stored ≡ std_functions = rw (c.deref.ensures, c.in_ok-vmods.ensures) made in
+    let same : c.in_ok-vmods.vmods.stored ≡ std_functions = rw c.in_ok-vmods.ensures made in
     unbooted_so _ _ _ _ _ _ _ c.args.order.now c.in-Err.error c.unbooted.result c.unbooted.ensures (rw same at c.in-Err.ensures.why)
 
 pub returns-in-Ok-serve_stocked-clause-came : goal.returns-in-Ok-serve_stocked-clause-came
@@ -39,20 +39,20 @@ returns-in-Ok-serve_stocked-clause-came g c =
     let made : c.in-Ok.vmods.stored ≡ std_functions =
     (rw c.in_ok-from_array.ensures.items at c.in-Ok.ensures.ok)
     ∙ all_four _ _ _ _ c.in_ok-tolower_signature.ensures c.in_ok-toupper_signature.ensures c.in_ok-integer_signature.ensures c.in_ok-strlen_signature.ensures in
-    let same : c.deref.result.now.stored ≡ std_functions = rw (c.deref.ensures, c.in_ok-vmods.ensures) made in
+    let same : c.in_ok-vmods.vmods.stored ≡ std_functions = rw c.in_ok-vmods.ensures made in
     inr (record {
-      boot = c.in-Ok-read_boot.boot;
-      boots = rw same at c.in-Ok-read_boot.ensures.boot;
-      ran = rw (c.finished.ensures.history, c.finished.ensures.transcripts, ← c.read_boot.ensures.links, ← c.read_boot.ensures.kept, ← c.read_boot.ensures.kits)
+      boot = c.in-Ok-stocked_boot.stocked.0;
+      boots = rw same at c.in-Ok-stocked_boot.ensures.boot;
+      ran = rw (c.finished.ensures.history, c.finished.ensures.transcripts, ← c.stocked_boot.ensures.links, ← c.stocked_boot.ensures.kept, ← c.stocked_boot.ensures.kits)
           (by_vcl _ _ _ _ _ _ _ _ _ _ _ _ _ c.in-Ok-serve_stocked.ensures.ran);
     })
 
 pub returns-in-Err-clause-came : goal.returns-in-Err-clause-came
 returns-in-Err-clause-came g c =
-    inl (idle_unbooted _ _ c.unbooted.result c.read_boot.ensures.links c.read_boot.ensures.kept c.read_boot.ensures.kits c.in-Err.error c.unbooted.ensures)
+    inl (idle_unbooted _ _ c.unbooted.result c.stocked_boot.ensures.links c.stocked_boot.ensures.kept c.stocked_boot.ensures.kits c.in-Err.error c.unbooted.ensures)
 
 pub returns-in-Err-serve_stocked-clause-came : goal.returns-in-Err-serve_stocked-clause-came
 returns-in-Err-serve_stocked-clause-came g c =
     let nobody = c.in-Err-serve_stocked.ensures.nobody in
-    inl (idle_halted _ _ c.stopped.result (nobody.0 ∙ c.read_boot.ensures.links) (nobody.1 ∙ c.read_boot.ensures.kept) (nobody.2 ∙ c.read_boot.ensures.kits) c.in-Err-serve_stocked.status _
+    inl (idle_halted _ _ c.stopped.result (nobody.0 ∙ c.stocked_boot.ensures.links) (nobody.1 ∙ c.stocked_boot.ensures.kept) (nobody.2 ∙ c.stocked_boot.ensures.kits) c.in-Err-serve_stocked.status _
     c.stopped.ensures _ c.in-Err-serve_stocked.ensures.halted)

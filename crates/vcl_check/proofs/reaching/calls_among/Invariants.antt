@@ -1,5 +1,5 @@
 use Rattle.std.proofs.Common.{◌≡◌, ◌++◌, drop, filter_map, length}
-use Rattle.vcl_calls.specs.Calls.{AreWithin}
+use Rattle.vcl_symbols.specs.Calls.{AreWithin}
 use Rattle.vcl_check.specs.Reaching.{call_of}
 use Rattle.vcl_check.proofs.reaching.calls_among.Given as goal
 

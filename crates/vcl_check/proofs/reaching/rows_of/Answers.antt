@@ -1,6 +1,6 @@
 use Rattle.std.proofs.Common.{◌≡◌, ℕ, ◌++◌, ◌∷◌, [], arith, length-append}
 use Rattle.std.specs.Prelude.{◌↔◌}
-use Rattle.vcl_calls.specs.Calls.{Reaches, Marked}
+use Rattle.vcl_symbols.specs.Calls.{Reaches, Marked}
 use Rattle.vcl_check.proofs.ReachingLemmas.{reached-push}
 use Rattle.vcl_check.proofs.reaching.rows_of.Goals as goal
 

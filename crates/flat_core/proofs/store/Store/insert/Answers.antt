@@ -1,7 +1,7 @@
 use Rattle.std.proofs.Common.{rules, refl, arith, ◌≡◌, ◌^◌, ◌-◌, ◌∷◌, min, length, filter}
-use Rattle.flat_core.specs.Kept.{first_of, stays}
+use Rattle.flat_core.specs.StoredObject.{first_of, stays}
 use Rattle.cache_law.specs.Object.{in_time, size_of}
-use Rattle.flat_core.specs.declared.kept.Kept.{Kept}
+use Rattle.flat_core.specs.declared.stored_object.StoredObject.{StoredObject}
 use Rattle.flat_core.specs.contracts.store.Store.{the_view}
 use Rattle.flat_core.proofs.Replies.{Insertion, inserts_not, stale_gone, too_late, no_room, refuses_late, stores}
 use Rattle.flat_core.proofs.Tested.{filter_tested, first_tested}
@@ -19,7 +19,7 @@ pub invariant_of-self-2 : goal.invariant_of-self-2
 invariant_of-self-2 c =
     let count : c.len.result ≡ length c.self.inside.bans.items = omega (arith, c.len.ensures, c.self.inside.bans.ok) in
     let first : c.put_first.new.objects.items ≡ first_of c.args.token c.args.object.now c.args.stale c.len.result c.keep_in_time.new.objects.items ∷ filter (stays c.args.stale) c.keep_in_time.new.objects.items = search rules in
-    rw (first, count, c.keep_in_time.ensures) (first_tested c.self.inside.bans.items c.args.token c.args.object.now c.args.stale (filter (λ (kept : Kept). in_time c.args.moment kept.view.object) c.self.inside.objects.items) (filter_tested c.self.inside.bans.items (λ (kept : Kept). in_time c.args.moment kept.view.object) c.self.inside.objects.items c.self.invariant))
+    rw (first, count, c.keep_in_time.ensures) (first_tested c.self.inside.bans.items c.args.token c.args.object.now c.args.stale (filter (λ (kept : StoredObject). in_time c.args.moment kept.view.object) c.self.inside.objects.items) (filter_tested c.self.inside.bans.items (λ (kept : StoredObject). in_time c.args.moment kept.view.object) c.self.inside.objects.items c.self.invariant))
 
 pub returns-then-not-has_fetch : goal.returns-then-not-has_fetch
 returns-then-not-has_fetch c = rw (← c.self.view_is) (inserts_not _ _ _ _ _ _ _ _ (search rules) refl refl)

@@ -1,5 +1,5 @@
 use Rattle.std.proofs.Common.{◌∙◌}
-use Rattle.fetch_task.specs.Fetches.{evaluator}
+use Rattle.vcl_runs.specs.Evaluators.{evaluator}
 use Rattle.round_task.proofs.Settling.{may-at, settles-at, stands-next, wants-next}
 use Rattle.round_task.proofs.round.Round.resume.Goals as goal
 

@@ -1,7 +1,7 @@
 use Rattle.std.proofs.Common.{◌≡◌, ℤ, List, sym, subst, w64}
 use Rattle.std.proofs.lemmas.Int.{to_z-of_z}
-use Rattle.vcl_turns.specs.declared.turn.Answer.{Answer}
-use Rattle.vcl_turns.specs.declared.turn.Answer.TheVariants.{Number}
+use Rattle.vcl_context.specs.declared.turn.Answer.{Answer}
+use Rattle.vcl_context.specs.declared.turn.Answer.TheVariants.{Number}
 use Rattle.vcl_operands.specs.Outs.{IsSure}
 use Rattle.vcl_operands.proofs.Binds.{sure-along}
 use Rattle.vcl_operands.specs.Nodes.{World, world, given_number, came_to}

@@ -1,5 +1,5 @@
 use Rattle.std.proofs.Common.{◌≡◌, ◌≤◌, List}
-use Rattle.vcl_turns.specs.declared.turn.Answer.{Answer}
+use Rattle.vcl_context.specs.declared.turn.Answer.{Answer}
 use Rattle.vcl_eval.specs.Lives.{rest_of}
 use Rattle.vcl_eval.specs.Weights.{weight, IsTidy, amount}
 use Rattle.vcl_eval.proofs.live.Live.run.Given as goal

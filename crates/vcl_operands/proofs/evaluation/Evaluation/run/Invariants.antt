@@ -1,5 +1,5 @@
 use Rattle.std.proofs.Common.{◌≡◌, ◌≤◌, List}
-use Rattle.vcl_turns.specs.declared.turn.Answer.{Answer}
+use Rattle.vcl_context.specs.declared.turn.Answer.{Answer}
 use Rattle.vcl_operands.specs.Nodes.{world, rest_of}
 use Rattle.vcl_operands.specs.Weights.{weight, IsBegun}
 use Rattle.vcl_operands.proofs.Steps.{reached_weight}

@@ -8,5 +8,5 @@ pub returns-in-Some-clause-gives : goal.returns-in-Some-clause-gives
 returns-in-Some-clause-gives c = record {
   plan = c.in-Some.plan;
   takes = c.in-Some.ensures;
-  link_is = c.placed.ensures ∙ c.link_of.ensures ∙ ap (λ (p : Peer). planned_link c.in-Some.plan p) c.in_ok-peer.ensures;
+  link_is = c.at_place.ensures ∙ c.link_of.ensures ∙ ap (λ (p : Peer). planned_link c.in-Some.plan p) c.in_ok-peer.ensures;
 }

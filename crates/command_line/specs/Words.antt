@@ -1,0 +1,86 @@
+-- The options that ask for a server.
+use Rattle.std.specs.Prelude.{◌≡◌, ◌≢◌, ◌≤◌, ℕ, Bool, List, [], ◌∷◌, codes, Option, Some, None, is_some, unwrap_or, IsUtf8, false, if◌then◌else◌}
+use Rattle.std.specs.Str.{bytes_eq}
+use Rattle.units.specs.Numbers.{IsNumber}
+use Rattle.command_line.specs.declared.name.OptionName.{OptionName}
+use Rattle.command_line.specs.declared.name.OptionName.TheVariants.{Listen, Vcl, Workers, Conns, Room, History}
+use Rattle.command_line.specs.declared.given.Given.{Given}
+use Rattle.command_line.specs.declared.order.ServeOptions.{ServeOptions}
+
+-- the option that a word names
+abbrev pub named : List ℕ → Option OptionName
+named word =
+    if bytes_eq word (codes "--listen") then Some Listen else
+    if bytes_eq word (codes "--vcl") then Some Vcl else
+    if bytes_eq word (codes "--workers") then Some Workers else
+    if bytes_eq word (codes "--conns") then Some Conns else
+    if bytes_eq word (codes "--room") then Some Room else
+    if bytes_eq word (codes "--history") then Some History else
+    None
+
+-- ---- values
+
+-- the word is this number, which lies between the two
+pub record IsWithin (least most : ℕ) (word : List ℕ) (number : ℕ) : Type 0 where
+  pub is : IsNumber word number
+  pub not_less : least ≤ number
+  pub not_more : number ≤ most
+
+-- the word is UTF-8, isn't empty, and doesn't begin with a hyphen
+abbrev pub IsFile : List ℕ → Type 0
+IsFile [] = ⊥
+IsFile (first ∷ more) = (first ≢ 45) × IsUtf8 (first ∷ more)
+
+-- ---- what options give, one behind another
+
+abbrev pub nothing : Given
+nothing = record { listen = None; file = None; workers = None; conns = None; room = None; history = None }
+
+abbrev pub has : Given → OptionName → Bool
+has given Listen = is_some given.listen
+has given Vcl = is_some given.file
+has given Workers = is_some given.workers
+has given Conns = is_some given.conns
+has given Room = is_some given.room
+has given History = is_some given.history
+
+-- The option takes this value, and gives what it says.
+abbrev pub Puts : Given → OptionName → List ℕ → Given → Type 0
+Puts given Listen value after = (port : ℕ) × IsWithin 1 65535 value port × (after ≡ record given { listen = Some port })
+Puts given Vcl value after = IsFile value × (after ≡ record given { file = Some value })
+Puts given Workers value after = (workers : ℕ) × IsWithin 1 64 value workers × (after ≡ record given { workers = Some workers })
+Puts given Conns value after = (conns : ℕ) × IsWithin 1 1000000 value conns × (after ≡ record given { conns = Some conns })
+Puts given Room value after = (room : ℕ) × IsWithin 0 1073741824 value room × (after ≡ record given { room = Some room })
+Puts given History value after = (history : ℕ) × IsWithin 0 1073741824 value history × (after ≡ record given { history = Some history })
+
+-- The word names an option that wasn't given yet, and that takes the value.
+pub record Takes (given : Given) (word value : List ℕ) (after : Given) : Type 0 where
+  pub option : OptionName
+  pub names : named word ≡ Some option
+  pub first : has given option ≡ false
+  pub puts : Puts given option value after
+
+-- each option is two words, its name and its value
+abbrev pub Reads : Given → List (List ℕ) → Given → Type 0
+Reads given [] after = after ≡ given
+Reads given (word ∷ []) after = ⊥
+Reads given (word ∷ value ∷ more) after = (mid : Given) × Takes given word value mid × Reads mid more after
+
+-- ---- the order
+
+-- the room and the history where they aren't given
+abbrev pub usual : ℕ
+usual = 268435456
+
+-- The order is what was given; the room and the history may be wanting.
+pub record IsOrder (given : Given) (order : ServeOptions) : Type 0 where
+  pub port : given.listen ≡ Some order.port
+  pub file : given.file ≡ Some order.file
+  pub workers : given.workers ≡ Some order.workers
+  pub conns : given.conns ≡ Some order.conns
+  pub room : order.room ≡ unwrap_or given.room usual
+  pub history : order.history ≡ unwrap_or given.history usual
+
+-- these options ask for this order
+abbrev pub Asks : List (List ℕ) → ServeOptions → Type 0
+Asks options order = (given : Given) × Reads nothing options given × IsOrder given order

@@ -1,0 +1,16 @@
+//! The words that ask for a server: its options, their ranges and what they are where they aren't given.
+//!
+//! Contract for the layer above: `read_order` gives the order that options give by the grammar of `specs/Words.antt`, or their first
+//! fault and its place (`specs/Faults.antt`); and it gives a fault only where they are outside the grammar.
+#![tactic(auto)]
+
+mod fault;
+mod given;
+mod name;
+mod order;
+mod reading;
+
+pub use fault::{Fault, OrderError};
+pub use name::OptionName;
+pub use order::ServeOptions;
+pub use reading::read_order;

@@ -1,0 +1,14 @@
+// What a server is asked for.
+use units::Text;
+
+/// A server: where it listens, the file of its VCL, how many workers it has and how many connections it serves, and the most bytes
+/// that its objects and its history may have.
+#[derive(Drop)]
+pub struct ServeOptions {
+    pub port: u16,
+    pub file: Text,
+    pub workers: u32,
+    pub conns: u32,
+    pub room: u64,
+    pub history: u64,
+}

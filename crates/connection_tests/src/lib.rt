@@ -1,5 +1,0 @@
-//! Rows for the public calls of `connection`.
-#![tactic(auto)]
-
-#[cfg(test)]
-mod tests;

@@ -1,0 +1,112 @@
+// What is printed for help.
+ghost use Rattle.std.specs.Prelude.{◌≡◌};
+ghost use Rattle.std.specs.Str.{bytes_eq};
+ghost use Rattle.diagnostics.specs.Helping.{help_of, topic_of};
+
+use std::fmt;
+use units::Text;
+
+const NAME: &str = "varn: a shared HTTP cache, steered by VCL, whose behaviour is proved";
+
+const SERVE: &str =
+    "varn serve --listen P --vcl FILE --workers N --conns K [--room N] [--history N]";
+
+const REPLAY: &str = "varn replay [--room N] [--history N] < SESSION > TRANSCRIPT";
+
+const COMMANDS: &str =
+    "serve         serves connections over one cache, and at the end writes how many requests they had
+replay        plays a session from standard input and writes its transcript to standard output";
+
+const SERVE_OPTIONS: &str = "--listen P    the port to listen at, on all addresses: 1 to 65535
+--vcl FILE    the file with the VCL; its name doesn't begin with a hyphen
+--workers N   how many connections are served side by side: 1 to 64
+--conns K     how many connections are served before the program ends: 1 to 1000000";
+
+const LIMITS: &str =
+    "--room N      the bytes that the stored objects may have: 0 to 1073741824; 268435456 when not given
+--history N   the bytes that the history of calls may have: 0 to 1073741824; 268435456 when not given";
+
+const ORDER: &str =
+    "Options stand in any order, each once, and those in brackets may be left out. A number is decimal digits without a
+leading zero.";
+
+const SERVE_ENDS: &str =
+    "Ends with status 0 where the run was whole, 2 for other words than these, 4 where the VCL's file can't be read, 5 where
+writing failed, 6 for want of memory, 7 where the port can't be listened at or accepting failed, 8 where the VCL's file
+is missing or its text is refused, and 9 where the history is full.";
+
+const REPLAY_ENDS: &str =
+    "Ends with status 0 where the run was whole, 2 for other words than these, 3 where the session is faulty or can't be
+played, 4 where reading failed, 5 where writing failed, 6 for want of memory, and 9 where the history is full.";
+
+/// What help is asked for.
+#[derive(Clone, Copy, Debug, PartialEq, Eq)]
+pub enum Help {
+    Program,
+    Serve,
+    Replay,
+    Version,
+}
+
+fn is_word(word: &Text, wanted: &[u8]) -> bool
+    ensures { result ≡ bytes_eq word.now wanted.now }
+{
+    word.bytes() == wanted
+}
+
+// The help for one command.
+fn topic_of(command: &Text) -> Option<Help>
+    ensures { result ≡ topic_of command.now }
+{
+    if is_word(command, b"serve") {
+        Some(Help::Serve)
+    } else if is_word(command, b"replay") {
+        Some(Help::Replay)
+    } else {
+        None
+    }
+}
+
+impl Help {
+    /// The help that the words of a command line ask for, if they do.
+    pub fn of(words: &[Text]) -> Option<Help>
+        ensures { result ≡ help_of words.now }
+    {
+        match words {
+            [word] => {
+                if is_word(word, b"--help") {
+                    Some(Help::Program)
+                } else if is_word(word, b"--version") {
+                    Some(Help::Version)
+                } else {
+                    None
+                }
+            }
+            [command, word] => {
+                if is_word(word, b"--help") {
+                    topic_of(command)
+                } else {
+                    None
+                }
+            }
+            _ => None,
+        }
+    }
+}
+
+impl fmt::Display for Help {
+    fn fmt<W: fmt::Write>(&self, f: &mut fmt::Formatter<W>) -> fmt::Result {
+        match self {
+            Help::Program => write!(
+                f,
+                "{NAME}\n\nusage: {SERVE}\n       {REPLAY}\n       varn serve --help\n       varn replay --help\n       varn --help\n       varn --version\n\n{COMMANDS}\n\n{SERVE_OPTIONS}\n{LIMITS}\n\n{ORDER}"
+            ),
+            Help::Serve => write!(
+                f,
+                "usage: {SERVE}\n\n{SERVE_OPTIONS}\n{LIMITS}\n\n{ORDER}\n{SERVE_ENDS}"
+            ),
+            Help::Replay => write!(f, "usage: {REPLAY}\n\n{LIMITS}\n\n{ORDER}\n{REPLAY_ENDS}"),
+            Help::Version => f.write_str("varn 0.1"),
+        }
+    }
+}

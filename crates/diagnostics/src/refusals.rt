@@ -1,0 +1,78 @@
+// Why a VCL or a session is refused.
+use crate::{Shown, show};
+use std::alloc::{AllocError, Global};
+use units::Text;
+use vcl_tree::Refusal;
+
+// What is wrong at the place of a refusal.
+fn cause_of(kind: Refusal) -> &'static str {
+    match kind {
+        Refusal::Token => {
+            "no token begins here: an unknown character, a comment or a text that doesn't end, or a number out of range"
+        }
+        Refusal::Syntax => "this can't stand here by the grammar",
+        Refusal::Version => "the version must be 4.0 or 4.1",
+        Refusal::TooDeep => "blocks and parentheses nest more than 64 deep here",
+        Refusal::Unknown => "this name isn't declared",
+        Refusal::Twice => "this was declared or given before",
+        Refusal::Kind =>
+            "a value of another type, or another number of arguments, is expected here",
+        Refusal::NotHere => "this variable, function or return isn't allowed here",
+        Refusal::Recursion => "this subroutine comes to itself again",
+        Refusal::Pattern => "this is no regular expression",
+        Refusal::NoBackend => "no backend is declared",
+        Refusal::TooLong => "this is longer than its limit",
+    }
+}
+
+fn shown_refusal(
+    alloc: Global,
+    file: &str,
+    shown: &Shown,
+    kind: Refusal,
+) -> Result<String, AllocError> {
+    let (line, column, cause) = (shown.line, shown.column, cause_of(kind));
+    let text = String::from_utf8_lossy(alloc, shown.text.as_slice())?;
+    let caret = String::from_utf8_lossy(alloc, shown.caret.as_slice())?;
+    format!(in alloc; "{file}, line {line}, column {column}: {cause}\n{text}\n{caret}")
+}
+
+/// Why the VCL of a file is refused, with the line of its text and a caret under the place.
+pub fn vcl_refusal(
+    alloc: Global,
+    file: &Text,
+    text: &Text,
+    place: u32,
+    kind: Refusal,
+) -> Result<String, AllocError> {
+    let file = String::from_utf8_lossy(alloc, file.bytes())?;
+    let shown = show(alloc, text.bytes(), place as usize)?;
+    shown_refusal(alloc, file.as_str(), &shown, kind)
+}
+
+/// Why the VCL of a file is refused whose text can't be shown.
+pub fn unseen_refusal(
+    alloc: Global,
+    file: &Text,
+    place: u32,
+    kind: Refusal,
+) -> Result<String, AllocError> {
+    let file = String::from_utf8_lossy(alloc, file.bytes())?;
+    let cause = cause_of(kind);
+    format!(in alloc; "{file}, byte {place}: {cause}")
+}
+
+/// Why a session is refused, by the number of its kind.
+pub fn session_refusal(kind: u8) -> &'static str {
+    match kind {
+        1 => "what stands behind the second blank is no quoted text up to the line's end",
+        2 => "no line begins so",
+        3 => "an argument isn't what the line takes, or the session is over its limit here",
+        4 => "this moment is before an earlier one",
+        5 => "the session has no end",
+        6 => "this line stands behind the end",
+        7 => "this fetch has no exchange under way, or this client is under way",
+        8 => "an exchange is still under way at the end",
+        _ => "this line is refused",
+    }
+}

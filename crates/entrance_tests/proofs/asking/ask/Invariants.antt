@@ -1,6 +1,0 @@
--- The worker keeps its parts.
-use Rattle.std.proofs.Common.{◌<◌}
-use Rattle.entrance_tests.proofs.asking.ask.Given as goal
-
-abbrev pub invariant-asking : goal.invariant-asking
-invariant-asking g l = (0 < l.mine.parts) × (0 < l.leaving.parts)

@@ -1,0 +1,97 @@
+-- How the objects in memory stand for those of the law, and the changes of them.
+use Rattle.std.specs.Prelude.{ℕ, Bool, true, false, not, List, [], ◌∷◌, ◌++◌, ◌-◌, ◌==◌, ◌≤◌, Option, Some, None, filter, find, map, length, take, sum_by, if◌then◌else◌}
+use Rattle.std.specs.List.{AllByRecursion}
+use Rattle.std.specs.Option.{option_map_or}
+use Rattle.cache_law.specs.declared.object.Object.{Object}
+use Rattle.cache_law.specs.declared.ban.Issued.{Issued}
+use Rattle.cache_law.specs.Object.{size_of}
+use Rattle.cache_law.specs.Bans.{object_only}
+use Rattle.cache_law.specs.BansAtOnce.{cleared}
+use Rattle.cache_law.specs.Lookup.{raised}
+use Rattle.cache_law.specs.State.{Held}
+use Rattle.flat_core.specs.declared.stored_object.StoredObject.{StoredObject}
+use Rattle.flat_core.specs.declared.stored_object.Fate.{Fate}
+use Rattle.flat_core.specs.declared.stored_object.Fate.TheVariants.{Stays, Tested, Goes}
+
+-- a ban that waits for lookups
+abbrev pub is_waiting : Issued → Bool
+is_waiting issued = not (object_only issued.ban)
+
+-- the bans, newest first, that an object has still to be tested on which was tested when there were so many
+abbrev pub waiting : List Issued → ℕ → List Issued
+waiting bans tested = filter is_waiting (take (length bans - tested) bans)
+
+-- a stored object as the law has it, where these bans were issued
+abbrev pub held_of : List Issued → StoredObject → Held
+held_of bans kept = record { view = kept.view; pending = waiting bans kept.tested }
+
+abbrev pub held_all : List Issued → List StoredObject → List Held
+held_all bans objects = map (held_of bans) objects
+
+-- no object was tested on more bans than there are
+abbrev pub AreTested : List Issued → List StoredObject → Type 0
+AreTested bans objects = AllByRecursion (λ kept. kept.tested ≤ length bans) objects
+
+-- what is left of an object, where there are so many bans
+abbrev pub left_of : ℕ → Fate → StoredObject → List StoredObject
+left_of count Stays kept = kept ∷ []
+left_of count Tested kept = record kept { tested = count } ∷ []
+left_of count Goes kept = []
+
+-- what is left of the objects; those behind the last fate stay
+abbrev pub settled : ℕ → List Fate → List StoredObject → List StoredObject
+settled count [] objects = objects
+settled count (fate ∷ fates) [] = []
+settled count (fate ∷ fates) (kept ∷ objects) = left_of count fate kept ++ settled count fates objects
+
+-- the objects once the first is passed on to the end, as its fate leaves it
+abbrev pub moved_on : ℕ → Fate → List StoredObject → List StoredObject
+moved_on count fate [] = []
+moved_on count fate (kept ∷ objects) = objects ++ left_of count fate kept
+
+-- it is changed or goes
+abbrev pub is_change : Fate → Bool
+is_change Stays = false
+is_change Tested = true
+is_change Goes = true
+
+-- the same of objects as the law has them
+abbrev pub held_left : Fate → Held → List Held
+held_left Stays held = held ∷ []
+held_left Tested held = cleared held ∷ []
+held_left Goes held = []
+
+abbrev pub settled_held : List Fate → List Held → List Held
+settled_held [] objects = objects
+settled_held (fate ∷ fates) [] = []
+settled_held (fate ∷ fates) (held ∷ objects) = held_left fate held ++ settled_held fates objects
+
+-- the object has one more hit if it has this number
+abbrev pub counted_in : ℕ → StoredObject → StoredObject
+counted_in number kept = if kept.view.number == number then record kept { view = raised kept.view } else kept
+
+abbrev pub counting_in : Option ℕ → List StoredObject → List StoredObject
+counting_in None objects = objects
+counting_in (Some number) objects = map (counted_in number) objects
+
+-- the object stays where one takes the place of the stale one
+abbrev pub stays : Option ℕ → StoredObject → Bool
+stays None kept = true
+stays (Some stale) kept = not (kept.view.number == stale)
+
+-- what it takes of the room then
+abbrev pub size_staying : Option ℕ → StoredObject → ℕ
+size_staying stale kept = if stays stale kept then size_of kept.view.object else 0
+
+abbrev pub sizes_staying : Option ℕ → List StoredObject → ℕ
+sizes_staying stale objects = sum_by (size_staying stale) objects
+
+-- how many bans there were when the stale object was last tested, or without one how many there are
+abbrev pub tested_for : ℕ → Option ℕ → List StoredObject → ℕ
+tested_for count None objects = count
+tested_for count (Some stale) objects = option_map_or (λ kept. kept.tested) (find (λ kept. kept.view.number == stale) objects) count
+
+-- an object that comes first, in the stale one's place
+abbrev pub first_of : ℕ → Object → Option ℕ → ℕ → List StoredObject → StoredObject
+first_of token object stale count objects =
+    record { view = record { number = token; hits = 0; object = object }; tested = tested_for count stale objects }

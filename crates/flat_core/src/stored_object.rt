@@ -1,0 +1,18 @@
+// An object in memory.
+use cache_law::ObjectView;
+
+/// An object in memory, and how many bans there were when it was last tested on all of them.
+#[derive(Drop)]
+pub(crate) struct StoredObject {
+    pub view: ObjectView,
+    pub tested: usize,
+}
+
+/// What becomes of an object.
+#[derive(Clone, Copy, Debug)]
+pub(crate) enum Fate {
+    Stays,
+    /// It was tested on all bans that there are.
+    Tested,
+    Goes,
+}

@@ -1,0 +1,96 @@
+// A connection over TCP.
+use std::alloc::{AllocError, Global};
+use std::io;
+use std::net::{Net, OpenStream, TcpListener, TcpStream};
+use std::rt::Clock;
+use std::time::Duration;
+use system::{TcpDialer, TcpLink};
+use units::Text;
+use wire::{Dialer, Link, Peer, write_link};
+
+fn port_text(alloc: Global, port: u16) -> Result<Text, AllocError> {
+    Text::of(alloc, format!(in alloc; "{port}")?.as_bytes())
+}
+
+// Whether small pieces are sent at once, and a call that takes longer than so many seconds fails.
+fn is_set_up<T: OpenStream>(stream: &T, seconds: u64) -> io::Result<bool> {
+    let most = Some(Duration::from_secs(seconds));
+    Ok(stream.nodelay()? && stream.read_timeout()? == most && stream.write_timeout()? == most)
+}
+
+// One piece each way, and the end of what the second sends.
+fn is_exchanged<A: Link, B: Link>(one: &mut A, other: &mut B) -> bool {
+    let mut room = [0u8; 8];
+    write_link(one, b"ping").is_ok()
+        && other.read(&mut room) == Ok(4)
+        && write_link(other, b"pong!").is_ok()
+        && is_end(one, other)
+}
+
+fn is_end<A: Link, B: Link>(one: &mut A, other: &mut B) -> bool {
+    let mut room = [0u8; 8];
+    other.shut();
+    one.read(&mut room) == Ok(5) && one.read(&mut room) == Ok(0) && room.starts_with(b"pong!")
+}
+
+// Nobody reads any more: a write fails, and the program goes on.
+fn write_on<L: Link>(link: &mut L) {
+    for _ in 0..100 {
+        if link.write(b"x").is_err() {
+            break;
+        }
+    }
+}
+
+// What is exchanged over a dialed connection, and its faults once the other end is gone.
+fn talk<R: Net<Stream = TcpStream> + Clock + Drop>(
+    dialer: &mut TcpDialer<R>,
+    alloc: Global,
+    mut link: TcpLink<TcpStream>,
+    other: TcpStream,
+) -> Result<String, AllocError> {
+    let mut other = TcpLink::new(other, Peer::Accepted([127, 0, 0, 1]));
+    let is_exchanged = is_exchanged(&mut link, &mut other);
+    drop(other);
+    write_on(&mut link);
+    let (reads, writes) = (link.read_faults, link.write_faults);
+    dialer.hang_up(link);
+    format!(in alloc; "{is_exchanged} {reads} {writes}")
+}
+
+// A dial to a port at which someone listens, and one when nobody does any more.
+fn dial<R: Net<Listener = TcpListener, Stream = TcpStream> + Clock + Drop>(
+    dialer: &mut TcpDialer<R>,
+    alloc: Global,
+    listener: TcpListener,
+    seconds: u64,
+) -> io::Result<String> {
+    let host = Text::of(alloc, b"127.0.0.1")?;
+    let port = port_text(alloc, listener.local_addr()?.port())?;
+    let Ok(link) = dialer.dial(&host, &port) else {
+        return Ok(format!(in alloc; "no dial")?);
+    };
+    let is_set_up = is_set_up(&link.stream, seconds)?;
+    let (stream, _) = listener.accept()?;
+    let said = talk(dialer, alloc, link, stream)?;
+    drop(listener);
+    let is_refused = dialer.dial(&host, &port).is_err();
+    Ok(format!(in alloc; "{is_set_up} {said} {is_refused}")?)
+}
+
+/// A connection over TCP: whether it is set up with so many seconds for a call, whether pieces go both ways, its faults of reads
+/// and writes, whether a dial to a closed port fails, and the dialer's faults of dials and writes.
+pub fn tcp_shown<R: Net<Listener = TcpListener, Stream = TcpStream> + Clock + Copy + Drop>(
+    rt: R,
+    alloc: Global,
+    seconds: usize,
+) -> Result<String, AllocError> {
+    let Ok(listener) = TcpListener::bind(&rt, "127.0.0.1:0") else {
+        return format!(in alloc; "no port");
+    };
+    let mut dialer = TcpDialer::new(rt);
+    let Ok(said) = dial(&mut dialer, alloc, listener, seconds as u64) else {
+        return format!(in alloc; "the system fails");
+    };
+    format!(in alloc; "{said} {} {}", dialer.dial_faults, dialer.write_faults)
+}

@@ -1,3 +1,0 @@
-mod PartFacts
-pub mod PlainFacts
-pub mod FramedFacts

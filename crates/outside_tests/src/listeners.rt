@@ -1,0 +1,34 @@
+// Listeners in memory.
+use crate::settings::{number, numbers};
+use std::alloc::{AllocError, Global};
+use std::collections::VecDeque;
+use wire::Plan;
+use world::{Coming, FailingListener};
+
+fn new_coming(alloc: Global, number: u8) -> Result<Coming, AllocError> {
+    let plan = Plan {
+        input: Vec::new(alloc),
+        failing_reads: Vec::new(alloc),
+        failing_writes: Vec::new(alloc),
+        most: 1,
+    };
+    Coming::new(alloc, plan, [10, 0, 0, number])
+}
+
+fn arrivals(alloc: Global, coming: u64) -> Result<VecDeque<Coming>, AllocError> {
+    let mut all = VecDeque::new(alloc);
+    for number in 0..=u8::MAX {
+        if u64::from(number) < coming {
+            all.push_back(new_coming(alloc, number)?)?;
+        }
+    }
+    Ok(all)
+}
+
+/// A listener to which so many connections come as the setting `coming` says, numbered by their addresses from 0 on, and whose
+/// calls with the numbers of `failing` fail.
+pub fn listener_of(alloc: Global, row: &str) -> Result<FailingListener, AllocError> {
+    let coming = arrivals(alloc, number(row, "coming", 0))?;
+    let failing = numbers(alloc, row, "failing")?;
+    Ok(FailingListener::new(alloc, coming, failing))
+}

@@ -1,0 +1,121 @@
+// What a world in memory gives, which of its calls fail, and what it tells.
+use crate::worlds::small_world;
+use std::alloc::{AllocError, Global};
+use units::Text;
+use wire::{Clock, Failed, FailingLink, Kept, write_link};
+use world::{Gate, Listener, OpenGate, Place, ShelfError, World};
+
+/// What each of the files is found to have.
+pub fn push_files<W: World>(
+    alloc: Global,
+    out: &mut String,
+    world: &mut W,
+    names: &str,
+) -> Result<(), AllocError> {
+    for name in names.split(' ') {
+        let name = Text::of(alloc, name.as_bytes())?;
+        match world.shelf(&name) {
+            Ok(Some(text)) => write!(out, " {text:?}")?,
+            Ok(None) => out.push_str(" none")?,
+            Err(ShelfError::Failed) => out.push_str(" failed")?,
+            Err(ShelfError::NoMemory) => return Err(AllocError),
+        }
+    }
+    Ok(())
+}
+
+// What the small world's files have.
+fn files_shown(alloc: Global, row: &str) -> Result<String, AllocError> {
+    let mut world = small_world(alloc)?;
+    let mut out = String::new(alloc);
+    push_files(alloc, &mut out, &mut world, row)?;
+    Ok(out)
+}
+
+// Whether a kit is told before one was handed back, what its clock tells, whether there is another one, and whether it is told
+// then.
+fn kits_shown(alloc: Global) -> Result<String, AllocError> {
+    let mut world = small_world(alloc)?;
+    let before = world.latest_kit().is_some();
+    let mut kit = world.kit()?;
+    let moment = kit.clock.now();
+    world.keep_kit(kit);
+    let another = world.kit().is_ok();
+    let behind = world.latest_kit().is_some();
+    format!(in alloc; "{before} {moment} {another} {behind}")
+}
+
+// Greets each connection that comes, and hands it back. How often accepting failed.
+fn greet_all<W: World>(world: &mut W, listener: &mut W::Listener) -> u32 {
+    let mut failures: u32 = 0;
+    for _ in 0..9u32 {
+        match listener.accept() {
+            Ok(Some((mut link, _))) => {
+                let _ = write_link(&mut link, b"hello");
+                world.keep_link(link);
+            }
+            Ok(None) => break,
+            Err(Failed) => failures = failures.saturating_add(1),
+        }
+    }
+    failures
+}
+
+// How often accepting failed at a listener that is handed back, or that there is none at this port.
+fn push_greetings<W: World>(out: &mut String, world: &mut W, port: u16) -> Result<(), AllocError> {
+    match world.listen(port) {
+        Ok(mut listener) => {
+            let failures = greet_all(world, &mut listener);
+            world.retire(listener);
+            write!(out, "{failures} failed ")
+        }
+        Err(Failed) => out.push_str("no listener "),
+    }
+}
+
+// What comes of listening at each of the ports in turn.
+fn listeners_shown(alloc: Global, row: &str) -> Result<String, AllocError> {
+    OpenGate.point(1, Place::Called);
+    let mut world = small_world(alloc)?;
+    let mut out = String::new(alloc);
+    for port in row.split(' ') {
+        push_greetings(&mut out, &mut world, port.parse::<u16>().unwrap_or(0))?;
+    }
+    let (faults, ended) = (world.listen_faults(), world.ended());
+    write!(
+        out,
+        "ports {:?} faults {faults} ended {ended}",
+        world.ports()
+    )?;
+    push_links(&mut out, world.latest_link())?;
+    Ok(out)
+}
+
+// Adds what each link took, the one that was handed back last first.
+fn push_links(out: &mut String, latest: Option<&Kept<FailingLink>>) -> Result<(), AllocError> {
+    let mut place = latest;
+    for _ in 0..9u32 {
+        let Some(kept) = place else {
+            break;
+        };
+        if let Some(link) = &kept.item {
+            write!(
+                out,
+                " took {}",
+                str::from_utf8(link.took()).unwrap_or("no text")
+            )?;
+        }
+        place = kept.before.as_deref();
+    }
+    Ok(())
+}
+
+/// What is said of the row.
+pub fn memory_shown(alloc: Global, word: &str, row: &str) -> Result<String, AllocError> {
+    match word {
+        "files" => files_shown(alloc, row),
+        "kits" => kits_shown(alloc),
+        "listen" => listeners_shown(alloc, row),
+        _ => format!(in alloc; "no such row"),
+    }
+}

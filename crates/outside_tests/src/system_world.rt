@@ -1,0 +1,162 @@
+// The system's world: connections over a port of the machine's own, and files.
+use crate::memory_world::push_files;
+use std::alloc::{AllocError, Global};
+use std::io::{self, ErrorKind};
+use std::net::TcpListener;
+use std::time::{Duration, Instant};
+use system::{PortLink, PortListener, SystemWorld};
+use units::Text;
+use wire::{Dialer, Link, write_link};
+use world::{Listener, World};
+
+const HOME: [u8; 4] = [127, 0, 0, 1];
+
+fn broken() -> io::Error {
+    io::Error::from(ErrorKind::BrokenPipe)
+}
+
+fn dialed<D: Dialer>(alloc: Global, dialer: &mut D, port: u16) -> io::Result<D::Link> {
+    let host = Text::of(alloc, b"127.0.0.1")?;
+    let port = format!(in alloc; "{port}")?;
+    let port = Text::of(alloc, port.as_bytes())?;
+    dialer.dial(&host, &port).map_err(|_| broken())
+}
+
+fn accepted<L: Listener>(listener: &mut L) -> io::Result<(L::Link, [u8; 4])> {
+    match listener.accept() {
+        Ok(Some(found)) => Ok(found),
+        _ => Err(broken()),
+    }
+}
+
+// Small pieces are sent at once, and a write that takes longer than a minute fails.
+fn is_set_up(near: &PortLink) -> io::Result<bool> {
+    match &near.link {
+        Some(link) => {
+            let limit = link.stream.write_timeout()?;
+            Ok(link.stream.nodelay()? && limit == Some(Duration::from_secs(60)))
+        }
+        None => Ok(false),
+    }
+}
+
+// One piece each way.
+fn is_exchanged<A: Link, B: Link>(far: &mut A, near: &mut B) -> bool {
+    let mut room = [0u8; 8];
+    write_link(far, b"ping").is_ok()
+        && near.read(&mut room) == Ok(4)
+        && write_link(near, b"pong!").is_ok()
+        && far.read(&mut room) == Ok(5)
+}
+
+// Behind the near end's own end the far one reads its end, and nothing can be read or written.
+fn push_end<A: Link>(out: &mut String, far: &mut A, near: &mut PortLink) -> Result<(), AllocError> {
+    near.shut();
+    let ended = far.read(&mut [0u8; 8]) == Ok(0) && near.link.is_none();
+    let reads = near.read(&mut [0u8; 8]).is_ok();
+    let writes = write_link(near, b"late").is_ok();
+    let (of_reads, of_writes) = (near.read_faults, near.write_faults);
+    write!(
+        out,
+        "ended {ended} {reads} {writes} faults {of_reads} {of_writes} "
+    )
+}
+
+// A connection that is used both ways and ended.
+fn push_talk<A: Link>(out: &mut String, far: &mut A, near: &mut PortLink) -> io::Result<()> {
+    let set_up = is_set_up(near)?;
+    let exchanged = is_exchanged(far, near);
+    write!(out, "set up {set_up} exchanged {exchanged} ")?;
+    Ok(push_end(out, far, near)?)
+}
+
+fn push_write<A: Link>(out: &mut String, link: &mut A, piece: &[u8]) -> Result<(), AllocError> {
+    let written = write_link(link, piece).is_ok();
+    write!(out, "wrote {written} ")
+}
+
+// What a read of one byte gives, and how many seconds it takes at most.
+fn push_read(out: &mut String, near: &mut PortLink) -> io::Result<()> {
+    let count = near.read(&mut [0u8; 1]);
+    let limit = match &near.link {
+        Some(link) => link.stream.read_timeout()?,
+        None => None,
+    };
+    let seconds = limit.map_or(0, |limit| limit.as_secs());
+    Ok(write!(out, "read {count:?} in {seconds} s ")?)
+}
+
+// A connection's first read, and the first one behind a write, take 5 s at most, and others a minute.
+fn push_waits<A: Link>(
+    rt: HostRuntime,
+    out: &mut String,
+    far: &mut A,
+    near: &mut PortLink,
+) -> io::Result<()> {
+    push_write(out, far, b"abc")?;
+    push_read(out, near)?;
+    push_read(out, near)?;
+    push_write(out, near, b"d")?;
+    push_read(out, near)?;
+    push_write(out, near, b"e")?;
+    let start = Instant::now(&rt)?;
+    push_read(out, near)?;
+    let seconds = start.elapsed(&rt)?.as_secs();
+    Ok(write!(out, "after {seconds} s faults {} ", near.read_faults)?)
+}
+
+// A connection comes, is used as the word says, and is handed back.
+fn connection_shown(
+    rt: HostRuntime,
+    world: &mut SystemWorld<HostRuntime>,
+    listener: &mut PortListener<TcpListener>,
+    word: &str,
+) -> io::Result<String> {
+    let port = listener.listener.local_addr()?.port();
+    let mut kit = world.kit()?;
+    let mut far = dialed(rt.alloc(), &mut kit.dialer, port)?;
+    let (mut near, address) = accepted(listener)?;
+    let mut out = format!(in rt.alloc(); "{address:?} ")?;
+    match word {
+        "waits" => push_waits(rt, &mut out, &mut far, &mut near)?,
+        _ => push_talk(&mut out, &mut far, &mut near)?,
+    }
+    world.keep_link(near);
+    kit.dialer.hang_up(far);
+    world.keep_kit(kit);
+    Ok(out)
+}
+
+// The same behind a listener, whose port is taken meanwhile.
+fn port_shown(rt: HostRuntime, word: &str) -> io::Result<String> {
+    let mut world = SystemWorld::new(rt, HOME);
+    let mut listener = world.listen(0).map_err(|_| broken())?;
+    let mut out = connection_shown(rt, &mut world, &mut listener, word)?;
+    let port = listener.listener.local_addr()?.port();
+    let taken = world.listen(port).is_err();
+    world.retire(listener);
+    write!(
+        out,
+        "taken {taken} kept {} faults {}",
+        world.kept, world.listen_faults
+    )?;
+    Ok(out)
+}
+
+// What the files have, and how many of them failed.
+fn files_shown(rt: HostRuntime, row: &str) -> Result<String, AllocError> {
+    let mut world = SystemWorld::new(rt, HOME);
+    let mut out = String::new(rt.alloc());
+    push_files(rt.alloc(), &mut out, &mut world, row)?;
+    write!(out, " faults {}", world.shelf_faults)?;
+    Ok(out)
+}
+
+/// What is said of a connection or of files.
+pub fn system_shown(rt: HostRuntime, row: &str) -> io::Result<String> {
+    let (word, rest) = row.split_once(' ').unwrap_or((row, ""));
+    match word {
+        "files" => Ok(files_shown(rt, rest)?),
+        _ => port_shown(rt, word),
+    }
+}

@@ -1,0 +1,59 @@
+// One worker over a door. The settings are those of the listener (`listeners.rt`), and `most` for how many connections are
+// accepted at most.
+ghost use Rattle.std.specs.Prelude.{◌≡◌, ◌<◌};
+
+use crate::listeners::listener_of;
+use crate::numbering::Numbering;
+use crate::settings::number;
+use entrance::{Door, Quota};
+use std::alloc::{AllocError, Global};
+use std::marker::Brand;
+use std::sync::Wait;
+use std::sync::ledger::{Blank, Ledger};
+use workers::{Worker, serve_worker};
+use world::{AcceptedLink, FailingListener};
+
+fn took_by(alloc: Global, links: &[AcceptedLink]) -> Result<Vec<Vec<u8>>, AllocError> {
+    let mut took = Vec::new(alloc);
+    for link in links {
+        took.push(link.took().to_vec(alloc)?)?;
+    }
+    Ok(took)
+}
+
+fn serve<R: Wait, A: Quota, B: Ledger>(
+    rt: &R,
+    alloc: Global,
+    listener: FailingListener,
+    most: u64,
+    accepted: Blank,
+    left: Blank,
+) -> Result<String, AllocError>
+    requires most { most ≡ A.most }
+    requires accepted { (accepted.name ≡ A.name) × (accepted.parts ≡ A.parts) }
+    requires left { (left.name ≡ B.name) × (left.parts ≡ B.parts) }
+    requires some { (0 < accepted.parts) × (0 < left.parts) }
+{
+    let (door, accepted, left) = Door::<FailingListener, A, B>::open(
+        listener, most, accepted, left,
+    );
+    let mut worker = Worker {
+        shift: Some(0u64),
+        links: Vec::new(alloc),
+        transcripts: Vec::new(alloc),
+        accepted,
+        left,
+        leave: None,
+    };
+    let leave = serve_worker(rt, &Numbering, &(), &door, &mut worker);
+    let took = took_by(alloc, worker.links.as_slice())?;
+    let told = &worker.transcripts;
+    format!(in alloc; "{leave:?} {told:?} {took:?}")
+}
+
+/// How one worker leaves the door before this listener, what is told of its connections, and what their links took.
+pub fn worker_shown<R: Wait>(rt: &R, alloc: Global, row: &str) -> Result<String, AllocError> {
+    let listener = listener_of(alloc, row)?;
+    let most = number(row, "most", 0);
+    serve::<R, Brand, Brand>(rt, alloc, listener, most, Blank::new(1), Blank::new(1))
+}

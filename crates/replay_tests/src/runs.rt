@@ -1,0 +1,81 @@
+// One run, and what is told of it.
+use crate::outside::{sink_of, source_of};
+use cache_law::Entry;
+use std::alloc::{AllocError, Global};
+use units::Text;
+use varn_program::{Outcome, Status, faulty_word, run};
+
+// The longest transcript that is told whole.
+const SHORT: usize = 5_000;
+
+/// The status, the noted line and its kind (0 and 0 for none), and what was written; behind `@@` also the caller and the moment of
+/// each entry of the history. The head's second word says what fails, the others are those of the run.
+pub fn run_shown(alloc: Global, head: &str, session: &[u8]) -> Result<String, AllocError> {
+    let (mark, line) = head.split_once(' ').unwrap_or((head, ""));
+    let (plan, line) = line.split_once(' ').unwrap_or((line, ""));
+    let words = words_of(alloc, line)?;
+    let mut source = source_of(alloc, plan, session)?;
+    let mut sink = sink_of(alloc, plan)?;
+    let outcome = run(alloc, words.as_slice(), &mut source, &mut sink);
+    let with_history = mark == "@@";
+    outcome_shown(
+        alloc,
+        &outcome,
+        words.as_slice(),
+        sink.bytes(),
+        with_history,
+    )
+}
+
+fn outcome_shown(
+    alloc: Global,
+    outcome: &Outcome,
+    words: &[Text],
+    written: &[u8],
+    with_history: bool,
+) -> Result<String, AllocError> {
+    let mut out = ending_shown(alloc, outcome, words)?;
+    push_written(&mut out, written)?;
+    if with_history {
+        push_history(&mut out, outcome.history.as_slice())?;
+    }
+    Ok(out)
+}
+
+fn words_of(alloc: Global, line: &str) -> Result<Vec<Text>, AllocError> {
+    let mut words = Vec::new(alloc);
+    for word in line.split(' ').filter(|word| !word.is_empty()) {
+        words.push(Text::of(alloc, word.as_bytes())?)?;
+    }
+    Ok(words)
+}
+
+fn ending_shown(alloc: Global, outcome: &Outcome, words: &[Text]) -> Result<String, AllocError> {
+    let status = outcome.status.code();
+    let (line, kind) = outcome.note.map_or((0, 0), |note| (note.line, note.kind));
+    if outcome.status == Status::Words {
+        let faulty = faulty_word(words).and_then(|word| str::from_utf8(word.bytes()).ok());
+        format!(in alloc; "{status} {line} {kind} at {faulty:?}\n")
+    } else {
+        format!(in alloc; "{status} {line} {kind}\n")
+    }
+}
+
+fn push_written(out: &mut String, written: &[u8]) -> Result<(), AllocError> {
+    if written.len() > SHORT {
+        let lines = written.iter().filter(|byte| **byte == b'\n').count();
+        return write!(out, "{} bytes, {lines} lines\n", written.len());
+    }
+    match str::from_utf8(written) {
+        Ok(text) => out.push_str(text),
+        Err(_) => out.push_str("no text\n"),
+    }
+}
+
+fn push_history(out: &mut String, history: &[Entry]) -> Result<(), AllocError> {
+    out.push_str("history")?;
+    for entry in history {
+        write!(out, " {}@{}", entry.caller, entry.moment)?;
+    }
+    out.push_str("\n")
+}

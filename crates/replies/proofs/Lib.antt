@@ -1,2 +1,0 @@
-mod Heads
-pub mod Once

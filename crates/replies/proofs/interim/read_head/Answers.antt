@@ -1,5 +1,0 @@
-use Rattle.replies.proofs.Heads.{refused}
-use Rattle.replies.proofs.interim.read_head.Goals as goal
-
-pub returns-else-eq : goal.returns-else-eq
-returns-else-eq c = refused c.args.text.now c.in-Err.error (λ same. let equal = rw same at c.eq.ensures in cc) c.in-Err.ensures.answer

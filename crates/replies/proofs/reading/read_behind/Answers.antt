@@ -1,8 +1,0 @@
-use Rattle.std.proofs.lemmas.Result.{IfOk-weaker}
-use Rattle.replies.proofs.Heads.{says_framed}
-use Rattle.replies.proofs.reading.read_behind.Goals as goal
-
-pub returns-in-Ok : goal.returns-in-Ok
-returns-in-Ok c =
-    IfOk-weaker c.read_framed.result _ _
-    (says_framed c.args.to_head c.args.text.now c.args.head c.args.count c.in-Ok.framing (rw c.kind_of_reply.ensures at c.in-Ok.ensures.framed)) c.read_framed.ensures

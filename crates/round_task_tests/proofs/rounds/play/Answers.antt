@@ -1,4 +1,0 @@
-use Rattle.round_task_tests.proofs.rounds.play.Goals as goal
-
-pub words-init : goal.words-init
-words-init c = c.start-round.ensures.goes_on c.args.script.now

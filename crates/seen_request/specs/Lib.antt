@@ -1,0 +1,3 @@
+pub mod Targets
+pub mod Sites
+pub mod Seen

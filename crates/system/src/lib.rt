@@ -1,0 +1,23 @@
+//! The outside as the system has it: sockets, files, streams, the clock and the words of the command line.
+//!
+//! Contract for the layer above: each is one of the traits of `wire` and `world`, and keeps its clauses. A count of faults rises
+//! where the system fails; nothing is told of what went over a socket, a file or a stream, since no clause can name that.
+#![tactic(auto)]
+
+mod command_line;
+mod port_link;
+mod port_listener;
+mod stream;
+mod system_clock;
+mod system_world;
+mod tcp_dialer;
+mod tcp_link;
+
+pub use command_line::{WordsError, read_words, tell};
+pub use port_link::PortLink;
+pub use port_listener::PortListener;
+pub use stream::{StreamSink, StreamSource};
+pub use system_clock::SystemClock;
+pub use system_world::SystemWorld;
+pub use tcp_dialer::TcpDialer;
+pub use tcp_link::TcpLink;

@@ -1,7 +1,0 @@
-use Rattle.std.proofs.Common.{◌≡◌, ◌≤◌, take}
-use Rattle.std.specs.List.{count_by}
-use Rattle.text_places.specs.Places.{is_feed}
-use Rattle.text_places.proofs.lines.feeds_in.Given as goal
-
-abbrev pub invariant-loop-byte : goal.invariant-loop-byte
-invariant-loop-byte l = (l.feeds ≡ count_by is_feed (take l.byte-index l.bytes)) × (l.feeds ≤ l.byte-index)

@@ -1,8 +1,0 @@
-use Rattle.std.proofs.Common.{◌∙◌}
-use Rattle.varn_program.proofs.Standard.{table-meant}
-use Rattle.varn_program.proofs.library.Library.make.Goals as goal
-
-pub of-requires-clause-sure : goal.of-requires-clause-sure
-of-requires-clause-sure g c =
-    c.program_never_strays.ensures c.args.text.now ∣ c.in-Ok.ensures.joined ∣₁
-    (table-meant c.in-Ok.compiled.program.stored (c.in-Ok.ensures.stored ∙ rw (c.deref.ensures) (c.args.self.now.standard)) c.standard_are_meant.ensures)

@@ -1,0 +1,106 @@
+// A run over a row's world (`run_worlds.rt`), and what is said of it.
+use crate::holding::HoldingGate;
+use crate::run_worlds::{order_of, world_of};
+use crate::settings::numbers;
+use crate::telling::{push_links, push_quoted};
+use std::alloc::{AllocError, Global};
+use std::sync::Wait;
+use std::thread::Threads;
+use varn_serve::{Served, serve_with_std};
+use wire::FailingSink;
+use world::{FailingWorld, Gate, OpenGate};
+
+fn sink_of(alloc: Global, settings: &str) -> Result<FailingSink, AllocError> {
+    let fails = numbers(alloc, settings, "writes")?;
+    Ok(FailingSink::new(alloc, fails, 4096))
+}
+
+fn run<R: Threads + Wait + Sync, G: Gate + Sync>(
+    rt: &R,
+    alloc: Global,
+    settings: &str,
+    gate: &G,
+    world: &mut FailingWorld,
+    sink: &mut FailingSink,
+) -> Result<Served, AllocError> {
+    let order = order_of(alloc, settings)?;
+    Ok(serve_with_std(rt, alloc, &order, world, gate, sink))
+}
+
+fn push_status(out: &mut String, served: &Served) -> Result<(), AllocError> {
+    write!(out, "{}", served.status.code())?;
+    match served.note {
+        Some(note) => write!(out, " place {} kind {}", note.place, note.kind.number()),
+        None => Ok(()),
+    }
+}
+
+fn push_written(alloc: Global, out: &mut String, written: &[u8]) -> Result<(), AllocError> {
+    out.push_str(" wrote ")?;
+    push_quoted(alloc, out, written)
+}
+
+fn push_connections(out: &mut String, served: &Served) -> Result<(), AllocError> {
+    for transcript in served.transcripts.as_slice() {
+        write!(out, " {:?} {}", transcript.ended, transcript.rounds.len())?;
+    }
+    write!(out, " entries {}", served.history.as_slice().len())
+}
+
+/// The row's run with the status and the note, what was written, what each link that was handed back took, how each connection
+/// ended with the number of its rounds, and how many entries the history has.
+pub fn run_shown<R: Threads + Wait + Sync>(
+    rt: &R,
+    alloc: Global,
+    row: &str,
+) -> Result<String, AllocError> {
+    let (settings, inputs) = row.split_once('|').unwrap_or((row, ""));
+    let mut world = world_of(alloc, settings, inputs)?;
+    let mut sink = sink_of(alloc, settings)?;
+    let served = run(rt, alloc, settings, &OpenGate, &mut world, &mut sink)?;
+    said(alloc, &served, &world, sink.bytes())
+}
+
+fn said(
+    alloc: Global,
+    served: &Served,
+    world: &FailingWorld,
+    written: &[u8],
+) -> Result<String, AllocError> {
+    let mut out = String::new(alloc);
+    push_status(&mut out, served)?;
+    push_written(alloc, &mut out, written)?;
+    push_links(alloc, &mut out, world.latest_link())?;
+    push_connections(&mut out, served)?;
+    write!(out, " ports {:?}", world.ports())?;
+    Ok(out)
+}
+
+/// The row's run past a gate that holds the first caller which would dial until a call of the other one is answered; of it is said
+/// what doesn't hang on who came first.
+pub fn held_shown<R: Threads + Wait + Sync>(
+    rt: &R,
+    alloc: Global,
+    row: &str,
+) -> Result<String, AllocError> {
+    let (settings, inputs) = row.split_once('|').unwrap_or((row, ""));
+    let mut world = world_of(alloc, settings, inputs)?;
+    let mut sink = sink_of(alloc, settings)?;
+    let gate = HoldingGate::new();
+    let served = run(rt, alloc, settings, &gate, &mut world, &mut sink)?;
+    held_said(alloc, &served, sink.bytes(), gate.went_well())
+}
+
+fn held_said(
+    alloc: Global,
+    served: &Served,
+    written: &[u8],
+    went_well: bool,
+) -> Result<String, AllocError> {
+    let mut out = String::new(alloc);
+    push_status(&mut out, served)?;
+    push_written(alloc, &mut out, written)?;
+    let entries = served.history.as_slice().len();
+    write!(out, " entries {entries} side by side {went_well}")?;
+    Ok(out)
+}

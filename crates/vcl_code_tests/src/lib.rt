@@ -1,5 +1,0 @@
-//! Rows for the public calls of `vcl_code`.
-#![tactic(auto)]
-
-#[cfg(test)]
-mod tests;

@@ -1,0 +1,106 @@
+// Stored functions and tables of them.
+use crate::samples::text_of;
+use crate::values::shown;
+use std::alloc::{AllocError, Global};
+use units::Text;
+use vcl_values::{Kind, Value};
+use vmod_host::{
+    STRLEN, Signature, TOLOWER, TOUPPER, TableError, Vmod, VmodTable, integer, strlen, tolower,
+    toupper,
+};
+
+// A quoted text, or an absent one.
+fn some_text(alloc: Global, row: &str) -> Result<Option<Text>, AllocError> {
+    if row == "absent" {
+        return Ok(None);
+    }
+    Ok(Some(text_of(alloc, row)?))
+}
+
+/// What a function of one text answers.
+pub fn answer_shown(alloc: Global, word: &str, row: &str) -> Result<String, AllocError> {
+    let arguments = [Value::String(some_text(alloc, row)?)];
+    let answer = match word {
+        "tolower" => tolower(alloc, &arguments),
+        "toupper" => toupper(alloc, &arguments),
+        _ => strlen(alloc, &arguments),
+    };
+    shown(alloc, &answer?)
+}
+
+/// What `std.integer` answers.
+pub fn integer_shown(alloc: Global, row: &str) -> Result<String, AllocError> {
+    let (text, fallback) = row.split_once('|').unwrap_or((row, ""));
+    let text = Value::String(some_text(alloc, text)?);
+    let fallback = Value::Int(fallback.parse::<i64>().unwrap_or(1));
+    let answer = integer(alloc, &[text, fallback])?;
+    shown(alloc, &answer)
+}
+
+/// The tag and the name of a function's copy, and what the function and the copy answer.
+pub fn copies_shown(alloc: Global, row: &str) -> Result<String, AllocError> {
+    let vmod = Vmod {
+        tag: TOUPPER,
+        signature: Signature::of(alloc, b"std", b"toupper", &[Kind::String], Kind::String)?,
+        call: toupper,
+    };
+    let copy = vmod.copy(alloc)?;
+    let arguments = [Value::String(some_text(alloc, row)?)];
+    let first = vmod.answer(alloc, &arguments)?.text(alloc)?;
+    let second = copy.answer(alloc, &arguments)?.text(alloc)?;
+    let name = &copy.signature.name;
+    let tag = copy.tag;
+    format!(in alloc; "{tag} {name:?} {first:?} {second:?}")
+}
+
+/// What comes of a list in which the first and the last function have one tag.
+pub fn table_shown(alloc: Global) -> Result<String, AllocError> {
+    let text = [Kind::String];
+    let first = Signature::of(alloc, b"std", b"strlen", &text, Kind::Int)?;
+    let second = Signature::of(alloc, b"std", b"tolower", &text, Kind::String)?;
+    let last = Signature::of(alloc, b"std", b"length", &text, Kind::Int)?;
+    let list = [
+        Vmod {
+            tag: STRLEN,
+            signature: first,
+            call: strlen,
+        },
+        Vmod {
+            tag: TOLOWER,
+            signature: second,
+            call: tolower,
+        },
+        Vmod {
+            tag: STRLEN,
+            signature: last,
+            call: strlen,
+        },
+    ];
+    match VmodTable::of(alloc, Vec::from_array(alloc, list)?) {
+        Err(TableError::Twice) => format!(in alloc; "refused"),
+        Err(TableError::NoMemory) => Err(AllocError),
+        Ok(_) => format!(in alloc; "a table"),
+    }
+}
+
+/// The number and the tag of the function of a module and name, or of a tag.
+pub fn stored_shown(
+    alloc: Global,
+    vmods: &VmodTable,
+    word: &str,
+    row: &str,
+) -> Result<String, AllocError> {
+    let (module_name, name) = row.split_once('.').unwrap_or(("", row));
+    let found = if word == "tag" {
+        vmods.find_tag(row.parse::<u32>().unwrap_or(0))
+    } else {
+        vmods.find(module_name.as_bytes(), name.as_bytes())
+    };
+    match found {
+        Some(number) if number < vmods.stored.as_slice().len() => {
+            let tag = vmods.at(number).tag;
+            format!(in alloc; "{number} of tag {tag}")
+        }
+        _ => format!(in alloc; "none"),
+    }
+}

@@ -1,0 +1,57 @@
+// Texts that are read or checked, and where they are refused.
+use crate::repeated::expanded;
+use crate::unless_same;
+use std::alloc::{AllocError, Global};
+use units::Text;
+use vcl_check::check;
+use vcl_parse::parse;
+use vcl_tree::VclError;
+use vmod_host::VmodTable;
+
+/// What is said of the row's text, where the row wants something else. Behind a plus a text is to be taken. Behind the number
+/// of a refusal it is to be refused so at the place of `@`, which is no part of it.
+pub fn otherwise(
+    alloc: Global,
+    vmods: &VmodTable,
+    word: &str,
+    row: &str,
+) -> Result<Option<String>, AllocError> {
+    let (kind, text) = row.split_once(' ').unwrap_or((row, ""));
+    let text = expanded(alloc, text)?;
+    let Some((front, back)) = text.as_str().split_once('@') else {
+        return Ok(unless_same(said(alloc, vmods, word, text.as_str())?, kind));
+    };
+    let place = front.len();
+    let unmarked = format!(in alloc; "{front}{back}")?;
+    let said = said(alloc, vmods, word, unmarked.as_str())?;
+    let wanted = format!(in alloc; "{kind} at {place}")?;
+    Ok(unless_same(said, wanted.as_str()))
+}
+
+// A plus, or the number of the refusal and its place.
+fn said(alloc: Global, vmods: &VmodTable, word: &str, text: &str) -> Result<String, AllocError> {
+    let taken = if word == "parse" {
+        parsed(alloc, text)
+    } else {
+        checked(alloc, vmods, text)
+    };
+    match taken {
+        Ok(()) => format!(in alloc; "+"),
+        Err(VclError::NoMemory) => format!(in alloc; "no memory"),
+        Err(VclError::Refused { kind, place }) => {
+            let number = kind.number();
+            format!(in alloc; "{number} at {place}")
+        }
+    }
+}
+
+fn parsed(alloc: Global, text: &str) -> Result<(), VclError> {
+    let _ = parse(alloc, &Text::of(alloc, text.as_bytes())?)?;
+    Ok(())
+}
+
+fn checked(alloc: Global, vmods: &VmodTable, text: &str) -> Result<(), VclError> {
+    let tree = parse(alloc, &Text::of(alloc, text.as_bytes())?)?;
+    let _ = check(alloc, tree, vmods)?;
+    Ok(())
+}

@@ -1,5 +1,0 @@
-//! Rows for the public calls of `wire`.
-#![tactic(auto)]
-
-#[cfg(test)]
-mod tests;

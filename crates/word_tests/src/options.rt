@@ -1,0 +1,42 @@
+// The options of a server.
+use crate::escapes::words_of;
+use command_line::{Fault, OrderError, ServeOptions, read_order};
+use std::alloc::{AllocError, Global};
+use units::Text;
+
+/// The order that the words give, or their first fault and the word that is to blame.
+pub fn options_shown(alloc: Global, row: &str) -> Result<String, AllocError> {
+    let words = words_of(alloc, row)?;
+    match read_order(words.as_slice()) {
+        Ok(order) => order_shown(alloc, &order),
+        Err(OrderError::Refused(fault)) => fault_shown(alloc, words.as_slice(), fault),
+        Err(OrderError::NoMemory) => Err(AllocError),
+    }
+}
+
+fn order_shown(alloc: Global, order: &ServeOptions) -> Result<String, AllocError> {
+    let file = str::from_utf8(order.file.bytes()).unwrap_or("?");
+    format!(in alloc;
+        "port {} file {file} workers {} conns {} room {} history {}",
+        order.port, order.workers, order.conns, order.room, order.history
+    )
+}
+
+fn fault_shown(alloc: Global, words: &[Text], fault: Fault) -> Result<String, AllocError> {
+    match fault {
+        Fault::Unknown(place) => format!(in alloc; "unknown {place} {}", word_at(words, place)),
+        Fault::Twice(place) => format!(in alloc; "twice {place} {}", word_at(words, place)),
+        Fault::NoValue(place) => format!(in alloc; "no value {place} {}", word_at(words, place)),
+        Fault::BadValue(place, option) => {
+            format!(in alloc; "bad value {place} {} of {option:?}", word_at(words, place))
+        }
+        Fault::Missing(option) => format!(in alloc; "missing {option:?}"),
+    }
+}
+
+fn word_at(words: &[Text], place: usize) -> &str {
+    match words.get(place) {
+        Some(word) => str::from_utf8(word.bytes()).unwrap_or("?"),
+        None => "?",
+    }
+}
