@@ -23,7 +23,7 @@ use Rattle.client_graph.specs.declared.round.WaitPoint.{WaitPoint}
 use Rattle.client_graph.specs.declared.round.WaitPoint.TheVariants as point
 use Rattle.client_graph.specs.declared.round.Next.{Next}
 use Rattle.client_graph.specs.declared.round.Next.TheVariants.{Enter, Rest}
-use Rattle.client_graph.specs.Contexts.{marked, with_object, with_response}
+use Rattle.client_graph.specs.Contexts.{with_markers, with_object, with_response}
 use Rattle.client_graph.specs.FoundObject.{cached_object, passed_object, opened_of, body_in, whole_body, passed_body, confirmable}
 use Rattle.client_graph.specs.Graph.{enter, failing}
 
@@ -39,16 +39,16 @@ abbrev pub hit : ObjectView → Option ℕ → Query → Context → ℕ → Rou
 hit view token query context moment round =
     enter
     (state.Hit (record { view = view; moment = moment; held = option_map (λ number. held_fetch number query moment (confirmable view)) token }))
-    (with_object (cached_object false view moment) (marked false false context))
+    (with_object (cached_object false view moment) (with_markers false false context))
     round
 
 -- The lookup was answered. Wait looks the key up again, once the fetch is closed.
 abbrev pub after_lookup : Query → Context → ℕ → Reply → Round → Next
 after_lookup query context moment (reply.Hit view) round = hit view None query context moment round
 after_lookup query context moment (reply.Grace view token) round = hit view token query context moment round
-after_lookup query context moment (reply.Miss token stale) round = enter (state.Miss (held_fetch token query moment stale)) (marked false false context) round
-after_lookup query context moment (reply.HitMiss token) round = enter (state.Miss (held_fetch token query moment None)) (marked true false context) round
-after_lookup query context moment reply.HitPass round = enter state.Pass (marked false true context) round
+after_lookup query context moment (reply.Miss token stale) round = enter (state.Miss (held_fetch token query moment stale)) (with_markers false false context) round
+after_lookup query context moment (reply.HitMiss token) round = enter (state.Miss (held_fetch token query moment None)) (with_markers true false context) round
+after_lookup query context moment reply.HitPass round = enter state.Pass (with_markers false true context) round
 after_lookup query context moment (reply.Wait token) round = Rest (point.Look query context) round
 after_lookup query context moment other round = over round
 

@@ -31,8 +31,8 @@ abbrev pub without_key : Context → Context
 without_key context = record context { key = [] }
 
 -- what the newest lookup said of markers
-abbrev pub marked : Bool → Bool → Context → Context
-marked is_hitmiss is_hitpass context =
+abbrev pub with_markers : Bool → Bool → Context → Context
+with_markers is_hitmiss is_hitpass context =
     record context { request = record context.request { is_hitmiss = is_hitmiss; is_hitpass = is_hitpass } }
 
 -- the object that a subroutine reads, and the response that it makes

@@ -13,5 +13,5 @@ abbrev pub earlier : List Field → List ℕ
 earlier fields = flat_map earlier_in fields
 
 -- the last address is the one that the request came from
-abbrev pub forwarded : List ℕ → List Field → List Field
-forwarded peer fields = replaced (codes "X-Forwarded-For") (earlier fields ++ address_text peer) fields
+abbrev pub with_forwarded_for : List ℕ → List Field → List Field
+with_forwarded_for peer fields = replaced (codes "X-Forwarded-For") (earlier fields ++ address_text peer) fields

@@ -42,12 +42,12 @@ abbrev pub enter : State → Context → Round → Next
 enter state context round = Enter state (uncounted context) round
 
 -- vcl_synth begins with a status, a reason and the round's number
-abbrev pub synthesized : ℕ → List ℕ → Context → Round → Next
-synthesized status reason context round =
+abbrev pub enter_synth : ℕ → List ℕ → Context → Round → Next
+enter_synth status reason context round =
     enter state.Synth (with_bare_response (opened_synthetic status reason round.number) context) round
 
 abbrev pub failing : Failure → Context → Round → Next
-failing failure context round = synthesized 503 (reason_of failure) context round
+failing failure context round = enter_synth 503 (reason_of failure) context round
 
 -- a round is restarted at most so often
 abbrev pub most_restarts : ℕ
@@ -57,18 +57,18 @@ abbrev pub may_restart : Round → Bool
 may_restart round = nat_lt round.restarts most_restarts
 
 -- vcl_recv runs once more
-abbrev pub restarted : Context → Round → Next
-restarted context round =
+abbrev pub round_again : Context → Round → Next
+round_again context round =
     enter state.Recv (context_again (round.restarts + 1) round.peer context) (record round { restarts = round.restarts + 1 })
 
-abbrev pub restarted_if : Bool → Context → Round → Next
-restarted_if true context round = restarted context round
-restarted_if false context round = failing TooManyRestarts context round
+abbrev pub round_again_if : Bool → Context → Round → Next
+round_again_if true context round = round_again context round
+round_again_if false context round = failing TooManyRestarts context round
 
 -- the words that lead to the same from wherever they are given; what isn't a word there fails
 abbrev pub common : Return → Context → Round → Next
-common (word.Synth status reason) context round = synthesized (status_or_503 status) reason context round
-common word.Restart context round = restarted_if (may_restart round) context round
+common (word.Synth status reason) context round = enter_synth (status_or_503 status) reason context round
+common word.Restart context round = round_again_if (may_restart round) context round
 common word context round = failing VclFailed context round
 
 -- an open fetch that isn't made is given up first
@@ -77,16 +77,16 @@ giving_up (Some held) (Enter state context round) = Rest (point.Drop held.token 
 giving_up held next = next
 
 -- a restart that happens gives up the fetch that was to be made behind the response
-abbrev pub restarted_late : Context → Round → Next
-restarted_late context round = giving_up round.background (restarted context (record round { background = None }))
+abbrev pub round_again_late : Context → Round → Next
+round_again_late context round = giving_up round.background (round_again context (record round { background = None }))
 
 -- a fifth restart is none: a response is told, and behind vcl_synth the page of a failed one
 abbrev pub late_restart : Bool → Context → Round → Next
-late_restart true context round = restarted_late context round
+late_restart true context round = round_again_late context round
 late_restart false context round = failing TooManyRestarts context round
 
 abbrev pub last_restart : Bool → Context → Round → Next
-last_restart true context round = restarted_late context round
+last_restart true context round = round_again_late context round
 last_restart false context round = Rest (point.Fail context) round
 
 -- what a lookup asks for: the key that vcl_hash made, and the request and its options as VCL left them

@@ -7,7 +7,7 @@ use Rattle.client_graph.specs.declared.round.State.TheVariants as state
 use Rattle.client_graph.specs.declared.round.Next.{Next}
 use Rattle.client_graph.specs.declared.round.Next.TheVariants.{Enter}
 use Rattle.client_graph.specs.Contexts.{first_context}
-use Rattle.client_graph.specs.Forwarded.{forwarded}
+use Rattle.client_graph.specs.Forwarded.{with_forwarded_for}
 use Rattle.seen_request.specs.Seen.{seen}
 
 abbrev pub first_round : ℕ → ℕ → Request → List ℕ → Round
@@ -16,7 +16,7 @@ first_round number vcl request peer =
 
 -- the request's fields, with the client's address at the end of X-Forwarded-For
 abbrev pub forwarded_head : List ℕ → RequestHead → RequestHead
-forwarded_head peer head = record head { fields = forwarded peer head.fields }
+forwarded_head peer head = record head { fields = with_forwarded_for peer head.fields }
 
 -- the request as VCL sees it, and the client's address behind it
 abbrev pub first_head : List ℕ → RequestHead → RequestHead

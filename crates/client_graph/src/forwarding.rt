@@ -2,7 +2,7 @@
 ghost use Rattle.std.specs.Prelude.{◌≡◌, ◌++◌, codes, IfOk, OnOk};
 ghost use Rattle.vcl_values.specs.Values.{address_text};
 ghost use Rattle.http_heads.specs.Fields.{is_named};
-ghost use Rattle.client_graph.specs.Forwarded.{forwarded, earlier, earlier_in};
+ghost use Rattle.client_graph.specs.Forwarded.{with_forwarded_for, earlier, earlier_in};
 
 use http_heads::{Field, Fields, with_only_field};
 use std::alloc::{AllocError, Global};
@@ -40,7 +40,7 @@ fn write_all(alloc: Global, fields: &[Field], peer: [u8; 4]) -> Result<Text, All
 
 /// The fields with the address that the request came from behind those that X-Forwarded-For has, in one field at the end.
 pub fn forward(alloc: Global, fields: Fields, peer: [u8; 4]) -> Result<Fields, AllocError>
-    ensures { IfOk result (λ all. all ≡ forwarded peer fields) }
+    ensures { IfOk result (λ all. all ≡ with_forwarded_for peer fields) }
 {
     let text = write_all(alloc, fields.as_slice(), peer)?;
     with_only_field(alloc, fields, b"X-Forwarded-For", text.bytes())

@@ -2,7 +2,7 @@
 ghost use Rattle.std.specs.Prelude.{◌≡◌, ◌<◌, Option, IfOk, option_map};
 ghost use Rattle.client_graph.specs.declared.round.HeldFetch.{HeldFetch as Open};
 ghost use Rattle.client_graph.specs.Contexts.{without_key};
-ghost use Rattle.client_graph.specs.Graph.{subroutine_of, enter as entered, synthesized, failing, may_restart as may, restarted, restarted_if as restarts_if, common as common_next, giving_up, restarted_late as late, late_restart as late_next, last_restart as last_next, query_of as query_in, delivered_hit as hit_next, leads};
+ghost use Rattle.client_graph.specs.Graph.{subroutine_of, enter as entered, enter_synth, failing, may_restart as may, round_again, round_again_if as restarts_if, common as common_next, giving_up, round_again_late as late, late_restart as late_next, last_restart as last_next, query_of as query_in, delivered_hit as hit_next, leads};
 
 use crate::contexts::{context_again, forget_key, put_bare_response, put_response};
 use crate::finding::{body_of, opened};
@@ -55,7 +55,7 @@ fn synthesize(
     mut context: Context,
     round: Round,
 ) -> Result<Next, AllocError>
-    ensures { IfOk result (λ next. next ≡ synthesized status reason.now context round) }
+    ensures { IfOk result (λ next. next ≡ enter_synth status reason.now context round) }
 {
     let Ok(response) = open_synthetic(alloc, status, reason, round.number) else {
         return Err(out_of_memory((context, round)));
@@ -87,7 +87,7 @@ fn may_restart(round: &Round) -> bool
 
 fn restart(alloc: Global, mut context: Context, mut round: Round) -> Result<Next, AllocError>
     requires { round.restarts < 4 }
-    ensures { IfOk result (λ next. next ≡ restarted context round) }
+    ensures { IfOk result (λ next. next ≡ round_again context round) }
 {
     round.restarts += 1;
     let Ok(()) = context_again(alloc, round.restarts, round.peer, &mut context) else {

@@ -3,7 +3,7 @@ ghost use Rattle.std.specs.Prelude.{◌≡◌, ℕ, true, false, IfOk, option_ma
 ghost use Rattle.vcl_context.specs.declared.context.Context.{Context as Worked};
 ghost use Rattle.client_graph.specs.declared.round.HeldFetch.{HeldFetch as Open};
 ghost use Rattle.client_graph.specs.Graph.{enter as entered};
-ghost use Rattle.client_graph.specs.Contexts.{marked};
+ghost use Rattle.client_graph.specs.Contexts.{with_markers};
 ghost use Rattle.client_graph.specs.Answers.{held_fetch, hit as hit_next, after_lookup, after_purge, after_drop, after_draw, fetched_object as object_fetched, fetched_body as body_fetched, after_fetch, after_send, after_background as behind, takes};
 ghost use Rattle.client_graph.specs.FoundObject.{confirmable as confirms};
 
@@ -72,7 +72,7 @@ fn hit(
 
 // No object was found that is given.
 fn missed(is_hitmiss: bool, held: HeldFetch, mut context: Context, round: Round) -> Next
-    ensures { result ≡ entered (State.Miss held) (marked is_hitmiss false context) round }
+    ensures { result ≡ entered (State.Miss held) (with_markers is_hitmiss false context) round }
 {
     mark(is_hitmiss, false, &mut context);
     enter(State::Miss(held), context, round)
@@ -80,7 +80,7 @@ fn missed(is_hitmiss: bool, held: HeldFetch, mut context: Context, round: Round)
 
 // A marker says that the request is passed.
 fn hit_a_pass(mut context: Context, round: Round) -> Next
-    ensures { result ≡ entered State.Pass (marked false true context) round }
+    ensures { result ≡ entered State.Pass (with_markers false true context) round }
 {
     mark(false, true, &mut context);
     enter(State::Pass, context, round)

@@ -28,7 +28,7 @@ use Rattle.client_graph.specs.declared.round.Next.{Next}
 use Rattle.client_graph.specs.declared.round.Next.TheVariants.{Enter, Rest}
 use Rattle.client_graph.specs.declared.round.ClientWant.{ClientWant}
 use Rattle.client_graph.specs.declared.round.ClientWant.TheVariants.{Cache, Done}
-use Rattle.client_graph.specs.Graph.{enter, leads, common, giving_up, restarted, restarted_if, late_restart, last_restart, may_restart}
+use Rattle.client_graph.specs.Graph.{enter, leads, common, giving_up, round_again, round_again_if, late_restart, last_restart, may_restart}
 use Rattle.client_graph.specs.Answers.{takes, after_lookup, after_purge, after_drop, after_draw, after_send}
 use Rattle.client_graph.specs.Wants.{hint_at, asks_with}
 use Rattle.client_task.specs.declared.place.Asked.{Asked}
@@ -51,7 +51,7 @@ abbrev IsDone : ClientWant → Type 0
 IsDone Done = ⊤
 IsDone w = ⊥
 
-restarted-live : (b : Bool) (c : Context) (r : Round) → LiveNext (restarted_if b c r)
+restarted-live : (b : Bool) (c : Context) (r : Round) → LiveNext (round_again_if b c r)
 restarted-live true c r = tt
 restarted-live false c r = tt
 
@@ -65,11 +65,11 @@ giving-live (Some held) (Enter s c r) h = tt
 giving-live (Some held) (Rest s r) h = h
 
 late-live : (b : Bool) (c : Context) (r : Round) → LiveNext (late_restart b c r)
-late-live true c r = giving-live r.background (restarted c (record r { background = None })) tt
+late-live true c r = giving-live r.background (round_again c (record r { background = None })) tt
 late-live false c r = tt
 
 last-live : (b : Bool) (c : Context) (r : Round) → LiveNext (last_restart b c r)
-last-live true c r = giving-live r.background (restarted c (record r { background = None })) tt
+last-live true c r = giving-live r.background (round_again c (record r { background = None })) tt
 last-live false c r = tt
 
 leads-live : (s : State) (w : Return) (c : Context) (r : Round) → LiveNext (leads s w c r)

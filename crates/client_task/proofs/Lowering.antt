@@ -10,12 +10,12 @@ use Rattle.client_graph.specs.declared.round.State.{State}
 use Rattle.client_graph.specs.declared.round.State.TheVariants as state
 use Rattle.client_graph.specs.declared.round.Next.{Next}
 use Rattle.client_graph.specs.declared.round.Next.TheVariants.{Enter, Rest}
-use Rattle.client_graph.specs.Graph.{enter, leads, common, giving_up, restarted, restarted_if, late_restart, last_restart, may_restart}
+use Rattle.client_graph.specs.Graph.{enter, leads, common, giving_up, round_again, round_again_if, late_restart, last_restart, may_restart}
 use Rattle.client_task.specs.Standing.{weight, weight_of}
 use Rattle.std.proofs.lemmas.Bool.{ltb-true}
 
 -- a restart that may happen
-restart-lower : (b : Bool) (c : Context) (r : Round) (k : ℕ) → may_restart r ≡ b → 1 < k → weight_of (restarted_if b c r) < 8 * (4 - r.restarts) + k
+restart-lower : (b : Bool) (c : Context) (r : Round) (k : ℕ) → may_restart r ≡ b → 1 < k → weight_of (round_again_if b c r) < 8 * (4 - r.restarts) + k
 restart-lower true c r k e h = let few : r.restarts < 4 = ltb-true r.restarts 4 e in omega (arith, few, h)
 restart-lower false c r k e h = omega (arith, h)
 
@@ -30,11 +30,11 @@ giving-lower (Some held) (Enter s c r) k h = omega (arith, h)
 giving-lower (Some held) (Rest point r) k h = h
 
 late-lower : (b : Bool) (c : Context) (r : Round) → may_restart r ≡ b → weight_of (late_restart b c r) < 8 * (4 - r.restarts) + 2
-late-lower true c r e = giving-lower r.background (restarted c (record r { background = None })) (8 * (4 - r.restarts) + 2) (let few : r.restarts < 4 = ltb-true r.restarts 4 e in omega (arith, few))
+late-lower true c r e = giving-lower r.background (round_again c (record r { background = None })) (8 * (4 - r.restarts) + 2) (let few : r.restarts < 4 = ltb-true r.restarts 4 e in omega (arith, few))
 late-lower false c r e = omega arith
 
 last-lower : (b : Bool) (c : Context) (r : Round) → may_restart r ≡ b → weight_of (last_restart b c r) < 8 * (4 - r.restarts) + 1
-last-lower true c r e = giving-lower r.background (restarted c (record r { background = None })) (8 * (4 - r.restarts) + 1) (let few : r.restarts < 4 = ltb-true r.restarts 4 e in omega (arith, few))
+last-lower true c r e = giving-lower r.background (round_again c (record r { background = None })) (8 * (4 - r.restarts) + 1) (let few : r.restarts < 4 = ltb-true r.restarts 4 e in omega (arith, few))
 last-lower false c r e = omega arith
 
 pub leads-lower : (s : State) (w : Return) (c : Context) (r : Round) → weight_of (leads s w c r) < weight s r

@@ -24,7 +24,7 @@ use Rattle.client_graph.specs.declared.round.WaitPoint.TheVariants as point
 use Rattle.client_graph.specs.declared.round.Next.{Next}
 use Rattle.client_graph.specs.declared.round.Next.TheVariants.{Enter, Rest}
 use Rattle.client_graph.specs.declared.round.ClientWant.{ClientWant}
-use Rattle.client_graph.specs.Graph.{enter, leads, common, giving_up, restarted, restarted_if, late_restart, last_restart, may_restart}
+use Rattle.client_graph.specs.Graph.{enter, leads, common, giving_up, round_again, round_again_if, late_restart, last_restart, may_restart}
 use Rattle.client_graph.specs.Answers.{takes, after_lookup, after_purge, after_drop, after_draw, after_fetch, after_send, after_background}
 use Rattle.client_task.specs.Commands.{answer_to}
 use Rattle.client_task.specs.Rounds.{Node, Before, Inside, Between, Step, Runs, Moves, Evaluator, Settles, rests, enters, ends, stops, skips, goes_on, step_of, Reaches}
@@ -54,7 +54,7 @@ TidyNode (Before next) = TidyNext next
 TidyNode (Inside asked s ran r) = TidyIn s r
 TidyNode (Between point r) = TidyPoint point r
 
-restarted-tidy : (b : Bool) (c : Context) (r : Round) → r.background ≡ None → TidyNext (restarted_if b c r)
+restarted-tidy : (b : Bool) (c : Context) (r : Round) → r.background ≡ None → TidyNext (round_again_if b c r)
 restarted-tidy true c r h = h
 restarted-tidy false c r h = tt
 
@@ -68,11 +68,11 @@ giving-tidy (Some held) (Enter s c r) h = h
 giving-tidy (Some held) (Rest point r) h = h
 
 late-tidy : (b : Bool) (c : Context) (r : Round) → TidyNext (late_restart b c r)
-late-tidy true c r = giving-tidy r.background (restarted c (record r { background = None })) refl
+late-tidy true c r = giving-tidy r.background (round_again c (record r { background = None })) refl
 late-tidy false c r = tt
 
 last-tidy : (b : Bool) (c : Context) (r : Round) → TidyNext (last_restart b c r)
-last-tidy true c r = giving-tidy r.background (restarted c (record r { background = None })) refl
+last-tidy true c r = giving-tidy r.background (round_again c (record r { background = None })) refl
 last-tidy false c r = tt
 
 leads-tidy : (s : State) (w : Return) (c : Context) (r : Round) → TidyIn s r → TidyNext (leads s w c r)

@@ -25,7 +25,7 @@ use Rattle.client_graph.specs.declared.round.WaitPoint.TheVariants as point
 use Rattle.client_graph.specs.declared.round.Next.{Next}
 use Rattle.client_graph.specs.declared.round.Next.TheVariants.{Enter, Rest}
 use Rattle.client_graph.specs.declared.round.ClientWant.{ClientWant}
-use Rattle.client_graph.specs.Graph.{enter, leads, common, giving_up, restarted, restarted_if, late_restart, last_restart, may_restart}
+use Rattle.client_graph.specs.Graph.{enter, leads, common, giving_up, round_again, round_again_if, late_restart, last_restart, may_restart}
 use Rattle.client_graph.specs.Answers.{takes, after_lookup, after_purge, after_drop, after_draw, after_fetch, after_send, after_background}
 use Rattle.client_graph.specs.Wants.{hint_at, asks_with}
 use Rattle.client_task.specs.Commands.{answer_to}
@@ -44,7 +44,7 @@ node_vcl (Before next) = vcl_of next
 node_vcl (Inside asked s ran r) = r.vcl
 node_vcl (Between s r) = r.vcl
 
-restarted-vcl : (b : Bool) (c : Context) (r : Round) → vcl_of (restarted_if b c r) ≡ r.vcl
+restarted-vcl : (b : Bool) (c : Context) (r : Round) → vcl_of (round_again_if b c r) ≡ r.vcl
 restarted-vcl true c r = refl
 restarted-vcl false c r = refl
 
@@ -58,11 +58,11 @@ giving-vcl (Some held) (Enter s c r) = refl
 giving-vcl (Some held) (Rest s r) = refl
 
 late-vcl : (b : Bool) (c : Context) (r : Round) → vcl_of (late_restart b c r) ≡ r.vcl
-late-vcl true c r = giving-vcl r.background (restarted c (record r { background = None }))
+late-vcl true c r = giving-vcl r.background (round_again c (record r { background = None }))
 late-vcl false c r = refl
 
 last-vcl : (b : Bool) (c : Context) (r : Round) → vcl_of (last_restart b c r) ≡ r.vcl
-last-vcl true c r = giving-vcl r.background (restarted c (record r { background = None }))
+last-vcl true c r = giving-vcl r.background (round_again c (record r { background = None }))
 last-vcl false c r = refl
 
 leads-vcl : (s : State) (w : Return) (c : Context) (r : Round) → vcl_of (leads s w c r) ≡ r.vcl

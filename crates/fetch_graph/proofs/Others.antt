@@ -13,10 +13,10 @@ use Rattle.fetch_graph.specs.declared.fetch.Arrived.{Arrived}
 use Rattle.fetch_graph.specs.declared.fetch.Fetch.{Fetch}
 use Rattle.fetch_graph.specs.declared.fetch.Insertion.{Insertion}
 use Rattle.fetch_graph.specs.declared.fetch.WaitPoint.TheVariants as point
-use Rattle.fetch_graph.specs.Graph.{abandoned, behind_request, behind_response, behind_error}
-use Rattle.fetch_graph.specs.Answers.{over, picked, inserted, takes}
+use Rattle.fetch_graph.specs.Graph.{without_response, behind_request, behind_response, behind_error}
+use Rattle.fetch_graph.specs.Answers.{over, after_pick, after_insertion, takes}
 
-pub picked-other : (c : Context) (m : ℕ) (x : Reply) (f : Fetch) → ((n : Option (List ℕ)) → x ≡ reply.Picked n → ⊥) → over f ≡ picked c m x f
+pub picked-other : (c : Context) (m : ℕ) (x : Reply) (f : Fetch) → ((n : Option (List ℕ)) → x ≡ reply.Picked n → ⊥) → over f ≡ after_pick c m x f
 picked-other c m (reply.Picked n) f other = absurd (other n refl)
 picked-other c m x f other = refl
 
@@ -26,7 +26,7 @@ pub inserted-other : (i : Insertion) (c : Context) (m : ℕ) (x : Reply) (f : Fe
     → (x ≡ reply.NoRoom → ⊥)
     → (x ≡ reply.Refused → ⊥)
     → (x ≡ reply.StaleGone → ⊥)
-    → over f ≡ inserted i c m x f
+    → over f ≡ after_insertion i c m x f
 inserted-other i c m (reply.Stored n) f a b d e g = absurd (a n refl)
 inserted-other i c m reply.NotInTime f a b d e g = absurd (b refl)
 inserted-other i c m reply.NoRoom f a b d e g = absurd (d refl)
@@ -35,7 +35,7 @@ inserted-other i c m reply.StaleGone f a b d e g = absurd (g refl)
 inserted-other i c m x f a b d e g = refl
 
 pub request-other : (w : Return) (c : Context) (f : Fetch) → (w ≡ word.Fetch → ⊥) → ((s : ℤ) (r : List ℕ) → w ≡ word.Error s r → ⊥)
-    → abandoned f ≡ behind_request w c f
+    → without_response f ≡ behind_request w c f
 request-other word.Fetch c f a b = absurd (a refl)
 request-other (word.Error s r) c f a b = absurd (b s r refl)
 request-other w c f a b = refl
@@ -45,7 +45,7 @@ pub response-other : (x : Arrived) (w : Return) (c : Context) (f : Fetch)
     → ((t : ℤ) → w ≡ word.PassFor t → ⊥)
     → ((s : ℤ) (r : List ℕ) → w ≡ word.Error s r → ⊥)
     → (w ≡ word.Retry → ⊥)
-    → abandoned f ≡ behind_response x w c f
+    → without_response f ≡ behind_response x w c f
 response-other x word.Deliver c f a b d e = absurd (a refl)
 response-other x (word.PassFor t) c f a b d e = absurd (b t refl)
 response-other x (word.Error s r) c f a b d e = absurd (d s r refl)
@@ -53,7 +53,7 @@ response-other x word.Retry c f a b d e = absurd (e refl)
 response-other x w c f a b d e = refl
 
 pub error-other : (origin : ℤ) (w : Return) (c : Context) (f : Fetch) → (w ≡ word.Deliver → ⊥) → (w ≡ word.Retry → ⊥)
-    → abandoned f ≡ behind_error origin w c f
+    → without_response f ≡ behind_error origin w c f
 error-other origin word.Deliver c f a b = absurd (a refl)
 error-other origin word.Retry c f a b = absurd (b refl)
 error-other origin w c f a b = refl

@@ -27,13 +27,13 @@ abbrev pub over : Fetch → Next
 over fetch = Rest (point.Over (nothing fetch)) fetch
 
 -- a backend is asked, or none is healthy
-abbrev pub chosen : Option (List ℕ) → Context → ℕ → Fetch → Next
-chosen (Some name) context moment fetch = Rest (point.Ask context) (record fetch { moment = moment; picked = Some name })
-chosen None context moment fetch = failing context (record fetch { moment = moment })
+abbrev pub after_choice : Option (List ℕ) → Context → ℕ → Fetch → Next
+after_choice (Some name) context moment fetch = Rest (point.Ask context) (record fetch { moment = moment; picked = Some name })
+after_choice None context moment fetch = failing context (record fetch { moment = moment })
 
-abbrev pub picked : Context → ℕ → Reply → Fetch → Next
-picked context moment (reply.Picked name) fetch = chosen name context moment fetch
-picked context moment other fetch = over fetch
+abbrev pub after_pick : Context → ℕ → Reply → Fetch → Next
+after_pick context moment (reply.Picked name) fetch = after_choice name context moment fetch
+after_pick context moment other fetch = over fetch
 
 -- vcl_backend_response begins with what was received
 unfoldable pub responding : Received → Context → Fetch → Next
@@ -43,29 +43,29 @@ responding response context fetch =
     (with_response (response_with response.head timing (age_at timing.origin fetch.moment) context.fetch_request.uncacheable response.was_304 fetch.picked) context)
     fetch
 
-abbrev pub arrived : Option Received → Context → Fetch → Next
-arrived None context fetch = failing context fetch
-arrived (Some response) context fetch = responding response context fetch
+abbrev pub after_receipt : Option Received → Context → Fetch → Next
+after_receipt None context fetch = failing context fetch
+after_receipt (Some response) context fetch = responding response context fetch
 
 -- the exchange is over
-abbrev pub exchanged : Context → Exchange → Fetch → Next
-exchanged context (exchange.Reply head body) fetch =
-    arrived (received context.fetch_request.head (purpose_of fetch.order.looked) (content_of fetch.order.stale) head body) context fetch
-exchanged context (exchange.Fault cause) fetch = failing context fetch
-exchanged context exchange.NoMemory fetch = over fetch
+abbrev pub after_exchange : Context → Exchange → Fetch → Next
+after_exchange context (exchange.Reply head body) fetch =
+    after_receipt (received context.fetch_request.head (purpose_of fetch.order.looked) (content_of fetch.order.stale) head body) context fetch
+after_exchange context (exchange.Fault cause) fetch = failing context fetch
+after_exchange context exchange.NoMemory fetch = over fetch
 
 -- The insertion was answered. Where the stale object is gone, the backend is asked once more, without a condition.
-abbrev pub inserted : Insertion → Context → ℕ → Reply → Fetch → Next
-inserted insertion context moment (reply.Stored number) fetch = Rest (point.Over (outcome_of fetch insertion.delivered moment insertion.is_marker)) fetch
-inserted insertion context moment reply.NotInTime fetch = Rest (point.Over (outcome_of fetch insertion.delivered moment insertion.is_marker)) fetch
-inserted insertion context moment reply.NoRoom fetch = Rest (point.Over (outcome_of fetch insertion.delivered moment insertion.is_marker)) fetch
-inserted insertion context moment reply.Refused fetch = Rest (point.Over (outcome_of fetch insertion.delivered moment insertion.is_marker)) fetch
-inserted insertion context moment reply.StaleGone fetch = Rest (point.Ask (with_head (unconditional context.fetch_request.head) context)) fetch
-inserted insertion context moment other fetch = over fetch
+abbrev pub after_insertion : Insertion → Context → ℕ → Reply → Fetch → Next
+after_insertion insertion context moment (reply.Stored number) fetch = Rest (point.Over (outcome_of fetch insertion.delivered moment insertion.is_marker)) fetch
+after_insertion insertion context moment reply.NotInTime fetch = Rest (point.Over (outcome_of fetch insertion.delivered moment insertion.is_marker)) fetch
+after_insertion insertion context moment reply.NoRoom fetch = Rest (point.Over (outcome_of fetch insertion.delivered moment insertion.is_marker)) fetch
+after_insertion insertion context moment reply.Refused fetch = Rest (point.Over (outcome_of fetch insertion.delivered moment insertion.is_marker)) fetch
+after_insertion insertion context moment reply.StaleGone fetch = Rest (point.Ask (with_head (unconditional context.fetch_request.head) context)) fetch
+after_insertion insertion context moment other fetch = over fetch
 
 -- where an answer leads from a place; one that doesn't answer what is wanted there ends the fetch
 abbrev pub takes : WaitPoint → Given → Fetch → Next
-takes (point.Pick context) (given.Reply told) fetch = picked context told.moment told.reply fetch
-takes (point.Ask context) (given.Exchange got) fetch = exchanged context got.exchange (record fetch { moment = got.moment })
-takes (point.Insert insertion context) (given.Reply told) fetch = inserted insertion context told.moment told.reply fetch
+takes (point.Pick context) (given.Reply told) fetch = after_pick context told.moment told.reply fetch
+takes (point.Ask context) (given.Exchange got) fetch = after_exchange context got.exchange (record fetch { moment = got.moment })
+takes (point.Insert insertion context) (given.Reply told) fetch = after_insertion insertion context told.moment told.reply fetch
 takes point given fetch = over fetch

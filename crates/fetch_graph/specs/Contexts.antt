@@ -26,8 +26,8 @@ with_response response context = record context { fetch_response = response; bod
 abbrev pub with_head : RequestHead → Context → Context
 with_head head context = record context { fetch_request = record context.fetch_request { head = head } }
 
-abbrev pub tried : ℕ → Context → Context
-tried retries context = record context { fetch_request = record context.fetch_request { retries = pos retries } }
+abbrev pub with_retries : ℕ → Context → Context
+with_retries retries context = record context { fetch_request = record context.fetch_request { retries = pos retries } }
 
 abbrev pub is_one : DirectorKind → Bool
 is_one director.One = true
@@ -47,8 +47,8 @@ abbrev pub backend_of : List ℕ → Target → Backend
 backend_of text target = record { name = target.name; key = key_for target.kind text; declared_none = is_none target }
 
 -- a backend that was picked
-abbrev pub named : List ℕ → Backend
-named name = record { name = name; key = None; declared_none = false }
+abbrev pub backend_named : List ℕ → Backend
+backend_named name = record { name = name; key = None; declared_none = false }
 
 -- the nearest number that 64 bits hold
 abbrev pub in_range : ℤ → ℤ
@@ -68,5 +68,5 @@ response_with head timing age uncacheable was_304 picked = record {
   uncacheable = uncacheable;
   age = age;
   was_304 = was_304;
-  backend = option_map named picked;
+  backend = option_map backend_named picked;
 }

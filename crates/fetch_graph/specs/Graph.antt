@@ -28,7 +28,7 @@ use Rattle.fetch_graph.specs.declared.fetch.StoreAs.TheVariants as store_as
 use Rattle.fetch_graph.specs.declared.fetch.WaitPoint.TheVariants as point
 use Rattle.fetch_graph.specs.declared.fetch.Next.{Next}
 use Rattle.fetch_graph.specs.declared.fetch.Next.TheVariants.{Enter, Rest}
-use Rattle.fetch_graph.specs.Contexts.{with_response, tried, age_at, response_with}
+use Rattle.fetch_graph.specs.Contexts.{with_response, with_retries, age_at, response_with}
 use Rattle.vcl_context.specs.Initial.{uncounted, body_or_empty, status_or_503}
 use Rattle.fetch_graph.specs.Opening.{purpose_of}
 
@@ -59,12 +59,12 @@ abbrev pub nothing : Fetch → FetchOutcome
 nothing fetch = if fetch.order.background then Ended else Failed
 
 -- what opened the fetch is closed, if it was a lookup
-abbrev pub given_up : Option Query → Fetch → Next
-given_up None fetch = Rest (point.Over (nothing fetch)) fetch
-given_up (Some query) fetch = Rest point.Drop fetch
+abbrev pub token_dropped : Option Query → Fetch → Next
+token_dropped None fetch = Rest (point.Over (nothing fetch)) fetch
+token_dropped (Some query) fetch = Rest point.Drop fetch
 
-abbrev pub abandoned : Fetch → Next
-abandoned fetch = given_up fetch.order.looked fetch
+abbrev pub without_response : Fetch → Next
+without_response fetch = token_dropped fetch.order.looked fetch
 
 -- a fetch is tried again at most so often
 abbrev pub most_retries : ℕ
@@ -74,17 +74,17 @@ abbrev pub may_retry : Fetch → Bool
 may_retry fetch = nat_lt fetch.retries most_retries
 
 -- vcl_backend_fetch runs once more, on the request as it stands
-abbrev pub retried : Context → Fetch → Next
-retried context fetch = enter state.Request (tried (fetch.retries + 1) context) (record fetch { retries = fetch.retries + 1 })
+abbrev pub fetch_again : Context → Fetch → Next
+fetch_again context fetch = enter state.Request (with_retries (fetch.retries + 1) context) (record fetch { retries = fetch.retries + 1 })
 
-abbrev pub retried_if : Bool → Context → Fetch → Next
-retried_if true context fetch = retried context fetch
-retried_if false context fetch = failing context fetch
+abbrev pub fetch_again_if : Bool → Context → Fetch → Next
+fetch_again_if true context fetch = fetch_again context fetch
+fetch_again_if false context fetch = failing context fetch
 
 -- a fifth retry in the error state is the end
 abbrev pub last_retry : Bool → Context → Fetch → Next
-last_retry true context fetch = retried context fetch
-last_retry false context fetch = abandoned fetch
+last_retry true context fetch = fetch_again context fetch
+last_retry false context fetch = without_response fetch
 
 -- ---- a response is delivered
 
@@ -126,9 +126,9 @@ outcome_of fetch object moment uncacheable =
     if fetch.order.background then Ended else Delivered (view_of fetch.order.number object) moment uncacheable
 
 -- a response that may be stored is handed to the cache first
-unfoldable pub handed : Option Query → StoreAs → Response → Context → Fetch → Next
-handed None store_as response context fetch = Rest (point.Over (outcome_of fetch (Ordinary response) fetch.moment true)) fetch
-handed (Some query) store_as response context fetch =
+unfoldable pub insertion_first : Option Query → StoreAs → Response → Context → Fetch → Next
+insertion_first None store_as response context fetch = Rest (point.Over (outcome_of fetch (Ordinary response) fetch.moment true)) fetch
+insertion_first (Some query) store_as response context fetch =
     Rest (point.Insert (record {
       object = object_for store_as response;
       delivered = Ordinary (shown_for store_as response);
@@ -137,9 +137,9 @@ handed (Some query) store_as response context fetch =
     }) context) fetch
 
 -- the response that VCL left is delivered, with the body and the origin of what arrived
-unfoldable pub delivered : StoreAs → Arrived → Context → Fetch → Next
-delivered store_as arrived context fetch =
-    handed fetch.order.looked store_as
+unfoldable pub deliver_as : StoreAs → Arrived → Context → Fetch → Next
+deliver_as store_as arrived context fetch =
+    insertion_first fetch.order.looked store_as
     (response_of fetch.order.looked context.fetch_response.head arrived.body (timing_left arrived.origin context.fetch_response)) context fetch
 
 -- what vcl_backend_error made, with its own body
@@ -154,19 +154,19 @@ kept_by response = if response.uncacheable then store_as.HitForMiss else store_a
 abbrev pub behind_request : Return → Context → Fetch → Next
 behind_request word.Fetch context fetch = Rest (point.Pick context) fetch
 behind_request (word.Error status reason) context fetch = erring (status_or_503 status) reason context fetch
-behind_request word context fetch = abandoned fetch
+behind_request word context fetch = without_response fetch
 
 abbrev pub behind_response : Arrived → Return → Context → Fetch → Next
-behind_response arrived word.Deliver context fetch = delivered (kept_by context.fetch_response) arrived context fetch
-behind_response arrived (word.PassFor ttl) context fetch = delivered (store_as.HitForPass ttl) arrived context fetch
+behind_response arrived word.Deliver context fetch = deliver_as (kept_by context.fetch_response) arrived context fetch
+behind_response arrived (word.PassFor ttl) context fetch = deliver_as (store_as.HitForPass ttl) arrived context fetch
 behind_response arrived (word.Error status reason) context fetch = erring (status_or_503 status) reason context fetch
-behind_response arrived word.Retry context fetch = retried_if (may_retry fetch) context fetch
-behind_response arrived word context fetch = abandoned fetch
+behind_response arrived word.Retry context fetch = fetch_again_if (may_retry fetch) context fetch
+behind_response arrived word context fetch = without_response fetch
 
 abbrev pub behind_error : ℤ → Return → Context → Fetch → Next
-behind_error origin word.Deliver context fetch = delivered (kept_by context.fetch_response) (made_at origin context) context fetch
+behind_error origin word.Deliver context fetch = deliver_as (kept_by context.fetch_response) (made_at origin context) context fetch
 behind_error origin word.Retry context fetch = last_retry (may_retry fetch) context fetch
-behind_error origin word context fetch = abandoned fetch
+behind_error origin word context fetch = without_response fetch
 
 abbrev pub leads : State → Return → Context → Fetch → Next
 leads state.Request word context fetch = behind_request word context fetch

@@ -3,7 +3,7 @@ ghost use Rattle.std.specs.Prelude.{◌≡◌, IfOk};
 ghost use Rattle.backend_request.specs.Asked.{unconditional as without_conditions};
 ghost use Rattle.fetch_graph.specs.Contexts.{with_head as other_head};
 ghost use Rattle.fetch_graph.specs.Graph.{outcome_of as outcome_due};
-ghost use Rattle.fetch_graph.specs.Answers.{over as over_next, chosen, picked as picked_next, responding, arrived as arrived_next, exchanged, inserted, takes};
+ghost use Rattle.fetch_graph.specs.Answers.{over as over_next, after_choice, after_pick as picked_next, responding, after_receipt as arrived_next, after_exchange, after_insertion, takes};
 
 use crate::contexts::{response_at, set_head, set_response};
 use crate::keeping::{nothing, outcome_of};
@@ -37,7 +37,7 @@ fn choose(
     moment: u64,
     mut fetch: Fetch,
 ) -> Result<Next, AllocError>
-    ensures { IfOk result (λ next. next ≡ chosen name context moment fetch) }
+    ensures { IfOk result (λ next. next ≡ after_choice name context moment fetch) }
 {
     fetch.moment = moment;
     match name {
@@ -123,7 +123,7 @@ fn replied(
     body: Text,
     fetch: Fetch,
 ) -> Result<Next, AllocError>
-    ensures { IfOk result (λ next. next ≡ exchanged context (Exchange.Reply head body) fetch) }
+    ensures { IfOk result (λ next. next ≡ after_exchange context (Exchange.Reply head body) fetch) }
 {
     let Ok(received) = receive(
         alloc,
@@ -145,7 +145,7 @@ fn exchange_over(
     exchange: Exchange,
     fetch: Fetch,
 ) -> Result<Next, AllocError>
-    ensures { IfOk result (λ next. next ≡ exchanged context exchange fetch) }
+    ensures { IfOk result (λ next. next ≡ after_exchange context exchange fetch) }
 {
     match exchange {
         Exchange::Reply(head, body) => replied(alloc, context, head, body, fetch),
@@ -195,7 +195,7 @@ fn insertion_over(
     reply: Reply,
     fetch: Fetch,
 ) -> Result<Next, AllocError>
-    ensures { IfOk result (λ next. next ≡ inserted insertion context moment reply fetch) }
+    ensures { IfOk result (λ next. next ≡ after_insertion insertion context moment reply fetch) }
 {
     match reply {
         Reply::Stored(_) | Reply::NotInTime | Reply::NoRoom | Reply::Refused => {

@@ -2,7 +2,7 @@
 ghost use Rattle.std.specs.Prelude.{◌≡◌, Option, true, Some, IfOk};
 ghost use Rattle.backend_request.specs.Stored.{response_of};
 ghost use Rattle.cache_law.specs.declared.call.Query.{Query as Looked};
-ghost use Rattle.fetch_graph.specs.Graph.{timing_left as times_left, marked_response as marked, object_for as object_to_keep, shown_for as shown_with, is_marked as marks, confirmed_number as confirmed, outcome_of as outcome_with, handed, delivered, kept_by as kept_of, nothing as none_came};
+ghost use Rattle.fetch_graph.specs.Graph.{timing_left as times_left, marked_response as marked, object_for as object_to_keep, shown_for as shown_with, is_marked as marks, confirmed_number as confirmed, outcome_of as outcome_with, insertion_first, deliver_as, kept_by as kept_of, nothing as none_came};
 
 use crate::{Arrived, Fetch, Insertion, Next, StoreAs, WaitPoint};
 use backend_request::{make_marker, make_response};
@@ -178,7 +178,7 @@ fn deliver_passed(
 }
 
 // One that may be stored is handed to the cache first.
-#[tactic(auto, unfolding(crate::specs::Graph::handed))]
+#[tactic(auto, unfolding(crate::specs::Graph::insertion_first))]
 fn insert(
     alloc: Global,
     store_as: StoreAs,
@@ -186,7 +186,7 @@ fn insert(
     context: Context,
     fetch: Fetch,
 ) -> Result<Next, AllocError>
-    ensures { (query : Looked) → IfOk result (λ next. next ≡ handed (Some query) store_as response context fetch) }
+    ensures { (query : Looked) → IfOk result (λ next. next ≡ insertion_first (Some query) store_as response context fetch) }
 {
     let stale = confirmed_number(context.fetch_response.was_304, &fetch.order.stale);
     let Ok(insertion) = insertion_of(alloc, store_as, response, stale) else {
@@ -205,7 +205,7 @@ fn hand_over(
     context: Context,
     fetch: Fetch,
 ) -> Result<Next, AllocError>
-    ensures { IfOk result (λ next. next ≡ handed fetch.order.looked store_as response context fetch) }
+    ensures { IfOk result (λ next. next ≡ insertion_first fetch.order.looked store_as response context fetch) }
 {
     match &fetch.order.looked {
         None => deliver_passed(alloc, response, context, fetch),
@@ -239,7 +239,7 @@ pub(crate) fn deliver(
     context: Context,
     fetch: Fetch,
 ) -> Result<Next, AllocError>
-    ensures { IfOk result (λ next. next ≡ delivered store_as arrived context fetch) }
+    ensures { IfOk result (λ next. next ≡ deliver_as store_as arrived context fetch) }
 {
     let Ok(response) = response_left(alloc, &fetch.order.looked, arrived, &context.fetch_response)
     else {

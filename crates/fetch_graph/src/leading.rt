@@ -1,6 +1,6 @@
 // Where a subroutine's word leads.
 ghost use Rattle.std.specs.Prelude.{◌≡◌, ◌<◌, IfOk};
-ghost use Rattle.fetch_graph.specs.Graph.{subroutine_of, enter as entered, erring, failing, abandoned, may_retry as may, retried, retried_if as retries_if, last_retry as last_next, kept_by as kept_of, delivered, made_at as made_with, behind_request, behind_response, behind_error, leads};
+ghost use Rattle.fetch_graph.specs.Graph.{subroutine_of, enter as entered, erring, failing, without_response, may_retry as may, fetch_again, fetch_again_if as retries_if, last_retry as last_next, kept_by as kept_of, deliver_as, made_at as made_with, behind_request, behind_response, behind_error, leads};
 ghost use Rattle.vcl_context.specs.Initial.{status_or_503 as status_given};
 
 use crate::contexts::{response_at, set_response, set_tries};
@@ -104,7 +104,7 @@ pub(crate) fn fail(alloc: Global, context: Context, fetch: Fetch) -> Result<Next
 
 /// The fetch is given up: what opened it is closed, if it was a lookup, and nothing came of it.
 pub fn abandon(fetch: Fetch) -> Next
-    ensures { result ≡ abandoned fetch }
+    ensures { result ≡ without_response fetch }
 {
     let point = match &fetch.order.looked {
         None => WaitPoint::Over(nothing(&fetch)),
@@ -115,7 +115,7 @@ pub fn abandon(fetch: Fetch) -> Next
 
 // The same, where more was held, which is let go.
 fn give_up<V: Drop>(_held: V, fetch: Fetch) -> Next
-    ensures { result ≡ abandoned fetch }
+    ensures { result ≡ without_response fetch }
 {
     abandon(fetch)
 }
@@ -128,7 +128,7 @@ fn may_retry(fetch: &Fetch) -> bool
 
 fn retry(mut context: Context, mut fetch: Fetch) -> Next
     requires { fetch.retries < 4 }
-    ensures { result ≡ retried context fetch }
+    ensures { result ≡ fetch_again context fetch }
 {
     fetch.retries += 1;
     set_tries(fetch.retries, &mut context);
@@ -174,7 +174,7 @@ fn deliver_whole(
     context: Context,
     fetch: Fetch,
 ) -> Result<Next, AllocError>
-    ensures { IfOk result (λ next. next ≡ delivered (kept_of context.fetch_response) arrived context fetch) }
+    ensures { IfOk result (λ next. next ≡ deliver_as (kept_of context.fetch_response) arrived context fetch) }
 {
     let store_as = kept_by(&context.fetch_response);
     deliver(alloc, store_as, arrived, context, fetch)
@@ -187,7 +187,7 @@ fn deliver_error(
     context: Context,
     fetch: Fetch,
 ) -> Result<Next, AllocError>
-    ensures { IfOk result (λ next. next ≡ delivered (kept_of context.fetch_response) (made_with origin context) context fetch) }
+    ensures { IfOk result (λ next. next ≡ deliver_as (kept_of context.fetch_response) (made_with origin context) context fetch) }
 {
     let Ok(arrived) = made_at(alloc, origin, &context) else {
         return Err(out_of_memory((context, fetch)));

@@ -11,7 +11,7 @@ use Rattle.fetch_graph.specs.declared.fetch.Fetch.{Fetch}
 use Rattle.fetch_graph.specs.declared.fetch.State.{State}
 use Rattle.fetch_graph.specs.declared.fetch.Next.{Next}
 use Rattle.fetch_graph.specs.declared.fetch.Next.TheVariants.{Enter}
-use Rattle.fetch_graph.specs.Graph.{subroutine_of, leads, abandoned}
+use Rattle.fetch_graph.specs.Graph.{subroutine_of, leads, without_response}
 use Rattle.fetch_task.specs.Fetches.{Settles, ends, asked}
 use Rattle.vcl_runs.specs.Evaluators.{Evaluator}
 use Rattle.fetch_task.specs.Standing.{LeadsTo}
@@ -31,7 +31,7 @@ ending e state context fetch ran heard word left next same is t h = λ place x.
 
 -- or it asked for something
 pub asking : (e : Evaluator) (state : State) (context : Context) (fetch : Fetch) (ran : Subroutine) (heard : Turn) (command : Command) (next : Next)
-    → ran ≡ subroutine_of state → heard ≡ turn.Need command → e.turns (begun ran context) heard → next ≡ abandoned fetch
+    → ran ≡ subroutine_of state → heard ≡ turn.Need command → e.turns (begun ran context) heard → next ≡ without_response fetch
     → LeadsTo e (Enter state context fetch) next
 asking e state context fetch ran heard command next same is t h = λ place x.
     asked command (turned e state context ran heard (turn.Need command) same is t) (subst (λ (n : Next). Settles e n place) h x)

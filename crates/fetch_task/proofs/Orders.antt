@@ -38,8 +38,8 @@ use Rattle.fetch_graph.specs.declared.fetch.Next.TheVariants.{Enter, Rest}
 use Rattle.fetch_graph.specs.declared.fetch.FetchWant.{FetchWant}
 use Rattle.vcl_context.specs.Initial.{status_or_503}
 use Rattle.fetch_graph.specs.Opening.{opening, purpose_of, content_of}
-use Rattle.fetch_graph.specs.Graph.{erring, failing, view_of, outcome_of, given_up, abandoned, may_retry, retried_if, last_retry, handed, delivered, timing_left, kept_by, made_at, confirmed_number, leads}
-use Rattle.fetch_graph.specs.Answers.{over, chosen, picked, responding, arrived, exchanged, inserted, takes}
+use Rattle.fetch_graph.specs.Graph.{erring, failing, view_of, outcome_of, token_dropped, without_response, may_retry, fetch_again_if, last_retry, insertion_first, deliver_as, timing_left, kept_by, made_at, confirmed_number, leads}
+use Rattle.fetch_graph.specs.Answers.{over, after_choice, after_pick, responding, after_receipt, after_exchange, after_insertion, takes}
 use Rattle.fetch_graph.specs.Wants.{asks}
 use Rattle.fetch_task.specs.Fetches.{Settles, rests, ends, asked, goes_on, Reaches, target_at, Wants}
 use Rattle.vcl_runs.specs.Evaluators.{Evaluator}
@@ -76,11 +76,11 @@ response-comes f view m uncacheable false h n = (h, n)
 over-keeps : (f : Fetch) → Keeps f (over f)
 over-keeps f = record { order = refl; retries = λ h. h; tidy = nothing-comes f f.order.background refl }
 
-given-keeps : (f : Fetch) (looked : Option Query) → f.order.looked ≡ looked → Keeps f (given_up looked f)
+given-keeps : (f : Fetch) (looked : Option Query) → f.order.looked ≡ looked → Keeps f (token_dropped looked f)
 given-keeps f None e = record { order = refl; retries = λ h. h; tidy = nothing-comes f f.order.background refl }
 given-keeps f (Some query) e = record { order = refl; retries = λ h. h; tidy = ap (λ (q : Option Query). is_some q) e }
 
-pub abandoned-keeps : (f : Fetch) → Keeps f (abandoned f)
+pub abandoned-keeps : (f : Fetch) → Keeps f (without_response f)
 abandoned-keeps f = given-keeps f f.order.looked refl
 
 -- ---- the arrows
@@ -94,19 +94,19 @@ stale-replaced order false stale e = tt
 stale-replaced order true None e = tt
 stale-replaced order true (Some view) e = ap (λ (s : Option ObjectView). option_map (λ (v : ObjectView). v.number) s) e
 
-handed-keeps : (f : Fetch) (looked : Option Query) → f.order.looked ≡ looked → (k : StoreAs) (r : Response) (c : Context) → Keeps f (handed looked k r c f)
-unfolding handed
+handed-keeps : (f : Fetch) (looked : Option Query) → f.order.looked ≡ looked → (k : StoreAs) (r : Response) (c : Context) → Keeps f (insertion_first looked k r c f)
+unfolding insertion_first
 handed-keeps f None e k r c =
     record { order = refl; retries = λ h. h; tidy = response-comes f (view_of f.order.number (Ordinary r)) f.moment true f.order.background refl refl }
 handed-keeps f (Some query) e k r c =
     record { order = refl; retries = λ h. h; tidy = (ap (λ (q : Option Query). is_some q) e, stale-replaced f.order c.fetch_response.was_304 f.order.stale refl) }
 
-delivered-keeps : (k : StoreAs) (a : Arrived) (c : Context) (f : Fetch) → Keeps f (delivered k a c f)
-unfolding delivered
+delivered-keeps : (k : StoreAs) (a : Arrived) (c : Context) (f : Fetch) → Keeps f (deliver_as k a c f)
+unfolding deliver_as
 delivered-keeps k a c f = handed-keeps f f.order.looked refl k
     (response_of f.order.looked c.fetch_response.head a.body (timing_left a.origin c.fetch_response)) c
 
-retried-keeps : (b : Bool) (c : Context) (f : Fetch) → may_retry f ≡ b → Keeps f (retried_if b c f)
+retried-keeps : (b : Bool) (c : Context) (f : Fetch) → may_retry f ≡ b → Keeps f (fetch_again_if b c f)
 retried-keeps true c f e = record { order = refl; retries = λ h. (let few : f.retries < 4 = ltb-true f.retries 4 e in omega (arith, few)); tidy = tt }
 retried-keeps false c f e = erring-keeps 503 (reason_of FetchFailed) c f
 
@@ -133,11 +133,11 @@ leads-keeps (state.Error origin) w c f = abandoned-keeps f
 pub at-moment : (f g : Fetch) (next : Next) → g.order ≡ f.order → g.retries ≡ f.retries → Keeps g next → Keeps f next
 at-moment f g next o r k = record { order = k.order ∙ o; retries = λ h. k.retries (subst (λ (n : ℕ). n ≤ 4) (sym r) h); tidy = k.tidy }
 
-chosen-keeps : (name : Option (List ℕ)) (c : Context) (m : ℕ) (f : Fetch) → Keeps f (chosen name c m f)
+chosen-keeps : (name : Option (List ℕ)) (c : Context) (m : ℕ) (f : Fetch) → Keeps f (after_choice name c m f)
 chosen-keeps (Some name) c m f = record { order = refl; retries = λ h. h; tidy = tt }
 chosen-keeps None c m f = at-moment f (record f { moment = m }) (failing c (record f { moment = m })) refl refl (erring-keeps 503 (reason_of FetchFailed) c (record f { moment = m }))
 
-picked-keeps : (c : Context) (m : ℕ) (x : Reply) (f : Fetch) → Keeps f (picked c m x f)
+picked-keeps : (c : Context) (m : ℕ) (x : Reply) (f : Fetch) → Keeps f (after_pick c m x f)
 picked-keeps c m (reply.Picked name) f = chosen-keeps name c m f
 picked-keeps c m x f = over-keeps f
 
@@ -145,11 +145,11 @@ responding-keeps : (x : Received) (c : Context) (f : Fetch) → Keeps f (respond
 unfolding responding
 responding-keeps x c f = record { order = refl; retries = λ h. h; tidy = tt }
 
-arrived-keeps : (x : Option Received) (c : Context) (f : Fetch) → Keeps f (arrived x c f)
+arrived-keeps : (x : Option Received) (c : Context) (f : Fetch) → Keeps f (after_receipt x c f)
 arrived-keeps None c f = erring-keeps 503 (reason_of FetchFailed) c f
 arrived-keeps (Some x) c f = responding-keeps x c f
 
-exchanged-keeps : (c : Context) (x : Exchange) (f : Fetch) → Keeps f (exchanged c x f)
+exchanged-keeps : (c : Context) (x : Exchange) (f : Fetch) → Keeps f (after_exchange c x f)
 exchanged-keeps c (exchange.Reply head body) f =
     arrived-keeps (received c.fetch_request.head (purpose_of f.order.looked) (content_of f.order.stale) head body) c f
 exchanged-keeps c (exchange.Fault cause) f = erring-keeps 503 (reason_of FetchFailed) c f
@@ -159,7 +159,7 @@ told-keeps : (f : Fetch) (object : Object) (m : ℕ) (uncacheable : Bool) → Ke
 told-keeps f object m uncacheable =
     record { order = refl; retries = λ h. h; tidy = response-comes f (view_of f.order.number object) m uncacheable f.order.background refl refl }
 
-inserted-keeps : (i : Insertion) (c : Context) (m : ℕ) (x : Reply) (f : Fetch) → Keeps f (inserted i c m x f)
+inserted-keeps : (i : Insertion) (c : Context) (m : ℕ) (x : Reply) (f : Fetch) → Keeps f (after_insertion i c m x f)
 inserted-keeps i c m (reply.Stored number) f = told-keeps f i.delivered m i.is_marker
 inserted-keeps i c m reply.NotInTime f = told-keeps f i.delivered m i.is_marker
 inserted-keeps i c m reply.NoRoom f = told-keeps f i.delivered m i.is_marker
@@ -170,7 +170,7 @@ inserted-keeps i c m x f = over-keeps f
 takes-keeps : (s : WaitPoint) (g : Given) (f : Fetch) → Keeps f (takes s g f)
 takes-keeps (point.Pick c) (given.Reply told) f = picked-keeps c told.moment told.reply f
 takes-keeps (point.Ask c) (given.Exchange got) f =
-    at-moment f (record f { moment = got.moment }) (exchanged c got.exchange (record f { moment = got.moment })) refl refl
+    at-moment f (record f { moment = got.moment }) (after_exchange c got.exchange (record f { moment = got.moment })) refl refl
     (exchanged-keeps c got.exchange (record f { moment = got.moment }))
 takes-keeps (point.Insert i c) (given.Reply told) f = inserted-keeps i c told.moment told.reply f
 takes-keeps s g f = over-keeps f
@@ -186,7 +186,7 @@ settles-keeps e (rests s f) h = record { order = refl; retries = λ x. x; tidy =
 settles-keeps e {place = place} (ends {state = s} {fetch = f} word left t p) h =
     after f (leads s word left f) place (leads-keeps s word left f) (settles-keeps e p (leads-keeps s word left f).tidy)
 settles-keeps e {place = place} (asked {fetch = f} command t p) h =
-    after f (abandoned f) place (abandoned-keeps f) (settles-keeps e p (abandoned-keeps f).tidy)
+    after f (without_response f) place (abandoned-keeps f) (settles-keeps e p (abandoned-keeps f).tidy)
 
 goes-keeps : (place : Next) (g : Given) → Keeps (fetch_of place) (goes_on place g)
 goes-keeps (Enter s c f) g = record { order = refl; retries = λ x. x; tidy = tt }

@@ -17,7 +17,7 @@ use Rattle.fetch_graph.specs.declared.fetch.WaitPoint.TheVariants as point
 use Rattle.fetch_graph.specs.declared.fetch.Next.{Next}
 use Rattle.fetch_graph.specs.declared.fetch.Next.TheVariants.{Enter, Rest}
 use Rattle.fetch_graph.specs.declared.fetch.FetchWant.{FetchWant}
-use Rattle.fetch_graph.specs.Graph.{subroutine_of, leads, abandoned}
+use Rattle.fetch_graph.specs.Graph.{subroutine_of, leads, without_response}
 use Rattle.fetch_graph.specs.Answers.{takes}
 use Rattle.fetch_graph.specs.Wants.{asks}
 
@@ -31,7 +31,7 @@ pub data Settles (e : Evaluator) : Next → Next → Type 0 where
       → Settles e (Enter state context fetch) place
   asked : {state : State} {context : Context} {fetch : Fetch} {place : Next} (command : Command)
       → e.turns (begun (subroutine_of state) context) (turn.Need command)
-      → Settles e (abandoned fetch) place
+      → Settles e (without_response fetch) place
       → Settles e (Enter state context fetch) place
 
 -- how a fetch goes on where it is given this; what it is given first begins it

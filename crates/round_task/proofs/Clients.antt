@@ -33,7 +33,7 @@ use Rattle.client_graph.specs.declared.round.Next.{Next}
 use Rattle.client_graph.specs.declared.round.Next.TheVariants.{Enter, Rest}
 use Rattle.client_graph.specs.declared.round.ClientWant.{ClientWant}
 use Rattle.client_graph.specs.declared.round.ClientWant.TheVariants as want
-use Rattle.client_graph.specs.Graph.{enter, leads, common, giving_up, restarted, restarted_if, late_restart, last_restart, may_restart}
+use Rattle.client_graph.specs.Graph.{enter, leads, common, giving_up, round_again, round_again_if, late_restart, last_restart, may_restart}
 use Rattle.client_graph.specs.Answers.{takes, after_lookup, after_purge, after_drop, after_draw, after_send}
 use Rattle.client_graph.specs.Opening.{opening}
 use Rattle.client_graph.specs.Wants.{hint_at, asks_with}
@@ -109,7 +109,7 @@ ok-any : (s : State) → OkState ⊤ s
 ok-any (state.Miss held) = tt
 ok-any s = tt
 
-restarted-ok : (F O : Type 0) (b : Bool) (c : Context) (r : Round) → OkNext F O (restarted_if b c r)
+restarted-ok : (F O : Type 0) (b : Bool) (c : Context) (r : Round) → OkNext F O (round_again_if b c r)
 restarted-ok F O true c r = tt
 restarted-ok F O false c r = tt
 
@@ -123,11 +123,11 @@ giving-ok F O (Some held) (Enter s c r) h = tt
 giving-ok F O (Some held) (Rest s r) h = h
 
 late-ok : (F O : Type 0) (b : Bool) (c : Context) (r : Round) → OkNext F O (late_restart b c r)
-late-ok F O true c r = giving-ok F O r.background (restarted c (record r { background = None })) tt
+late-ok F O true c r = giving-ok F O r.background (round_again c (record r { background = None })) tt
 late-ok F O false c r = tt
 
 last-ok : (F O : Type 0) (b : Bool) (c : Context) (r : Round) → OkNext F O (last_restart b c r)
-last-ok F O true c r = giving-ok F O r.background (restarted c (record r { background = None })) tt
+last-ok F O true c r = giving-ok F O r.background (round_again c (record r { background = None })) tt
 last-ok F O false c r = tt
 
 leads-ok : (F O : Type 0) (s : State) (w : Return) (c : Context) (r : Round) → OkState F s → OkNext F O (leads s w c r)

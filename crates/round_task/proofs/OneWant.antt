@@ -19,7 +19,7 @@ use Rattle.round_task.specs.declared.want.Want.{Want}
 use Rattle.round_task.specs.declared.want.Passed.TheVariants.{Wanted, Ordered}
 use Rattle.round_task.specs.declared.want.Made.{Made}
 use Rattle.round_task.specs.declared.want.Made.TheVariants as made
-use Rattle.round_task.specs.Rounds.{for_client, word_of, passed, made_of, Node, Flow, BackToClient, ToFetch, Settles, passes, orders, asks, returns, passes_back, breaks, ends, flow_of, Reaches, Wants}
+use Rattle.round_task.specs.Rounds.{for_client, word_of, want_of_client, made_of, Node, Flow, BackToClient, ToFetch, Settles, passes, orders, asks, returns, passes_back, breaks, ends, flow_of, Reaches, Wants}
 
 pub wanted-same : {x y : Want} → Wanted x ≡ Wanted y → x ≡ y
 wanted-same h = cc
@@ -58,16 +58,16 @@ pub settles-one : (e : Evaluator) → OneTurn e → {d d2 : Option ℕ} {flow : 
     → Settles e d flow n w → Settles e d2 flow m v → (m ≡ n) × (d2 ≡ d → v ≡ w)
 settles-one e o (passes {start = s} {givens = gs} a p h) (passes b q k) =
     let same : b ≡ a = client-one (for_client e) o s gs a b p q in
-    (refl, λ drawn. wanted-same (sym k ∙ ap (λ (x : ClientWant). passed x) same ∙ h))
+    (refl, λ drawn. wanted-same (sym k ∙ ap (λ (x : ClientWant). want_of_client x) same ∙ h))
 settles-one e o (passes {start = s} {givens = gs} a p h) (orders b order q k later) =
     let same : b ≡ a = client-one (for_client e) o s gs a b p q in
-    absurd (wanted-ordered (sym h ∙ ap (λ (x : ClientWant). passed x) (sym same) ∙ k))
+    absurd (wanted-ordered (sym h ∙ ap (λ (x : ClientWant). want_of_client x) (sym same) ∙ k))
 settles-one e o (orders {start = s} {givens = gs} a order p h later) (passes b q k) =
     let same : b ≡ a = client-one (for_client e) o s gs a b p q in
-    absurd (wanted-ordered (sym k ∙ ap (λ (x : ClientWant). passed x) same ∙ h))
+    absurd (wanted-ordered (sym k ∙ ap (λ (x : ClientWant). want_of_client x) same ∙ h))
 settles-one e o {d2 = d2} {m = m} {v = v} (orders {start = s} {givens = gs} a order p h later) (orders b other q k further) =
     let same : b ≡ a = client-one (for_client e) o s gs a b p q in
-    let one : other ≡ order = ordered-same (sym k ∙ ap (λ (x : ClientWant). passed x) same ∙ h) in
+    let one : other ≡ order = ordered-same (sym k ∙ ap (λ (x : ClientWant). want_of_client x) same ∙ h) in
     settles-one e o later (subst (λ (x : Order). Settles e d2 (ToFetch s gs x (given.Start ∷ [])) m v) one further)
 settles-one e o {d = d} (asks {order = order} {told = told} a p h) (asks b q k) = (
   refl,
@@ -84,13 +84,13 @@ settles-one e o {d = d} {d2 = d2} {m = m} {v = v} (returns {start = s} {givens =
     settles-one e o later (subst (λ (x : FetchOutcome). Settles e d2 (BackToClient s (given.Fetched x ∷ gs)) m v) one further)
 settles-one e o (passes_back {start = s} {givens = gs} a p h) (passes_back b q k) =
     let same : b ≡ a = client-one (for_client e) o s gs a b p q in
-    (refl, λ drawn. wanted-same (sym k ∙ ap (λ (x : ClientWant). passed x) same ∙ h))
+    (refl, λ drawn. wanted-same (sym k ∙ ap (λ (x : ClientWant). want_of_client x) same ∙ h))
 settles-one e o (passes_back {start = s} {givens = gs} a p h) (breaks b order q k) =
     let same : b ≡ a = client-one (for_client e) o s gs a b p q in
-    absurd (wanted-ordered (sym h ∙ ap (λ (x : ClientWant). passed x) (sym same) ∙ k))
+    absurd (wanted-ordered (sym h ∙ ap (λ (x : ClientWant). want_of_client x) (sym same) ∙ k))
 settles-one e o (breaks {start = s} {givens = gs} a order p h) (passes_back b q k) =
     let same : b ≡ a = client-one (for_client e) o s gs a b p q in
-    absurd (wanted-ordered (sym k ∙ ap (λ (x : ClientWant). passed x) same ∙ h))
+    absurd (wanted-ordered (sym k ∙ ap (λ (x : ClientWant). want_of_client x) same ∙ h))
 settles-one e o (breaks asked order p h) (breaks again other q k) = (refl, λ drawn. refl)
 settles-one e o ends ends = (refl, λ drawn. refl)
 

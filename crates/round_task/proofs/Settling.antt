@@ -31,7 +31,7 @@ use Rattle.round_task.specs.declared.want.Made.TheVariants as made
 use Rattle.round_task.specs.declared.place.Place.{Place}
 use Rattle.round_task.specs.declared.place.Place.TheVariants as place
 use Rattle.round_task.specs.declared.leading.Settled.{Settled}
-use Rattle.round_task.specs.Rounds.{for_client, word_of, passed, made_of, Node, Opening, AtClient, AtFetch, Over, Flow, ToClient, BackToClient, ToFetch, Ends, passes, orders, asks, returns, passes_back, breaks, ends, begun, flow_of, Wants}
+use Rattle.round_task.specs.Rounds.{for_client, word_of, want_of_client, made_of, Node, Opening, AtClient, AtFetch, Over, Flow, ToClient, BackToClient, ToFetch, Ends, passes, orders, asks, returns, passes_back, breaks, ends, after_begin, flow_of, Wants}
 use Rattle.round_task.specs.Standing.{IsAt, StandsAt, SettlesAt, MayGoOn}
 
 -- what follows from each Ok
@@ -42,24 +42,24 @@ if_ok P Q (Err e) f h = tt
 -- ---- the client wants something
 
 pub passed-on : {M : Type 0} (e : Evaluator) (stands : M → Ran → Type 0) (fits : M → Answer → Type 0) (drawn : Option ℕ) (start : Next) (givens : List Given) (client : Client M) (asked : ClientWant) (want : Want)
-    → ClientStands (for_client e) stands fits start givens client.place → ClientWants (for_client e) start givens asked → passed asked ≡ Wanted want
+    → ClientStands (for_client e) stands fits start givens client.place → ClientWants (for_client e) start givens asked → want_of_client asked ≡ Wanted want
     → SettlesAt e stands fits drawn (ToClient start givens) (record { place = place.Client client; want = want })
 passed-on e stands fits drawn start givens client asked want s w h = (AtClient start givens, s, passes asked w h)
 
 pub passed-back : {M : Type 0} (e : Evaluator) (stands : M → Ran → Type 0) (fits : M → Answer → Type 0) (drawn : Option ℕ) (start : Next) (givens : List Given) (client : Client M) (asked : ClientWant) (want : Want)
-    → ClientStands (for_client e) stands fits start givens client.place → ClientWants (for_client e) start givens asked → passed asked ≡ Wanted want
+    → ClientStands (for_client e) stands fits start givens client.place → ClientWants (for_client e) start givens asked → want_of_client asked ≡ Wanted want
     → SettlesAt e stands fits drawn (BackToClient start givens) (record { place = place.Client client; want = want })
 passed-back e stands fits drawn start givens client asked want s w h = (AtClient start givens, s, passes_back asked w h)
 
 pub broke : {M : Type 0} (e : Evaluator) (stands : M → Ran → Type 0) (fits : M → Answer → Type 0) (drawn : Option ℕ) (start : Next) (givens : List Given) (asked : ClientWant) (order : Order) (settled : Settled M)
-    → ClientWants (for_client e) start givens asked → passed asked ≡ Ordered order → settled ≡ record { place = place.Over; want = Done }
+    → ClientWants (for_client e) start givens asked → want_of_client asked ≡ Ordered order → settled ≡ record { place = place.Over; want = Done }
     → SettlesAt e stands fits drawn (BackToClient start givens) settled
 broke {M} e stands fits drawn start givens asked order settled w h same =
     subst (λ (x : Settled M). SettlesAt e stands fits drawn (BackToClient start givens) x) (sym same) (Over, tt, breaks asked order w h)
 
 -- it asks for a fetch, and what settles that settles this
 pub ordered : {M : Type 0} (e : Evaluator) (stands : M → Ran → Type 0) (fits : M → Answer → Type 0) (drawn : Option ℕ) (start : Next) (givens : List Given) (asked : ClientWant) (order : Order) (settled : Settled M)
-    → ClientWants (for_client e) start givens asked → passed asked ≡ Ordered order
+    → ClientWants (for_client e) start givens asked → want_of_client asked ≡ Ordered order
     → SettlesAt e stands fits drawn (ToFetch start givens order (given.Start ∷ [])) settled → SettlesAt e stands fits drawn (ToClient start givens) settled
 ordered e stands fits drawn start givens asked order settled w h s = (s.0, s.1, orders asked order w h s.2)
 
@@ -104,7 +104,7 @@ settled-over {M} e stands fits drawn flow settled same over =
     settled-flow e stands fits drawn flow Ends settled same
     (subst (λ (x : Settled M). SettlesAt e stands fits drawn Ends x) (sym over) (Over, tt, ends))
 
-pub begun-other : (request : Request) (peer : List ℕ) (r : Reply) → ((number vcl : ℕ) (text : List ℕ) → r ≢ reply.Began number vcl text) → begun request peer r ≡ Ends
+pub begun-other : (request : Request) (peer : List ℕ) (r : Reply) → ((number vcl : ℕ) (text : List ℕ) → r ≢ reply.Began number vcl text) → after_begin request peer r ≡ Ends
 begun-other request peer (reply.Began number vcl text) unlike = absurd (unlike number vcl text refl)
 begun-other request peer r unlike = refl
 

@@ -25,7 +25,7 @@ use Rattle.round_task.specs.declared.want.Want.TheVariants.{Cache}
 use Rattle.round_task.specs.declared.want.Passed.TheVariants.{Wanted, Ordered}
 use Rattle.round_task.specs.declared.want.Made.TheVariants as made
 use Rattle.round_task.specs.Laws.{vcl_told, vcl_in}
-use Rattle.round_task.specs.Rounds.{for_client, word_of, passed, made_of, Node, Opening, AtClient, AtFetch, Over, Flow, ToClient, BackToClient, ToFetch, Ends, Settles, passes, orders, asks, returns, passes_back, breaks, ends, begun, flow_of, Reaches, Wants}
+use Rattle.round_task.specs.Rounds.{for_client, word_of, want_of_client, made_of, Node, Opening, AtClient, AtFetch, Over, Flow, ToClient, BackToClient, ToFetch, Ends, Settles, passes, orders, asks, returns, passes_back, breaks, ends, after_begin, flow_of, Reaches, Wants}
 use Rattle.round_task.proofs.Clients.{IsOwn, wants-own}
 use Rattle.round_task.proofs.OneWant.{wanted-same, ordered-same, wanted-ordered, made-same}
 use Rattle.round_task.proofs.Wholes.{WantsAt, wants-at, cache-same, made-over}
@@ -43,7 +43,7 @@ UnderFlow v (BackToClient start givens) = v ≡ Some (vcl_of start)
 UnderFlow v (ToFetch start givens order told) = (v ≡ Some (vcl_of start)) × (v ≡ Some order.vcl)
 UnderFlow v Ends = ⊤
 
-ordered-under : (v : Option ℕ) (start : Next) (asked : ClientWant) (order : Order) → v ≡ Some (vcl_of start) → IsUnder (vcl_of start) asked → passed asked ≡ Ordered order → v ≡ Some order.vcl
+ordered-under : (v : Option ℕ) (start : Next) (asked : ClientWant) (order : Order) → v ≡ Some (vcl_of start) → IsUnder (vcl_of start) asked → want_of_client asked ≡ Ordered order → v ≡ Some order.vcl
 ordered-under v start (client.Cache c) order u h k = absurd (wanted-ordered k)
 ordered-under v start (client.Fetch other) order u h k = u ∙ ap (λ (n : ℕ). Some n) (sym h ∙ ap (λ (o : Order). o.vcl) (ordered-same k))
 ordered-under v start (client.Send delivery) order u h k = absurd (wanted-ordered k)
@@ -60,7 +60,7 @@ settles-under e v (passes_back asked q k) u = u
 settles-under e v (breaks asked order q k) u = tt
 settles-under e v ends u = tt
 
-begun-under : (request : Request) (peer : List ℕ) (x : Reply) → UnderFlow (vcl_told x) (begun request peer x)
+begun-under : (request : Request) (peer : List ℕ) (x : Reply) → UnderFlow (vcl_told x) (after_begin request peer x)
 begun-under request peer (reply.Began number vcl text) = refl
 begun-under request peer x = tt
 
@@ -86,7 +86,7 @@ abbrev IsPick : Want → Type 0
 IsPick (Cache (call.Pick vcl target word)) = ⊤
 IsPick w = ⊥
 
-own-not-pick : (asked : ClientWant) (w : Want) → IsOwn asked → passed asked ≡ Wanted w → IsPick w → ⊥
+own-not-pick : (asked : ClientWant) (w : Want) → IsOwn asked → want_of_client asked ≡ Wanted w → IsPick w → ⊥
 own-not-pick (client.Cache (call.Pick vcl target word)) w own h is = own
 own-not-pick (client.Cache c) w own h is = subst (λ (x : Want). IsPick x) (sym (wanted-same h)) is
 own-not-pick (client.Fetch order) w own h is = wanted-ordered (sym h)

@@ -35,7 +35,7 @@ use Rattle.round_task.specs.declared.want.Passed.TheVariants.{Wanted, Ordered}
 use Rattle.round_task.specs.declared.want.Made.TheVariants as made
 use Rattle.round_task.specs.Happened.{IsReply, AnswersIt}
 use Rattle.round_task.specs.Laws.{IsLast, IsSend}
-use Rattle.round_task.specs.Rounds.{for_client, word_of, passed, made_of, Node, Opening, AtClient, AtFetch, Over, Flow, ToClient, BackToClient, ToFetch, Ends, Settles, passes, orders, asks, returns, passes_back, breaks, ends, begun, flow_of, Reaches, Wants}
+use Rattle.round_task.specs.Rounds.{for_client, word_of, want_of_client, made_of, Node, Opening, AtClient, AtFetch, Over, Flow, ToClient, BackToClient, ToFetch, Ends, Settles, passes, orders, asks, returns, passes_back, breaks, ends, after_begin, flow_of, Reaches, Wants}
 use Rattle.round_task.proofs.Clients.{IsOwn, IsOwnCall, OkWant, IsLate, IsSent, FromStart, WasSent, wants-own, first-ok, no-fetch-behind, background-behind, late-wants, looks-again}
 use Rattle.round_task.proofs.OneWant.{wanted-same, ordered-same, wanted-ordered, made-same, reaches-one}
 
@@ -50,14 +50,14 @@ made-over h = cc
 
 -- ---- what a want is to the round
 
-passed-last : (asked : ClientWant) (w : Want) → passed asked ≡ Wanted w → IsLast w → IsClientLast asked
+passed-last : (asked : ClientWant) (w : Want) → want_of_client asked ≡ Wanted w → IsLast w → IsClientLast asked
 passed-last (client.Cache c) w h l = subst (λ (x : Want). IsLast x) (sym (wanted-same h)) l
 passed-last (client.Fetch order) w h l = absurd (wanted-ordered (sym h))
 passed-last (client.Send delivery) w h l = subst (λ (x : Want). IsLast x) (sym (wanted-same h)) l
 passed-last (client.Background order) w h l = absurd (wanted-ordered (sym h))
 passed-last client.Done w h l = tt
 
-last-passed : (asked : ClientWant) (w : Want) → passed asked ≡ Wanted w → IsClientLast asked → IsLast w
+last-passed : (asked : ClientWant) (w : Want) → want_of_client asked ≡ Wanted w → IsClientLast asked → IsLast w
 last-passed (client.Cache c) w h l = subst (λ (x : Want). IsLast x) (wanted-same h) l
 last-passed (client.Fetch order) w h l = absurd l
 last-passed (client.Send delivery) w h l = absurd l
@@ -68,14 +68,14 @@ abbrev IsDone : Want → Type 0
 IsDone Done = ⊤
 IsDone w = ⊥
 
-passed-done : (asked : ClientWant) (w : Want) → passed asked ≡ Wanted w → w ≡ Done → asked ≡ client.Done
+passed-done : (asked : ClientWant) (w : Want) → want_of_client asked ≡ Wanted w → w ≡ Done → asked ≡ client.Done
 passed-done (client.Cache c) w h d = absurd (subst (λ (x : Want). IsDone x) (sym (wanted-same h ∙ d)) tt)
 passed-done (client.Fetch order) w h d = absurd (wanted-ordered (sym h))
 passed-done (client.Send delivery) w h d = absurd (subst (λ (x : Want). IsDone x) (sym (wanted-same h ∙ d)) tt)
 passed-done (client.Background order) w h d = absurd (wanted-ordered (sym h))
 passed-done client.Done w h d = refl
 
-ordered-not-last : (asked : ClientWant) (order : Order) → passed asked ≡ Ordered order → IsClientLast asked → ⊥
+ordered-not-last : (asked : ClientWant) (order : Order) → want_of_client asked ≡ Ordered order → IsClientLast asked → ⊥
 ordered-not-last (client.Cache c) order h l = wanted-ordered h
 ordered-not-last (client.Fetch other) order h l = l
 ordered-not-last (client.Send delivery) order h l = l
@@ -83,7 +83,7 @@ ordered-not-last (client.Background other) order h l = l
 ordered-not-last client.Done order h l = wanted-ordered h
 
 -- a client that comes from a fetch asks for none
-not-ordered : (F O : Type 0) (asked : ClientWant) (order : Order) → (F → ⊥) → OkWant F O asked → passed asked ≡ Ordered order → ⊥
+not-ordered : (F O : Type 0) (asked : ClientWant) (order : Order) → (F → ⊥) → OkWant F O asked → want_of_client asked ≡ Ordered order → ⊥
 not-ordered F O (client.Cache c) order n ok h = wanted-ordered h
 not-ordered F O (client.Fetch other) order n ok h = n ok
 not-ordered F O (client.Send delivery) order n ok h = wanted-ordered h
@@ -91,7 +91,7 @@ not-ordered F O (client.Background other) order n ok h = ok
 not-ordered F O client.Done order n ok h = wanted-ordered h
 
 -- what comes of its fetch answers it
-outcome-answers : (asked : ClientWant) (order : Order) (outcome : FetchOutcome) → IsOwn asked → passed asked ≡ Ordered order → ComesOf order outcome
+outcome-answers : (asked : ClientWant) (order : Order) (outcome : FetchOutcome) → IsOwn asked → want_of_client asked ≡ Ordered order → ComesOf order outcome
     → ClientAnswers asked (given.Fetched outcome)
 outcome-answers (client.Cache c) order outcome own h of = absurd (wanted-ordered h)
 outcome-answers (client.Send delivery) order outcome own h of = absurd (wanted-ordered h)
@@ -113,7 +113,7 @@ own-reply (call.Insert token object stale) x own h = absurd own
 own-reply c x own h = h
 
 -- what answers the round's want answers its client's
-passed-answers : (asked : ClientWant) (w : Want) (g : Given) → IsOwn asked → passed asked ≡ Wanted w → AnswersIt w g → (IsClientLast asked → ⊥) → ClientAnswers asked g
+passed-answers : (asked : ClientWant) (w : Want) (g : Given) → IsOwn asked → want_of_client asked ≡ Wanted w → AnswersIt w g → (IsClientLast asked → ⊥) → ClientAnswers asked g
 passed-answers (client.Cache c) w (given.Reply told) own h a n =
     own-reply c told.reply own (subst (λ (x : Want). AnswersIt x (given.Reply told)) (sym (wanted-same h)) a)
 passed-answers (client.Cache c) w g own h a n = absurd (subst (λ (x : Want). AnswersIt x g) (sym (wanted-same h)) a)
@@ -161,7 +161,7 @@ pub record Led (request : Request) (peer : List ℕ) (start : Next) (givens : Li
   pub from : FromStart givens
 
 abbrev IsOrdered : Evaluator → Next → List Given → Order → Type 0
-IsOrdered e start givens order = (asked : ClientWant) × ClientWants (for_client e) start givens asked × (passed asked ≡ Ordered order)
+IsOrdered e start givens order = (asked : ClientWant) × ClientWants (for_client e) start givens asked × (want_of_client asked ≡ Ordered order)
 
 abbrev Tied : Evaluator → Request → List ℕ → Node → Type 0
 Tied e request peer (Opening asked address) = (asked ≡ request) × (address ≡ peer)
@@ -182,7 +182,7 @@ more-from g (h ∷ givens) f = f
 more-led : (request : Request) (peer : List ℕ) (start : Next) (g : Given) (givens : List Given) → Led request peer start givens → Led request peer start (g ∷ givens)
 more-led request peer start g givens l = record { number = l.number; vcl = l.vcl; opened = l.opened; from = more-from g givens l.from }
 
-begun-tied : (e : Evaluator) (request asked : Request) (peer address : List ℕ) (x : Reply) → asked ≡ request → address ≡ peer → TiedFlow e request peer (begun asked address x)
+begun-tied : (e : Evaluator) (request asked : Request) (peer address : List ℕ) (x : Reply) → asked ≡ request → address ≡ peer → TiedFlow e request peer (after_begin asked address x)
 begun-tied e request asked peer address (reply.Began number vcl text) r p =
     record {
       number = number;
@@ -217,7 +217,7 @@ reaches-tied e request peer (g ∷ givens) n p =
 -- what is wanted there
 abbrev pub WantsAt : Evaluator → Option ℕ → Node → Want → Type 0
 WantsAt e d (Opening request peer) w = ⊥
-WantsAt e d (AtClient start givens) w = (asked : ClientWant) × ClientWants (for_client e) start givens asked × (passed asked ≡ Wanted w)
+WantsAt e d (AtClient start givens) w = (asked : ClientWant) × ClientWants (for_client e) start givens asked × (want_of_client asked ≡ Wanted w)
 WantsAt e d (AtFetch start givens order told) w =
     (asked : FetchWant) × FetchWants e (word_of d order.number) (fetch_opening order) told asked × (made_of order.number asked ≡ made.Wanted w)
 WantsAt e d Over w = w ≡ Done
@@ -233,8 +233,8 @@ wants-at e ends = refl
 
 -- ---- behind the end nothing is wanted
 
-passed-over : (asked : ClientWant) (w : Want) → asked ≡ client.Done → passed asked ≡ Wanted w → w ≡ Done
-passed-over asked w same h = sym (wanted-same (ap (λ (x : ClientWant). passed x) (sym same) ∙ h))
+passed-over : (asked : ClientWant) (w : Want) → asked ≡ client.Done → want_of_client asked ≡ Wanted w → w ≡ Done
+passed-over asked w same h = sym (wanted-same (ap (λ (x : ClientWant). want_of_client x) (sym same) ∙ h))
 
 client-over : (e : Evaluator) → OneTurn e → {d : Option ℕ} {m : Node} {later : Want} (start : Next) (givens : List Given) (g : Given) (asked : ClientWant)
     → IsClientLast asked → ClientWants (for_client e) start givens asked → Settles e d (ToClient start (g ∷ givens)) m later → later ≡ Done
@@ -242,7 +242,7 @@ client-over e o start givens g asked l p (passes {want = w} other q k) =
     passed-over other w (nothing-behind (for_client e) o start givens g asked other l p q) k
 client-over e o start givens g asked l p (orders other order q k rest) =
     let over : other ≡ client.Done = nothing-behind (for_client e) o start givens g asked other l p q in
-    absurd (wanted-ordered (ap (λ (x : ClientWant). passed x) (sym over) ∙ k))
+    absurd (wanted-ordered (ap (λ (x : ClientWant). want_of_client x) (sym over) ∙ k))
 
 over-over : (e : Evaluator) {d : Option ℕ} {m : Node} {later : Want} → Settles e d Ends m later → later ≡ Done
 over-over e ends = refl
@@ -278,7 +278,7 @@ back-lives e o start g givens outcome asked p n a (breaks other order q k) over 
     not-ordered ⊥ ⊤ other order (λ x. x) (no-fetch-behind (for_client e) start givens g outcome other q) k
 
 fetch-lives : (e : Evaluator) → OneTurn e → {d : Option ℕ} {m : Node} {later : Want} (start : Next) (givens : List Given) (order : Order) (told : List Given) (asked : ClientWant)
-    → FromStart givens → ClientWants (for_client e) start givens asked → passed asked ≡ Ordered order
+    → FromStart givens → ClientWants (for_client e) start givens asked → want_of_client asked ≡ Ordered order
     → Settles e d (ToFetch start givens order told) m later → later ≡ Done → ⊥
 fetch-lives e o {d = d} start givens order told asked f p h (asks {want = w} other q k) over =
     done-fetch w (made-of-fetch order order.number other w (wants-for e order told (word_of d order.number) other q) k) over
@@ -308,7 +308,7 @@ first-lives e number vcl request peer (orders other order q k rest) over =
     not-ordered ⊥ ⊥ other order (λ x. x) (first-ok (for_client e) number vcl request peer given.Start other q) k
 
 begun-lives : (e : Evaluator) {d : Option ℕ} {m : Node} {later : Want} (request : Request) (peer : List ℕ) (x : Reply)
-    → IsReply call.Begin x → Settles e d (begun request peer x) m later → later ≡ Done → ⊥
+    → IsReply call.Begin x → Settles e d (after_begin request peer x) m later → later ≡ Done → ⊥
 begun-lives e request peer (reply.Began number vcl text) a p over = first-lives e number vcl request peer p over
 begun-lives e request peer x a p over = a
 
@@ -345,7 +345,7 @@ abbrev IsBegin : Want → Type 0
 IsBegin (Cache call.Begin) = ⊤
 IsBegin w = ⊥
 
-own-not-begin : (asked : ClientWant) (w : Want) → IsOwn asked → passed asked ≡ Wanted w → IsBegin w → ⊥
+own-not-begin : (asked : ClientWant) (w : Want) → IsOwn asked → want_of_client asked ≡ Wanted w → IsBegin w → ⊥
 own-not-begin (client.Cache call.Begin) w own h b = own
 own-not-begin (client.Cache c) w own h b = subst (λ (x : Want). IsBegin x) (sym (wanted-same h)) b
 own-not-begin (client.Fetch order) w own h b = wanted-ordered (sym h)
@@ -410,7 +410,7 @@ sent-reaches : (e : Evaluator) (request : Request) (peer : List ℕ) (givens mor
 sent-reaches e request peer givens [] n h p = h n p
 sent-reaches e request peer givens (g ∷ more) n h p = sent-settles e p.4 (sent-flow p.0 g (sent-reaches e request peer givens more p.0 h p.3))
 
-late-not-send : (asked : ClientWant) (w : Want) → IsLate asked → passed asked ≡ Wanted w → IsSend w → ⊥
+late-not-send : (asked : ClientWant) (w : Want) → IsLate asked → want_of_client asked ≡ Wanted w → IsSend w → ⊥
 late-not-send (client.Cache c) w l h s = subst (λ (x : Want). IsSend x) (sym (wanted-same h)) s
 late-not-send (client.Fetch order) w l h s = l
 late-not-send (client.Send delivery) w l h s = l
@@ -472,7 +472,7 @@ first-behind : (e : Evaluator) (number vcl : ℕ) (request : Request) (peer : Li
 first-behind e number vcl request peer g order q = first-ok (for_client e) number vcl request peer g (client.Background order) q
 
 ordered-behind : (e : Evaluator) (request : Request) (peer : List ℕ) (start : Next) (g : Given) (givens : List Given) (order : Order) (asked : ClientWant)
-    → Led request peer start (g ∷ givens) → ClientWants (for_client e) start (g ∷ givens) asked → passed asked ≡ Ordered order → order.background ≡ true → g ≡ given.Sent
+    → Led request peer start (g ∷ givens) → ClientWants (for_client e) start (g ∷ givens) asked → want_of_client asked ≡ Ordered order → order.background ≡ true → g ≡ given.Sent
 ordered-behind e request peer start g givens order (client.Cache c) l q k b = absurd (wanted-ordered k)
 ordered-behind e request peer start g givens order (client.Send delivery) l q k b = absurd (wanted-ordered k)
 ordered-behind e request peer start g givens order client.Done l q k b = absurd (wanted-ordered k)
@@ -505,7 +505,7 @@ fetch-not-lookup (Exchange number backend request) f l = l
 fetch-not-lookup (Send delivery) f l = l
 fetch-not-lookup Done f l = l
 
-passed-lookup : (asked : ClientWant) (query : Query) → passed asked ≡ Wanted (Cache (call.Lookup query)) → asked ≡ client.Cache (call.Lookup query)
+passed-lookup : (asked : ClientWant) (query : Query) → want_of_client asked ≡ Wanted (Cache (call.Lookup query)) → asked ≡ client.Cache (call.Lookup query)
 passed-lookup (client.Cache c) query h = ap (λ (x : Call). client.Cache x) (cache-same (wanted-same h))
 passed-lookup (client.Fetch order) query h = absurd (wanted-ordered (sym h))
 passed-lookup (client.Send delivery) query h = absurd (subst (λ (x : Want). IsLookup x) (sym (wanted-same h)) tt)
@@ -517,10 +517,10 @@ client-again : (e : Evaluator) → OneTurn e → {d : Option ℕ} {m : Node} {la
     → Settles e d (ToClient start (given.Reply told ∷ givens)) m later → later ≡ Cache (call.Lookup query)
 client-again e o start givens told token query wait p (passes other q k) =
     let again : other ≡ client.Cache (call.Lookup query) = looks-again (for_client e) o start givens told token query other wait p q in
-    sym (wanted-same (ap (λ (x : ClientWant). passed x) (sym again) ∙ k))
+    sym (wanted-same (ap (λ (x : ClientWant). want_of_client x) (sym again) ∙ k))
 client-again e o start givens told token query wait p (orders other order q k rest) =
     let again : other ≡ client.Cache (call.Lookup query) = looks-again (for_client e) o start givens told token query other wait p q in
-    absurd (wanted-ordered (ap (λ (x : ClientWant). passed x) (sym again) ∙ k))
+    absurd (wanted-ordered (ap (λ (x : ClientWant). want_of_client x) (sym again) ∙ k))
 
 node-again : (e : Evaluator) → OneTurn e → (d : Option ℕ) {d2 : Option ℕ} (n m : Node) (told : Told) (token : ℕ) (query : Query) (later : Want)
     → told.reply ≡ reply.Wait token → WantsAt e d n (Cache (call.Lookup query)) → Settles e d2 (flow_of n (given.Reply told)) m later → later ≡ Cache (call.Lookup query)

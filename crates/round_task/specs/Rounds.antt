@@ -36,12 +36,12 @@ word_of None number = number
 word_of (Some word) number = word
 
 -- what a client wants is wanted of its round, but for a fetch
-abbrev pub passed : ClientWant → Passed
-passed (client.Cache call) = Wanted (Cache call)
-passed (client.Fetch order) = Ordered order
-passed (client.Send delivery) = Wanted (Send delivery)
-passed (client.Background order) = Ordered order
-passed client.Done = Wanted Done
+abbrev pub want_of_client : ClientWant → Passed
+want_of_client (client.Cache call) = Wanted (Cache call)
+want_of_client (client.Fetch order) = Ordered order
+want_of_client (client.Send delivery) = Wanted (Send delivery)
+want_of_client (client.Background order) = Ordered order
+want_of_client client.Done = Wanted Done
 
 -- and so is what the fetch of this number wants, until it is over
 abbrev pub made_of : ℕ → FetchWant → Made
@@ -69,10 +69,10 @@ pub data Flow : Type 0 where
 -- it. Behind a fetch it asks for no other at once; where it did, the round would end.
 pub data Settles (e : Evaluator) (drawn : Option ℕ) : Flow → Node → Want → Type 0 where
   passes : {start : Next} {givens : List Given} {want : Want} (asked : ClientWant)
-      → ClientWants (for_client e) start givens asked → passed asked ≡ Wanted want
+      → ClientWants (for_client e) start givens asked → want_of_client asked ≡ Wanted want
       → Settles e drawn (ToClient start givens) (AtClient start givens) want
   orders : {start : Next} {givens : List Given} {node : Node} {want : Want} (asked : ClientWant) (order : Order)
-      → ClientWants (for_client e) start givens asked → passed asked ≡ Ordered order
+      → ClientWants (for_client e) start givens asked → want_of_client asked ≡ Ordered order
       → Settles e drawn (ToFetch start givens order (given.Start ∷ [])) node want
       → Settles e drawn (ToClient start givens) node want
   asks : {start : Next} {givens : List Given} {order : Order} {told : List Given} {want : Want} (asked : FetchWant)
@@ -83,21 +83,21 @@ pub data Settles (e : Evaluator) (drawn : Option ℕ) : Flow → Node → Want �
       → Settles e drawn (BackToClient start (given.Fetched outcome ∷ givens)) node want
       → Settles e drawn (ToFetch start givens order told) node want
   passes_back : {start : Next} {givens : List Given} {want : Want} (asked : ClientWant)
-      → ClientWants (for_client e) start givens asked → passed asked ≡ Wanted want
+      → ClientWants (for_client e) start givens asked → want_of_client asked ≡ Wanted want
       → Settles e drawn (BackToClient start givens) (AtClient start givens) want
   breaks : {start : Next} {givens : List Given} (asked : ClientWant) (order : Order)
-      → ClientWants (for_client e) start givens asked → passed asked ≡ Ordered order
+      → ClientWants (for_client e) start givens asked → want_of_client asked ≡ Ordered order
       → Settles e drawn (BackToClient start givens) Over Done
   ends : Settles e drawn Ends Over Done
 
 -- the client begins by what the round's Begin was told: its number, and that of its VCL
-abbrev pub begun : Request → List ℕ → Reply → Flow
-begun request peer (reply.Began number vcl text) = ToClient (opening number vcl request peer) (given.Start ∷ [])
-begun request peer other = Ends
+abbrev pub after_begin : Request → List ℕ → Reply → Flow
+after_begin request peer (reply.Began number vcl text) = ToClient (opening number vcl request peer) (given.Start ∷ [])
+after_begin request peer other = Ends
 
 -- how a round goes on where it is given this
 abbrev pub flow_of : Node → Given → Flow
-flow_of (Opening request peer) (given.Reply told) = begun request peer told.reply
+flow_of (Opening request peer) (given.Reply told) = after_begin request peer told.reply
 flow_of (AtClient start givens) given = ToClient start (given ∷ givens)
 flow_of (AtFetch start givens order told) given = ToFetch start givens order (given ∷ told)
 flow_of node given = Ends

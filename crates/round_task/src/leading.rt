@@ -7,7 +7,7 @@ ghost use Rattle.client_task.specs.Standing.{StandsAt as ClientStands, MayGoOn a
 ghost use Rattle.fetch_graph.specs.Opening.{opening};
 ghost use Rattle.vcl_runs.specs.Evaluators.{evaluator};
 ghost use Rattle.fetch_task.specs.Standing.{StandsAt as FetchStands};
-ghost use Rattle.round_task.specs.Rounds.{BackToClient, Opening, ToClient, ToFetch, begun, flow_of, for_client, word_of as word_for};
+ghost use Rattle.round_task.specs.Rounds.{BackToClient, Opening, ToClient, ToFetch, after_begin, flow_of, for_client, word_of as word_for};
 ghost use Rattle.round_task.specs.Standing.{MayGoOn, SettlesAt};
 
 use crate::want::{Made, Passed, make, pass};
@@ -175,7 +175,7 @@ fn begin<M: Runner>(
     peer: [u8; 4],
     reply: Reply,
 ) -> Result<Settled<M>, AllocError>
-    ensures settles { IfOk result (SettlesAt (evaluator M.turns M.targets M.default_of program.now) (λ run ran. M.stands run program.now ran) M.fits drawn (begun request peer reply)) }
+    ensures settles { IfOk result (SettlesAt (evaluator M.turns M.targets M.default_of program.now) (λ run ran. M.stands run program.now ran) M.fits drawn (after_begin request peer reply)) }
     ensures goes_on { IfOk result (λ settled. MayGoOn (λ run ran. M.stands run program.now ran) M.fits settled.place) }
 {
     match reply {

@@ -1,6 +1,6 @@
 // What a round wants, and what the wants of its client and of its fetch are to it.
 ghost use Rattle.std.specs.Prelude.{◌≡◌};
-ghost use Rattle.round_task.specs.Rounds.{passed, made_of};
+ghost use Rattle.round_task.specs.Rounds.{want_of_client, made_of};
 
 use cache_law::Call;
 use cache_law::rounds::{FetchOutcome, Order};
@@ -45,7 +45,7 @@ pub(crate) enum Made {
 
 /// What a client's want is to its round.
 pub(crate) fn pass(want: client_graph::ClientWant) -> Passed
-    ensures { result ≡ passed want }
+    ensures { result ≡ want_of_client want }
 {
     match want {
         client_graph::ClientWant::Cache(call) => Passed::Wanted(Want::Cache(call)),

@@ -2,7 +2,7 @@ use Rattle.std.proofs.Common.{[], ap}
 use Rattle.cache_law.specs.declared.call.Reply.{Reply}
 use Rattle.client_graph.specs.Opening.{opening}
 use Rattle.vcl_runs.specs.Evaluators.{evaluator}
-use Rattle.round_task.specs.Rounds.{begun}
+use Rattle.round_task.specs.Rounds.{after_begin}
 use Rattle.round_task.proofs.Settling.{begun-other, if_ok, over-may, settled-flow, settled-over}
 use Rattle.round_task.proofs.leading.begin.Goals as goal
 
@@ -16,7 +16,7 @@ returns-in_ok-client-in-Began g c =
     record {
       settles = if_ok _ _ c.to_client.result
           (λ settled h. settled-flow e (λ run ran. runner.stands run c.args.program.now ran) runner.fits c.args.drawn _ _ settled
-          (ap (λ (r : Reply). begun c.args.request c.args.peer r) c.in-Began.is)
+          (ap (λ (r : Reply). after_begin c.args.request c.args.peer r) c.in-Began.is)
           (h (opening c.in-Began.number c.in-Began.vcl c.args.request c.args.peer) [] (c.in_ok-client-in-Began.ensures.stands c.args.program.now))) c.to_client.ensures.settles;
       goes_on = c.to_client.ensures.goes_on;
     }
