@@ -33,8 +33,8 @@ answered_grows room state caller (Lookup query) =
     looked_leaf (StepGrows state) state caller query (still state _ refl refl) (record {
       misses = λ objects stale. draws state _ refl refl;
       hits = λ objects view. still state _ refl refl;
-      hits_miss = λ objects. draws state _ refl refl;
-      passes = λ objects. still state _ refl refl;
+      hits_miss = λ objects view. draws state _ refl refl;
+      passes = λ objects view. still state _ refl refl;
       graces = λ objects view. draws state _ refl refl;
       graces_alone = λ objects view. still state _ refl refl;
       waits = λ objects token. still state _ refl refl;
@@ -70,4 +70,5 @@ behind_either P reply refusal law r l = l
 
 pub after_grows : (beginning : Beginning) (state : State) (caller moment : ℕ) (call : Call) (answer : Reply) → Grows (at_moment moment state) (after beginning state caller moment call answer)
 after_grows beginning state caller moment call answer =
-    behind_either (Grows (at_moment moment state)) answer _ _ (refused_grows (at_moment moment state) call) (answered_grows beginning.params.room (at_moment moment state) caller call)
+    let grows = behind_either (Grows (at_moment moment state)) answer _ _ (refused_grows (at_moment moment state) call) (answered_grows beginning.params.room (at_moment moment state) caller call) in
+    record { moment = grows.moment; rises = grows.rises; next = grows.next }

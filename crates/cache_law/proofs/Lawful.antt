@@ -1,5 +1,5 @@
 -- The law's own replies, which never say that memory was wanting, and what may be answered beside them.
-use Rattle.std.proofs.Common.{◌≡◌, ◌≢◌, ℕ, Bool, true, false, cond, inl, inr, refl, ap, ◌∙◌}
+use Rattle.std.proofs.Common.{◌≡◌, ◌≢◌, ℕ, Bool, true, false, cond, ◌+◌, inl, inr, refl, ap, ◌∙◌}
 use Rattle.std.proofs.lemmas.Bool.{true≢false}
 use Rattle.cache_law.specs.declared.call.Call.{Call}
 use Rattle.cache_law.specs.declared.call.Call.TheVariants.{Begin, Draw, Lookup, Pick, Insert, Ban, BanList, Purge, Xkey, SetHealth, Load, Switch, Discard, VclList, Drop, End}
@@ -25,8 +25,8 @@ answers_lawfully room state caller (Lookup query) =
     looked_leaf IsLawful state caller query refl (record {
       misses = λ objects stale. refl;
       hits = λ objects view. refl;
-      hits_miss = λ objects. refl;
-      passes = λ objects. refl;
+      hits_miss = λ objects view. refl;
+      passes = λ objects view. refl;
       graces = λ objects view. refl;
       graces_alone = λ objects view. refl;
       waits = λ objects token. refl;
@@ -51,10 +51,10 @@ pub behind_lawful : (reply : Reply) (refusal law : State) → is_refusal reply �
 behind_lawful Refused refusal law h = absurd (true≢false h)
 behind_lawful reply refusal law h = refl
 
--- behind the law's reply is the law's state
-pub after-lawful : (beginning : Beginning) (state : State) (caller moment : ℕ) (call : Call) (answer : Reply) → answer ≡ (step_of beginning state caller moment call).reply → after beginning state caller moment call answer ≡ (step_of beginning state caller moment call).state
+-- behind the law's reply is the law's state, with one more entry
+pub after-lawful : (beginning : Beginning) (state : State) (caller moment : ℕ) (call : Call) (answer : Reply) → answer ≡ (step_of beginning state caller moment call).reply → after beginning state caller moment call answer ≡ record (step_of beginning state caller moment call).state { entries = state.entries + 1 }
 after-lawful beginning state caller moment call answer e =
-    behind_lawful answer _ _ (ap is_refusal e ∙ answers_lawfully beginning.params.room (at_moment moment state) caller call)
+    ap (λ (s : State). record s { entries = state.entries + 1 }) (behind_lawful answer _ _ (ap is_refusal e ∙ answers_lawfully beginning.params.room (at_moment moment state) caller call))
 
 -- the insertion of a fetch that isn't open is answered so
 pub not_open : (state : State) (opened : Bool) (step : Step) → (cond opened step (leaving state NotOpen)).reply ≢ NotOpen → opened ≡ true
@@ -79,7 +79,7 @@ lawful_if_not_refused state (Insert token object stale) law answer one (inr free
 lawful_if_not_refused state BanList law answer one may other = absurd (true≢false one)
 lawful_if_not_refused state call law answer one may other = may
 
--- behind a list of bans is the law's state
-pub after-listed : (beginning : Beginning) (state : State) (caller moment : ℕ) (answer : Reply) → IsBanList (at_moment moment state) answer → after beginning state caller moment BanList answer ≡ (step_of beginning state caller moment BanList).state
+-- behind a list of bans is the law's state, with one more entry
+pub after-listed : (beginning : Beginning) (state : State) (caller moment : ℕ) (answer : Reply) → IsBanList (at_moment moment state) answer → after beginning state caller moment BanList answer ≡ record (step_of beginning state caller moment BanList).state { entries = state.entries + 1 }
 after-listed beginning state caller moment (Bans lines) shows = refl
 after-listed beginning state caller moment answer shows = absurd shows

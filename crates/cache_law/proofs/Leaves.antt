@@ -1,5 +1,5 @@
 -- What holds of each reply that a rule can give, with the state behind it, holds of what the law answers.
-use Rattle.std.proofs.Common.{◌≡◌, ℕ, Bool, true, false, cond, List, Option, Some, None, nat_lt, ◌+◌, ◌==◌, refl}
+use Rattle.std.proofs.Common.{◌≡◌, ℕ, Bool, true, false, cond, List, Option, Some, None, ◌==◌, refl}
 use Rattle.std.specs.List.{list_any}
 use Rattle.std.specs.Str.{bytes_eq}
 use Rattle.cache_law.specs.declared.object.Object.{Object}
@@ -13,11 +13,12 @@ use Rattle.cache_law.specs.declared.vcl.LoadedVcl.{LoadedVcl}
 use Rattle.cache_law.specs.declared.call.Query.{Query}
 use Rattle.cache_law.specs.declared.call.Reply.TheVariants.{NoRound, Hit, HitMiss, HitPass, Grace, Wait, Picked, NotOpen, StaleGone, NotInTime, NoRoom, HealthSet, NameTaken, Switched, NoVcl, Discarded, IsActive}
 use Rattle.cache_law.specs.Object.{in_time, size_of}
-use Rattle.cache_law.specs.State.{State, Held, has_round, has_fetch, least_token, is_gone, without_stale, sizes_of}
+use Rattle.cache_law.specs.State.{State, Held, has_round, has_fetch, least_token, is_gone, without_stale}
+use Rattle.cache_law.specs.Room.{has_no_room}
 use Rattle.cache_law.specs.Lookup.{Scan, scanned, raised}
 use Rattle.cache_law.specs.Targets.{chosen, counted_on, name_at, with_health}
 use Rattle.cache_law.specs.Vcls.{called, is_taken, numbered, without_vcl}
-use Rattle.cache_law.specs.Law.{Step, leaving, fetching, missed, with_hit, found_fresh, found_grace, waited_or_missed, busy, found_other, found, sought, remembered, looked_up, closing, stored, inserted, picked, picked_at, health_set, loaded, loaded_as, switched, switched_to, discarded, discarded_of}
+use Rattle.cache_law.specs.Law.{Step, leaving, fetching, missed, with_hit, with_use, found_fresh, found_grace, waited_or_missed, busy, found_other, found, sought, remembered, looked_up, closing, stored, inserted, picked, picked_at, health_set, loaded, loaded_as, switched, switched_to, discarded, discarded_of}
 
 pub either : (P : Step → Type 0) (b : Bool) (one two : Step) → P one → P two → P (cond b one two)
 either P true one two p q = p
@@ -27,8 +28,8 @@ either P false one two p q = q
 pub record Lookups (P : Step → Type 0) (state : State) (caller : ℕ) (key : List (List ℕ)) : Type 0 where
   pub misses : (objects : List Held) (stale : Option ObjectView) → P (missed (record state { objects = objects }) caller key stale)
   pub hits : (objects : List Held) (view : ObjectView) → P (leaving (with_hit (record state { objects = objects }) view) (Hit (raised view)))
-  pub hits_miss : (objects : List Held) → P (record { reply = HitMiss state.next; state = fetching (record state { objects = objects }) caller key })
-  pub passes : (objects : List Held) → P (leaving (record state { objects = objects }) HitPass)
+  pub hits_miss : (objects : List Held) → (view : ObjectView) → P (record { reply = HitMiss state.next; state = fetching (with_use (record state { objects = objects }) view) caller key })
+  pub passes : (objects : List Held) → (view : ObjectView) → P (leaving (with_use (record state { objects = objects }) view) HitPass)
   pub graces : (objects : List Held) (view : ObjectView) → P (record { reply = Grace (raised view) (Some state.next); state = fetching (with_hit (record state { objects = objects }) view) caller key })
   pub graces_alone : (objects : List Held) (view : ObjectView) → P (leaving (with_hit (record state { objects = objects }) view) (Grace (raised view) None))
   pub waits : (objects : List Held) (token : ℕ) → P (leaving (record state { objects = objects }) (Wait token))
@@ -36,8 +37,8 @@ pub record Lookups (P : Step → Type 0) (state : State) (caller : ℕ) (key : L
 module _ (P : Step → Type 0) (state : State) (caller : ℕ) (query : Query) (leaves : Lookups P state caller query.key) where
   fresh_leaf : (objects : List Held) (view : ObjectView) (object : Object) → P (found_fresh (record state { objects = objects }) caller query.key view object)
   fresh_leaf objects view (Ordinary response) = leaves.hits objects view
-  fresh_leaf objects view (HitForMiss marker) = leaves.hits_miss objects
-  fresh_leaf objects view (HitForPass marker) = leaves.passes objects
+  fresh_leaf objects view (HitForMiss marker) = leaves.hits_miss objects view
+  fresh_leaf objects view (HitForPass marker) = leaves.passes objects view
 
   grace_leaf : (objects : List Held) (view : ObjectView) (open_ : Option ℕ) → P (found_grace (record state { objects = objects }) caller query.key view open_)
   grace_leaf objects view None = leaves.graces objects view
@@ -65,19 +66,19 @@ looked_leaf P state caller query closed leaves =
     either P (has_round state.rounds caller) _ _ (sought_leaf (λ step. P (remembered caller step)) state caller query leaves) closed
 
 -- each reply to an insertion
-pub record Insertions (P : Step → Type 0) (state : State) (token : ℕ) (object : Object) (stale : Option ℕ) : Type 0 where
+pub record Insertions (P : Step → Type 0) (room : ℕ) (state : State) (token : ℕ) (object : Object) (stale : Option ℕ) : Type 0 where
   pub opens_not : P (leaving state NotOpen)
   pub gone : P (leaving state StaleGone)
   pub late : P (closing token state NotInTime)
   pub full : P (closing token state NoRoom)
-  pub stores : P (stored state token object stale)
+  pub stores : P (stored room state token object stale)
 
-pub inserted_leaf : (P : Step → Type 0) (room : ℕ) (state : State) (caller token : ℕ) (object : Object) (stale : Option ℕ) → Insertions P state token object stale → P (inserted room state caller token object stale)
+pub inserted_leaf : (P : Step → Type 0) (room : ℕ) (state : State) (caller token : ℕ) (object : Object) (stale : Option ℕ) → Insertions P room state token object stale → P (inserted room state caller token object stale)
 inserted_leaf P room state caller token object stale leaves =
     either P (has_fetch state.fetches caller token) _ _
     (either P (is_gone stale state.objects) _ _ leaves.gone
     (either P (in_time state.moment object) _ _
-    (either P (nat_lt room (sizes_of (without_stale stale state.objects) + size_of object)) _ _ leaves.full leaves.stores) leaves.late)) leaves.opens_not
+    (either P (has_no_room room (size_of object) (without_stale stale state.objects)) _ _ leaves.full leaves.stores) leaves.late)) leaves.opens_not
 
 -- each reply to a pick
 pub picked_leaf : (P : Step → Type 0) (state : State) (vcl : ℕ) (target : Target) (word : ℕ) → P (leaving state (Picked None))
@@ -123,17 +124,17 @@ either_known P true one two p q = p refl
 either_known P false one two p q = q refl
 
 -- each reply to an insertion, where it is known that the fetch is open and that the stale object is there
-pub record KnownInsertions (P : Step → Type 0) (state : State) (caller token : ℕ) (object : Object) (stale : Option ℕ) : Type 0 where
+pub record KnownInsertions (P : Step → Type 0) (room : ℕ) (state : State) (caller token : ℕ) (object : Object) (stale : Option ℕ) : Type 0 where
   pub opens_not : P (leaving state NotOpen)
   pub gone : P (leaving state StaleGone)
   pub late : P (closing token state NotInTime)
   pub full : P (closing token state NoRoom)
-  pub stores : has_fetch state.fetches caller token ≡ true → is_gone stale state.objects ≡ false → P (stored state token object stale)
+  pub stores : has_fetch state.fetches caller token ≡ true → is_gone stale state.objects ≡ false → P (stored room state token object stale)
 
-pub known_leaf : (P : Step → Type 0) (room : ℕ) (state : State) (caller token : ℕ) (object : Object) (stale : Option ℕ) → KnownInsertions P state caller token object stale → P (inserted room state caller token object stale)
+pub known_leaf : (P : Step → Type 0) (room : ℕ) (state : State) (caller token : ℕ) (object : Object) (stale : Option ℕ) → KnownInsertions P room state caller token object stale → P (inserted room state caller token object stale)
 known_leaf P room state caller token object stale leaves =
     either_known P (has_fetch state.fetches caller token) _ _
     (λ opened. either_known P (is_gone stale state.objects) _ _ (λ gone. leaves.gone)
     (λ stays. either P (in_time state.moment object) _ _
-    (either P (nat_lt room (sizes_of (without_stale stale state.objects) + size_of object)) _ _ leaves.full (leaves.stores opened stays)) leaves.late))
+    (either P (has_no_room room (size_of object) (without_stale stale state.objects)) _ _ leaves.full (leaves.stores opened stays)) leaves.late))
     (λ shut. leaves.opens_not)

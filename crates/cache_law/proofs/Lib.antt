@@ -16,6 +16,9 @@ pub mod Held
 pub mod Given
 pub mod LookedUp
 pub mod Present
+pub mod Uses
+pub mod ByUse
+pub mod Making
 pub mod Struck
 pub mod Tested
 pub mod VclNumbers

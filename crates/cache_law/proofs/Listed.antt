@@ -13,7 +13,7 @@ use Rattle.cache_law.specs.State.{State, Held, at_moment, has_round, has_fetch, 
 use Rattle.cache_law.specs.ShownBans.{IsPartOf, ShowsBans}
 use Rattle.cache_law.specs.BansAtOnce.{AwaitIssued, is_met, cleared, issued_behind, open_lines}
 use Rattle.cache_law.specs.Purges.{has_key, has_xkey, softening, xkey_over}
-use Rattle.cache_law.specs.Lookup.{Scan, scanned, counting, is_chosen_by, is_fresh, ending, seeing, passing}
+use Rattle.cache_law.specs.Lookup.{Scan, scanned, counting, touching, is_chosen_by, is_fresh, ending, seeing, passing}
 use Rattle.cache_law.specs.Beginning.{Beginning, beginning_of}
 use Rattle.cache_law.specs.Law.{Step, answered, refused}
 use Rattle.cache_law.specs.History.{next_state, reached_from, reached}
@@ -34,10 +34,15 @@ count_step : (bans : List Issued) (held raised_ : Held) (b : Bool) → IsPartOf 
 count_step bans held raised_ true p r = r
 count_step bans held raised_ false p r = p
 
-counted_await : (bans : List Issued) (number : ℕ) (objects : List Held) → AwaitIssued bans objects → AwaitIssued bans (map (counting number) objects)
-counted_await bans number [] await = tt
-counted_await bans number (held ∷ objects) await =
-    (count_step bans held _ (held.view.number == number) await.0 await.0, counted_await bans number objects await.1)
+counted_await : (bans : List Issued) (place number : ℕ) (objects : List Held) → AwaitIssued bans objects → AwaitIssued bans (map (counting place number) objects)
+counted_await bans place number [] await = tt
+counted_await bans place number (held ∷ objects) await =
+    (count_step bans held _ (held.view.number == number) await.0 await.0, counted_await bans place number objects await.1)
+
+touched_await : (bans : List Issued) (place number : ℕ) (objects : List Held) → AwaitIssued bans objects → AwaitIssued bans (map (touching place number) objects)
+touched_await bans place number [] await = tt
+touched_await bans place number (held ∷ objects) await =
+    (count_step bans held _ (held.view.number == number) await.0 await.0, touched_await bans place number objects await.1)
 
 scan_step : (bans : List Issued) (moment : ℕ) (query : Query) (held : Held) (rest : List Held) (scan : Scan Held) (ours met suits fresh : Bool)
     → IsPartOf held.pending bans → AwaitIssued bans rest → AwaitIssued bans scan.objects
@@ -91,11 +96,11 @@ answered_await room state caller Draw await = either Awaits (has_round state.rou
 answered_await room state caller (Lookup query) await =
     looked_leaf_of Awaits (AwaitIssued state.bans) state caller query await await (scanned_await state.bans state.moment query state.objects await) (record {
       misses = λ objects q stale. q;
-      hits = λ objects q view. counted_await state.bans view.number objects q;
-      hits_miss = λ objects q. q;
-      passes = λ objects q. q;
-      graces = λ objects q view. counted_await state.bans view.number objects q;
-      graces_alone = λ objects q view. counted_await state.bans view.number objects q;
+      hits = λ objects q view. counted_await state.bans state.entries view.number objects q;
+      hits_miss = λ objects q view. touched_await state.bans state.entries view.number objects q;
+      passes = λ objects q view. touched_await state.bans state.entries view.number objects q;
+      graces = λ objects q view. counted_await state.bans state.entries view.number objects q;
+      graces_alone = λ objects q view. counted_await state.bans state.entries view.number objects q;
       waits = λ objects q token. q;
     })
 answered_await room state caller (Pick vcl target word) await = picked_leaf Awaits state vcl target word await (λ place. await)
@@ -105,9 +110,9 @@ answered_await room state caller (Insert token object stale) await =
       gone = await;
       late = await;
       full = await;
-      stores = (inherited_await state.bans stale state.objects await, without_await state.bans stale state.objects await);
+      stores = (inherited_await state.bans stale state.objects await, filter_await state.bans _ (without_stale stale state.objects) (without_await state.bans stale state.objects await));
     })
-answered_await room state caller (Ban ban) await = ban_over_await (issued_behind state.bans state.moment ban) state.bans state.objects await
+answered_await room state caller (Ban ban) await = ban_over_await (issued_behind state.issued state.moment ban) state.bans state.objects await
 answered_await room state caller BanList await = await
 answered_await room state caller (Purge key) await = filter_await state.bans (λ (held : Held). not (has_key key held)) state.objects await
 answered_await room state caller (Xkey keys soft) await = xkey_await state.bans state.moment keys soft state.objects await

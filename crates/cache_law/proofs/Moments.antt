@@ -1,5 +1,5 @@
 -- What isn't in time at a moment isn't in time later, so a state can be read as it is at its own moment first.
-use Rattle.std.proofs.Common.{◌≡◌, ℕ, ℤ, Bool, true, false, cond, List, [], ◌∷◌, ◌≤◌, pos, negsuc, refl, arith, ap}
+use Rattle.std.proofs.Common.{◌≡◌, ℕ, ℤ, Bool, true, false, cond, List, [], ◌∷◌, ◌≤◌, ◌+◌, pos, negsuc, refl, arith, ap}
 use Rattle.std.specs.Int.Signed.{lt_z}
 use Rattle.std.proofs.lemmas.Bool.{ltb-true, lt-ltb, false≢true}
 use Rattle.cache_law.specs.declared.call.Call.{Call}
@@ -32,7 +32,7 @@ at_moment-later earlier later order state =
 -- a call is answered, and leaves, the same where the state is first read as it is at its own moment
 pub after-as_seen : (beginning : Beginning) (state : State) (caller moment : ℕ) (call : Call) (answer : Reply) → state.moment ≤ moment → after beginning (as_seen state) caller moment call answer ≡ after beginning state caller moment call answer
 after-as_seen beginning state caller moment call answer order =
-    ap (λ (now : State). behind answer (refused now call) (answered beginning.params.room now caller call).state) (at_moment-later state.moment moment order state)
+    ap (λ (now : State). record (behind answer (refused now call) (answered beginning.params.room now caller call).state) { entries = state.entries + 1 }) (at_moment-later state.moment moment order state)
 
 pub step_of-as_seen : (beginning : Beginning) (state : State) (caller moment : ℕ) (call : Call) → state.moment ≤ moment → step_of beginning (as_seen state) caller moment call ≡ step_of beginning state caller moment call
 step_of-as_seen beginning state caller moment call order =

@@ -68,8 +68,8 @@ shut_behind room state caller (Lookup query) token below shut =
     looked_leaf (Shut token) state caller query shut (record {
       misses = λ objects stale. one_opened state.next token state.fetches below shut;
       hits = λ objects view. shut;
-      hits_miss = λ objects. one_opened state.next token state.fetches below shut;
-      passes = λ objects. shut;
+      hits_miss = λ objects view. one_opened state.next token state.fetches below shut;
+      passes = λ objects view. shut;
       graces = λ objects view. one_opened state.next token state.fetches below shut;
       graces_alone = λ objects view. shut;
       waits = λ objects other. shut;
@@ -130,8 +130,8 @@ drawn_behind room state caller (Lookup query) token drawn =
     looked_leaf (NotYet token) state caller query drawn (record {
       misses = λ objects stale. one_drawn state.next token state.fetches drawn;
       hits = λ objects view. drawn;
-      hits_miss = λ objects. one_drawn state.next token state.fetches drawn;
-      passes = λ objects. drawn;
+      hits_miss = λ objects view. one_drawn state.next token state.fetches drawn;
+      passes = λ objects view. drawn;
       graces = λ objects view. one_drawn state.next token state.fetches drawn;
       graces_alone = λ objects view. drawn;
       waits = λ objects other. drawn;

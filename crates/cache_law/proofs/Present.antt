@@ -10,13 +10,14 @@ use Rattle.cache_law.specs.declared.call.Call.TheVariants.{Begin, Draw, Lookup, 
 use Rattle.cache_law.specs.declared.call.Reply.{Reply}
 use Rattle.cache_law.specs.declared.call.Entry.{Entry}
 use Rattle.cache_law.specs.declared.state.OpenFetch.{OpenFetch}
-use Rattle.cache_law.specs.Object.{in_time, key_of, same_texts}
-use Rattle.cache_law.specs.State.{State, Held, at_moment, has_round, has_fetch, is_open, without_stale, stored_over}
+use Rattle.cache_law.specs.Object.{in_time, key_of, same_texts, size_of}
+use Rattle.cache_law.specs.State.{State, Held, at_moment, has_round, has_fetch, is_open, without_stale}
+use Rattle.cache_law.specs.Room.{outweighs, staying, stored_over}
 use Rattle.cache_law.specs.BansAtOnce.{is_met, cleared, issued_behind, awaiting, ban_over}
 use Rattle.cache_law.specs.Bans.{matches, object_only}
 use Rattle.cache_law.specs.declared.ban.Issued.{Issued}
 use Rattle.cache_law.specs.Purges.{has_key, has_xkey, softening, xkey_over}
-use Rattle.cache_law.specs.Lookup.{Scan, scanned, counting, is_chosen_by, is_fresh, ending, seeing, passing}
+use Rattle.cache_law.specs.Lookup.{Scan, scanned, counting, touching, is_chosen_by, is_fresh, ending, seeing, passing}
 use Rattle.cache_law.specs.Beginning.{Beginning, beginning_of}
 use Rattle.cache_law.specs.Law.{Step, answered, refused, after}
 use Rattle.cache_law.specs.History.{next_state, reached_from, reached}
@@ -50,8 +51,11 @@ by_choice : (b : Bool) (one two : Held) (n : ℕ) → one.view.number ≡ n → 
 by_choice true one two n e f = e
 by_choice false one two n e f = f
 
-pub counting_number : (number : ℕ) (held : Held) → (counting number held).view.number ≡ held.view.number
-counting_number number held = by_choice (held.view.number == number) _ held held.view.number refl refl
+pub counting_number : (place number : ℕ) (held : Held) → (counting place number held).view.number ≡ held.view.number
+counting_number place number held = by_choice (held.view.number == number) _ held held.view.number refl refl
+
+pub touching_number : (place number : ℕ) (held : Held) → (touching place number held).view.number ≡ held.view.number
+touching_number place number held = by_choice (held.view.number == number) _ held held.view.number refl refl
 
 pub softening_number : (moment : ℕ) (keys : List (List ℕ)) (held : Held) → (softening moment keys held).view.number ≡ held.view.number
 softening_number moment keys held = by_choice (has_xkey keys held) _ held held.view.number refl refl
@@ -64,7 +68,7 @@ scan_counts n moment query held rest scan true false false fresh less = omega (a
 scan_counts n moment query held rest scan true false true false less = omega (arith, less)
 scan_counts n moment query held rest scan true false true true less = omega (arith, less)
 
-count-scanned : (n moment : ℕ) (query : Query) (objects : List Held) → count n (scanned moment query objects).objects ≤ count n objects
+pub count-scanned : (n moment : ℕ) (query : Query) (objects : List Held) → count n (scanned moment query objects).objects ≤ count n objects
 count-scanned n moment query [] = omega arith
 count-scanned n moment query (held ∷ objects) =
     scan_counts n moment query held objects (scanned moment query objects) (same_texts (key_of held.view.object) query.key) (is_met query.request held) (is_chosen_by query held.view.object) (is_fresh moment query.options held.view.object) (count-scanned n moment query objects)
@@ -72,6 +76,10 @@ count-scanned n moment query (held ∷ objects) =
 count-without : (n : ℕ) (stale : Option ℕ) (objects : List Held) → count n (without_stale stale objects) ≤ count n objects
 count-without n None objects = omega arith
 count-without n (Some stale) objects = count-filter n (λ (held : Held). not (held.view.number == stale)) objects
+
+-- those that stay beside one more
+count-staying : (n room size : ℕ) (stale : Option ℕ) (objects : List Held) → count n (staying room size (without_stale stale objects)) ≤ count n objects
+count-staying n room size stale objects = omega (arith, count-filter n (λ (held : Held). not (outweighs room size (without_stale stale objects) held)) (without_stale stale objects), count-without n stale objects)
 
 ban_counts : (n : ℕ) (issued : Issued) (objects : List Held) (b : Bool) → count n (cond b (filter (λ held. not (matches held.view.object issued)) objects) (map (awaiting issued) objects)) ≤ count n objects
 ban_counts n issued objects true = count-filter n (λ (held : Held). not (matches held.view.object issued)) objects
@@ -153,24 +161,24 @@ shut_without token [] = refl
 shut_without token (fetch ∷ fetches) = shut_step (fetch.token == token) true fetch _ token refl (shut_without token fetches)
 
 -- where an object is stored whose fetch was open
-with_stored : (n : ℕ) (old new : State) (token : ℕ) (object : Object) (stale : Option ℕ) (here : Bool) → here ≡ (token == n) → is_open old.fetches token ≡ true → HeldOnce n old
-    → new.objects ≡ stored_over token object stale old.objects → new.fetches ≡ filter (λ (fetch : OpenFetch). not (fetch.token == token)) old.fetches → new.next ≡ old.next → HeldOnce n new
-with_stored n old new token object stale true here opened held objects fetches same =
+with_stored : (n room : ℕ) (old new : State) (token : ℕ) (object : Object) (stale : Option ℕ) (here : Bool) → here ≡ (token == n) → is_open old.fetches token ≡ true → HeldOnce n old
+    → new.objects ≡ stored_over room old.entries token object stale old.objects → new.fetches ≡ filter (λ (fetch : OpenFetch). not (fetch.token == token)) old.fetches → new.next ≡ old.next → HeldOnce n new
+with_stored n room old new token object stale true here opened held objects fetches same =
     let is : token ≡ n = eqb-true token n (sym here) in
     let none_ : count n old.objects ≤ 0 = held.while_open (subst (λ (k : ℕ). is_open old.fetches k ≡ true) is opened) in
-    let one : count n (stored_over token object stale old.objects) ≡ one_if (token == n) + count n (without_stale stale old.objects) = refl in
+    let one : count n (stored_over room old.entries token object stale old.objects) ≡ one_if (token == n) + count n (staying room (size_of object) (without_stale stale old.objects)) = refl in
     let one_here : one_if (token == n) ≡ one_if true = ap one_if (sym here) in
     let shut : is_open new.fetches n ≡ false = ap (λ fs. is_open fs n) fetches ∙ subst (λ (k : ℕ). is_open (filter (λ (fetch : OpenFetch). not (fetch.token == token)) old.fetches) k ≡ false) is (shut_without token old.fetches) in
     record {
-      once = omega (arith, none_, ap (count n) objects, one, one_here, count-without n stale old.objects);
+      once = omega (arith, none_, ap (count n) objects, one, one_here, count-staying n room (size_of object) stale old.objects);
       while_open = λ opened_. absurd (true≢false (sym opened_ ∙ shut));
       undrawn = λ above. absurd (true≢false (sym (subst (λ (k : ℕ). is_open old.fetches k ≡ true) is opened) ∙ held.unopened (omega (arith, same, above))));
       unopened = λ above. shut;
     }
-with_stored n old new token object stale false here opened held objects fetches same =
-    let one : count n (stored_over token object stale old.objects) ≡ one_if (token == n) + count n (without_stale stale old.objects) = refl in
+with_stored n room old new token object stale false here opened held objects fetches same =
+    let one : count n (stored_over room old.entries token object stale old.objects) ≡ one_if (token == n) + count n (staying room (size_of object) (without_stale stale old.objects)) = refl in
     let none_here : one_if (token == n) ≡ one_if false = ap one_if (sym here) in
-    with_less n old new held (omega (arith, ap (count n) objects, one, none_here, count-without n stale old.objects))
+    with_less n old new held (omega (arith, ap (count n) objects, one, none_here, count-staying n room (size_of object) stale old.objects))
     (λ shut. ap (λ fs. is_open fs n) fetches ∙ none-filter (λ (fetch : OpenFetch). fetch.token == n) (λ (fetch : OpenFetch). not (fetch.token == token)) old.fetches shut) same
 
 pub once_behind : (n room : ℕ) (state : State) (caller : ℕ) (call : Call) → HeldOnce n state → OnceBehind n (answered room state caller call)
@@ -179,11 +187,11 @@ once_behind n room state caller Draw held = either (OnceBehind n) (has_round sta
 once_behind n room state caller (Lookup query) held =
     looked_leaf_of (OnceBehind n) (λ (objects : List Held). count n objects ≤ count n state.objects) state caller query held (omega arith) (count-scanned n state.moment query state.objects) (record {
       misses = λ objects q stale. with_drawn n state _ held q refl refl;
-      hits = λ objects q view. with_less n state _ held (omega (arith, q, count-map n (counting view.number) (counting_number view.number) objects)) (λ shut. shut) refl;
-      hits_miss = λ objects q. with_drawn n state _ held q refl refl;
-      passes = λ objects q. with_less n state _ held q (λ shut. shut) refl;
-      graces = λ objects q view. with_drawn n state _ held (omega (arith, q, count-map n (counting view.number) (counting_number view.number) objects)) refl refl;
-      graces_alone = λ objects q view. with_less n state _ held (omega (arith, q, count-map n (counting view.number) (counting_number view.number) objects)) (λ shut. shut) refl;
+      hits = λ objects q view. with_less n state _ held (omega (arith, q, count-map n (counting state.entries view.number) (counting_number state.entries view.number) objects)) (λ shut. shut) refl;
+      hits_miss = λ objects q view. with_drawn n state _ held (omega (arith, q, count-map n (touching state.entries view.number) (touching_number state.entries view.number) objects)) refl refl;
+      passes = λ objects q view. with_less n state _ held (omega (arith, q, count-map n (touching state.entries view.number) (touching_number state.entries view.number) objects)) (λ shut. shut) refl;
+      graces = λ objects q view. with_drawn n state _ held (omega (arith, q, count-map n (counting state.entries view.number) (counting_number state.entries view.number) objects)) refl refl;
+      graces_alone = λ objects q view. with_less n state _ held (omega (arith, q, count-map n (counting state.entries view.number) (counting_number state.entries view.number) objects)) (λ shut. shut) refl;
       waits = λ objects q token. with_less n state _ held q (λ shut. shut) refl;
     })
 once_behind n room state caller (Pick vcl target word) held =
@@ -196,10 +204,10 @@ once_behind n room state caller (Insert token object stale) held =
       gone = held;
       late = with_less n state _ held (omega arith) less refl;
       full = with_less n state _ held (omega arith) less refl;
-      stores = λ opened stays. with_stored n state _ token object stale (token == n) refl (opened_by state.fetches caller token opened) held refl refl refl;
+      stores = λ opened stays. with_stored n room state _ token object stale (token == n) refl (opened_by state.fetches caller token opened) held refl refl refl;
     })
 once_behind n room state caller (Ban ban) held =
-    with_less n state _ held (count-ban n (issued_behind state.bans state.moment ban) state.objects) (λ shut. shut) refl
+    with_less n state _ held (count-ban n (issued_behind state.issued state.moment ban) state.objects) (λ shut. shut) refl
 once_behind n room state caller BanList held = held
 once_behind n room state caller (Purge key) held = with_less n state _ held (count-filter n (λ (held : Held). not (has_key key held)) state.objects) (λ shut. shut) refl
 once_behind n room state caller (Xkey keys soft) held = with_less n state _ held (count-xkey n state.moment keys soft state.objects) (λ shut. shut) refl
@@ -225,7 +233,8 @@ once_at n moment state held = with_less n state _ held (count-filter n (λ (held
 
 pub once_after : (n : ℕ) (beginning : Beginning) (state : State) (caller moment : ℕ) (call : Call) (answer : Reply) → HeldOnce n state → HeldOnce n (after beginning state caller moment call answer)
 once_after n beginning state caller moment call answer held =
-    behind_either (HeldOnce n) answer _ _ (once_refused n (at_moment moment state) call (once_at n moment state held)) (once_behind n beginning.params.room (at_moment moment state) caller call (once_at n moment state held))
+    let once = behind_either (HeldOnce n) answer _ _ (once_refused n (at_moment moment state) call (once_at n moment state held)) (once_behind n beginning.params.room (at_moment moment state) caller call (once_at n moment state held)) in
+    record { once = once.once; while_open = once.while_open; undrawn = once.undrawn; unopened = once.unopened }
 
 pub once_from : (n : ℕ) (beginning : Beginning) (state : State) (entries : List Entry) → HeldOnce n state → HeldOnce n (reached_from beginning state entries)
 once_from n beginning state [] held = held
@@ -241,11 +250,11 @@ once_in_run n params boot entries =
 abbrev NoMore : ℕ → State → Step → Type 0
 NoMore n state step = count n step.state.objects ≤ count n state.objects
 
-stored_counts : (n token : ℕ) (object : Object) (stale : Option ℕ) (objects : List Held) → token ≢ n → count n (stored_over token object stale objects) ≤ count n objects
-stored_counts n token object stale objects other =
-    let one : count n (stored_over token object stale objects) ≡ one_if (token == n) + count n (without_stale stale objects) = refl in
+stored_counts : (n room place token : ℕ) (object : Object) (stale : Option ℕ) (objects : List Held) → token ≢ n → count n (stored_over room place token object stale objects) ≤ count n objects
+stored_counts n room place token object stale objects other =
+    let one : count n (stored_over room place token object stale objects) ≡ one_if (token == n) + count n (staying room (size_of object) (without_stale stale objects)) = refl in
     let none_here : one_if (token == n) ≡ one_if false = ap one_if (ne_eqb token n other) in
-    omega (arith, one, none_here, count-without n stale objects)
+    omega (arith, one, none_here, count-staying n room (size_of object) stale objects)
 
 -- an answer stores no object under a number whose fetch isn't open
 count_behind : (n room : ℕ) (state : State) (caller : ℕ) (call : Call) → is_open state.fetches n ≡ false → NoMore n state (answered room state caller call)
@@ -254,11 +263,11 @@ count_behind n room state caller Draw shut = either (NoMore n state) (has_round 
 count_behind n room state caller (Lookup query) shut =
     looked_leaf_of (NoMore n state) (λ (objects : List Held). count n objects ≤ count n state.objects) state caller query (omega arith) (omega arith) (count-scanned n state.moment query state.objects) (record {
       misses = λ objects q stale. q;
-      hits = λ objects q view. omega (arith, q, count-map n (counting view.number) (counting_number view.number) objects);
-      hits_miss = λ objects q. q;
-      passes = λ objects q. q;
-      graces = λ objects q view. omega (arith, q, count-map n (counting view.number) (counting_number view.number) objects);
-      graces_alone = λ objects q view. omega (arith, q, count-map n (counting view.number) (counting_number view.number) objects);
+      hits = λ objects q view. omega (arith, q, count-map n (counting state.entries view.number) (counting_number state.entries view.number) objects);
+      hits_miss = λ objects q view. omega (arith, q, count-map n (touching state.entries view.number) (touching_number state.entries view.number) objects);
+      passes = λ objects q view. omega (arith, q, count-map n (touching state.entries view.number) (touching_number state.entries view.number) objects);
+      graces = λ objects q view. omega (arith, q, count-map n (counting state.entries view.number) (counting_number state.entries view.number) objects);
+      graces_alone = λ objects q view. omega (arith, q, count-map n (counting state.entries view.number) (counting_number state.entries view.number) objects);
       waits = λ objects q token. q;
     })
 count_behind n room state caller (Pick vcl target word) shut = picked_leaf (NoMore n state) state vcl target word (omega arith) (λ place. omega arith)
@@ -268,10 +277,10 @@ count_behind n room state caller (Insert token object stale) shut =
       gone = omega arith;
       late = omega arith;
       full = omega arith;
-      stores = λ opened stays. stored_counts n token object stale state.objects
+      stores = λ opened stays. stored_counts n room state.entries token object stale state.objects
           (λ same. true≢false (sym (subst (λ (k : ℕ). is_open state.fetches k ≡ true) same (opened_by state.fetches caller token opened)) ∙ shut));
     })
-count_behind n room state caller (Ban ban) shut = count-ban n (issued_behind state.bans state.moment ban) state.objects
+count_behind n room state caller (Ban ban) shut = count-ban n (issued_behind state.issued state.moment ban) state.objects
 count_behind n room state caller BanList shut = omega arith
 count_behind n room state caller (Purge key) shut = count-filter n (λ (held : Held). not (has_key key held)) state.objects
 count_behind n room state caller (Xkey keys soft) shut = count-xkey n state.moment keys soft state.objects

@@ -200,8 +200,8 @@ module _ (caller vcl : ℕ) (text : List ℕ) where
       looked_leaf Runs state other query runs (record {
         misses = λ objects stale. runs_waiting state _ other _ runs refl refl;
         hits = λ objects view. runs_waiting state _ other _ runs refl refl;
-        hits_miss = λ objects. runs_waiting state _ other _ runs refl refl;
-        passes = λ objects. runs_waiting state _ other _ runs refl refl;
+        hits_miss = λ objects view. runs_waiting state _ other _ runs refl refl;
+        passes = λ objects view. runs_waiting state _ other _ runs refl refl;
         graces = λ objects view. runs_waiting state _ other _ runs refl refl;
         graces_alone = λ objects view. runs_waiting state _ other _ runs refl refl;
         waits = λ objects token. runs_waiting state _ other _ runs refl refl;
@@ -254,7 +254,7 @@ module _ (caller vcl : ℕ) (text : List ℕ) where
   runs_from beginning state (e ∷ es) open_ runs =
       let now : RunsUnder (at_moment e.moment state) caller vcl text = runs_on state _ runs refl refl in
       runs_from beginning (next_state beginning state e) es open_.1
-      (behind_either (λ (s : State). RunsUnder s caller vcl text) e.reply _ _ (runs_refused (at_moment e.moment state) e.call now) (runs_behind beginning.params.room (at_moment e.moment state) e.caller e.call open_.0 now))
+      (runs_on _ _ (behind_either (λ (s : State). RunsUnder s caller vcl text) e.reply _ _ (runs_refused (at_moment e.moment state) e.call now) (runs_behind beginning.params.room (at_moment e.moment state) e.caller e.call open_.0 now)) refl refl)
 
 -- the active VCL is one of the VCLs, and isn't discarded
 record ActiveIsThere (state : State) : Type 0 where
@@ -313,8 +313,8 @@ active_behind room state caller (Lookup query) is =
     looked_leaf Active state caller query is (record {
       misses = λ objects stale. active_on state _ is refl refl;
       hits = λ objects view. active_on state _ is refl refl;
-      hits_miss = λ objects. active_on state _ is refl refl;
-      passes = λ objects. active_on state _ is refl refl;
+      hits_miss = λ objects view. active_on state _ is refl refl;
+      passes = λ objects view. active_on state _ is refl refl;
       graces = λ objects view. active_on state _ is refl refl;
       graces_alone = λ objects view. active_on state _ is refl refl;
       waits = λ objects token. active_on state _ is refl refl;
@@ -355,7 +355,7 @@ active_from beginning state [] is = is
 active_from beginning state (e ∷ es) is =
     let now : ActiveIsThere (at_moment e.moment state) = active_on state _ is refl refl in
     active_from beginning (next_state beginning state e) es
-    (behind_either ActiveIsThere e.reply _ _ (active_refused (at_moment e.moment state) e.call now) (active_behind beginning.params.room (at_moment e.moment state) e.caller e.call now))
+    (active_on _ _ (behind_either ActiveIsThere e.reply _ _ (active_refused (at_moment e.moment state) e.call now) (active_behind beginning.params.room (at_moment e.moment state) e.caller e.call now)) refl refl)
 
 -- a step that says that a round began left it under the VCL that it names
 abbrev BeginsUnder : ℕ → ℕ → ℕ → List ℕ → Step → Type 0
@@ -381,8 +381,8 @@ begins_under room state caller (Lookup query) number vcl text is =
     looked_leaf (BeginsUnder caller number vcl text) state caller query (λ e. cc) (record {
       misses = λ objects stale e. cc;
       hits = λ objects view e. cc;
-      hits_miss = λ objects e. cc;
-      passes = λ objects e. cc;
+      hits_miss = λ objects view e. cc;
+      passes = λ objects view e. cc;
       graces = λ objects view e. cc;
       graces_alone = λ objects view e. cc;
       waits = λ objects token e. cc;
@@ -424,6 +424,6 @@ round_keeps params boot before between behind begin number vcl text legal told o
     let law = began_by_law now begin.call (step_of beginning state begin.caller begin.moment begin.call).reply begin.reply number vcl text follows.answer told in
     let here = begins_under beginning.params.room now begin.caller begin.call number vcl text (active_on state _ is refl refl) law in
     let next : RunsUnder (next_state beginning state begin) begin.caller vcl text =
-    subst (λ (r : Reply). RunsUnder (after beginning state begin.caller begin.moment begin.call r) begin.caller vcl text) (sym told) here in
+    subst (λ (r : Reply). RunsUnder (after beginning state begin.caller begin.moment begin.call r) begin.caller vcl text) (sym told) (runs_on begin.caller vcl text _ _ here refl refl) in
     subst (λ (s : State). RunsUnder s begin.caller vcl text) (sym (reached-append beginning before (begin ∷ between)))
     (runs_from begin.caller vcl text beginning (next_state beginning state begin) between open_ next)

@@ -8,15 +8,15 @@ use Rattle.cache_law.specs.declared.call.Query.{Query}
 use Rattle.cache_law.specs.declared.call.Reply.TheVariants.{NoRound, Hit, HitMiss, HitPass, Grace, Wait}
 use Rattle.cache_law.specs.State.{State, Held, has_round, least_token}
 use Rattle.cache_law.specs.Lookup.{Scan, scanned, raised}
-use Rattle.cache_law.specs.Law.{Step, leaving, fetching, missed, with_hit, found_fresh, found_grace, waited_or_missed, busy, found_other, found, sought, remembered, looked_up}
+use Rattle.cache_law.specs.Law.{Step, leaving, fetching, missed, with_hit, with_use, found_fresh, found_grace, waited_or_missed, busy, found_other, found, sought, remembered, looked_up}
 use Rattle.cache_law.proofs.Leaves.{either}
 
 -- each reply to a lookup in an open round, over objects of which Q holds
 pub record LookupsOf (P : Step → Type 0) (Q : List Held → Type 0) (state : State) (caller : ℕ) (key : List (List ℕ)) : Type 0 where
   pub misses : (objects : List Held) → Q objects → (stale : Option ObjectView) → P (missed (record state { objects = objects }) caller key stale)
   pub hits : (objects : List Held) → Q objects → (view : ObjectView) → P (leaving (with_hit (record state { objects = objects }) view) (Hit (raised view)))
-  pub hits_miss : (objects : List Held) → Q objects → P (record { reply = HitMiss state.next; state = fetching (record state { objects = objects }) caller key })
-  pub passes : (objects : List Held) → Q objects → P (leaving (record state { objects = objects }) HitPass)
+  pub hits_miss : (objects : List Held) → Q objects → (view : ObjectView) → P (record { reply = HitMiss state.next; state = fetching (with_use (record state { objects = objects }) view) caller key })
+  pub passes : (objects : List Held) → Q objects → (view : ObjectView) → P (leaving (with_use (record state { objects = objects }) view) HitPass)
   pub graces : (objects : List Held) → Q objects → (view : ObjectView) → P (record { reply = Grace (raised view) (Some state.next); state = fetching (with_hit (record state { objects = objects }) view) caller key })
   pub graces_alone : (objects : List Held) → Q objects → (view : ObjectView) → P (leaving (with_hit (record state { objects = objects }) view) (Grace (raised view) None))
   pub waits : (objects : List Held) → Q objects → (token : ℕ) → P (leaving (record state { objects = objects }) (Wait token))
@@ -24,8 +24,8 @@ pub record LookupsOf (P : Step → Type 0) (Q : List Held → Type 0) (state : S
 module _ (P : Step → Type 0) (Q : List Held → Type 0) (state : State) (caller : ℕ) (query : Query) (leaves : LookupsOf P Q state caller query.key) where
   fresh_leaf : (objects : List Held) → Q objects → (view : ObjectView) (object : Object) → P (found_fresh (record state { objects = objects }) caller query.key view object)
   fresh_leaf objects q view (Ordinary response) = leaves.hits objects q view
-  fresh_leaf objects q view (HitForMiss marker) = leaves.hits_miss objects q
-  fresh_leaf objects q view (HitForPass marker) = leaves.passes objects q
+  fresh_leaf objects q view (HitForMiss marker) = leaves.hits_miss objects q view
+  fresh_leaf objects q view (HitForPass marker) = leaves.passes objects q view
 
   grace_leaf : (objects : List Held) → Q objects → (view : ObjectView) (open_ : Option ℕ) → P (found_grace (record state { objects = objects }) caller query.key view open_)
   grace_leaf objects q view None = leaves.graces objects q view

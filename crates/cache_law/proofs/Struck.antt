@@ -20,7 +20,7 @@ use Rattle.cache_law.specs.Beginning.{Beginning, beginning_of}
 use Rattle.cache_law.specs.Law.{Step, answered, after, step_of, MayAnswer, IsBanList}
 use Rattle.cache_law.specs.History.{Follows, Legal, LegalFrom, next_state, reached_from, reached, bytes_of}
 use Rattle.cache_law.specs.LookedUp.{IsLookedUp, says_found}
-use Rattle.cache_law.specs.BanHistories.{IsAmong, WasSpared, WasStored, given}
+use Rattle.cache_law.specs.BanHistories.{IsAmong, WasSpared, WasStored, given, issued_in}
 use Rattle.cache_law.proofs.Growth.{after_grows}
 use Rattle.cache_law.proofs.Numbers.{reached-append, rises_from, shut_from}
 use Rattle.cache_law.proofs.Leaves.{either, looked_leaf, known_leaf, picked_leaf, health_leaf, loaded_leaf, switched_leaf, discarded_leaf}
@@ -46,8 +46,8 @@ stores_open n room state caller (Lookup query) =
     looked_leaf (StoresOpen state n) state caller query (λ e. cc) (record {
       misses = λ objects stale e. cc;
       hits = λ objects view e. cc;
-      hits_miss = λ objects e. cc;
-      passes = λ objects e. cc;
+      hits_miss = λ objects view e. cc;
+      passes = λ objects view e. cc;
       graces = λ objects view e. cc;
       graces_alone = λ objects view e. cc;
       waits = λ objects token e. cc;
@@ -183,12 +183,13 @@ pub legal_behind : (beginning : Beginning) (state : State) (used : ℕ) (entries
 legal_behind beginning state used [] behind legal = (used, legal)
 legal_behind beginning state used (e ∷ es) behind legal = legal_behind beginning (next_state beginning state e) (used + bytes_of e.call) es behind legal.2
 
+-- behind a ban the objects are those that it leaves
 pub banned_after : (beginning : Beginning) (state : State) (entry : Entry) (words : BanWords) → Follows beginning state entry → entry.call ≡ Ban words
-    → next_state beginning state entry ≡ (answered beginning.params.room (at_moment entry.moment state) entry.caller (Ban words)).state
+    → (next_state beginning state entry).objects ≡ ban_over (issued_in state entry words) (at_moment entry.moment state).objects
 banned_after beginning state entry words follows called =
     let told : entry.reply ≡ Banned = subst (λ (call : Call). MayAnswer (at_moment entry.moment state) call (step_of beginning state entry.caller entry.moment call).reply entry.reply) called follows.answer in
-    subst (λ (call : Call). after beginning state entry.caller entry.moment call entry.reply ≡ (answered beginning.params.room (at_moment entry.moment state) entry.caller (Ban words)).state) (sym called)
-    (subst (λ (reply : Reply). after beginning state entry.caller entry.moment (Ban words) reply ≡ (answered beginning.params.room (at_moment entry.moment state) entry.caller (Ban words)).state) (sym told) refl)
+    subst (λ (call : Call). (after beginning state entry.caller entry.moment call entry.reply).objects ≡ ban_over (issued_in state entry words) (at_moment entry.moment state).objects) (sym called)
+    (subst (λ (reply : Reply). (after beginning state entry.caller entry.moment (Ban words) reply).objects ≡ ban_over (issued_in state entry words) (at_moment entry.moment state).objects) (sym told) refl)
 
 pub given_spared : (params : Params) (boot : Boot) (before between behind : List Entry) (ban entry : Entry) (words : BanWords) (view : ObjectView)
     → Legal (beginning_of params boot) (before ++ ban ∷ (between ++ entry ∷ behind)) → ban.call ≡ Ban words → object_only words ≡ true
@@ -198,7 +199,7 @@ given_spared params boot before between behind ban entry words view legal called
     let beginning : Beginning = beginning_of params boot in
     let state : State = reached beginning before in
     let now : State = at_moment ban.moment state in
-    let issued : Issued = issued_behind state.bans ban.moment words in
+    let issued : Issued = issued_behind state.issued ban.moment words in
     let next : State = next_state beginning state ban in
     let follows = follows_from beginning beginning.base 0 before (between ++ entry ∷ behind) ban legal.each in
     let shut = shut_once_stored beginning beginning.base 0 view.number before (ban ∷ (between ++ entry ∷ behind)) legal.each (once_in_run view.number params boot []) stored in
@@ -208,7 +209,7 @@ given_spared params boot before between behind ban entry words view legal called
     let less = count_from view.number beginning next between shut_next.drawn shut_next.shut in
     let held = given_is_held (reached beginning (before ++ ban ∷ between)) entry view is told in
     let found : Spared view.number issued now.objects = by_ban state now issued next less (ap (λ (s : State). count view.number s.objects) there) held
-    (ap (λ (s : State). count view.number s.objects) (banned_after beginning state ban words follows called))
+    (ap (count view.number) (banned_after beginning state ban words follows called))
     (over_or_spared view.number issued now.objects alone) in
     record { held = found.0; there = found.1; numbered = found.2; spared = found.3 }
   where

@@ -16,11 +16,12 @@ use Rattle.cache_law.specs.declared.call.Reply.{Reply}
 use Rattle.cache_law.specs.declared.call.Reply.TheVariants.{Stored}
 use Rattle.cache_law.specs.declared.call.Entry.{Entry}
 use Rattle.cache_law.specs.Object.{in_time, key_of, same_texts}
-use Rattle.cache_law.specs.State.{State, Held, at_moment, has_round, has_fetch, is_open, is_gone, inherited, stored_over}
+use Rattle.cache_law.specs.State.{State, Held, at_moment, has_round, has_fetch, is_open, is_gone, inherited, without_stale}
+use Rattle.cache_law.specs.Room.{stored_over}
 use Rattle.cache_law.specs.Bans.{matches, meets, object_only}
 use Rattle.cache_law.specs.BansAtOnce.{is_met, cleared, issued_behind, awaiting, ban_over}
 use Rattle.cache_law.specs.Purges.{has_key, has_xkey, softening, xkey_over}
-use Rattle.cache_law.specs.Lookup.{Scan, scanned, counting, counted, is_chosen_by, is_fresh, ending, seeing, passing}
+use Rattle.cache_law.specs.Lookup.{Scan, scanned, counting, counted, touching, touched, is_chosen_by, is_fresh, ending, seeing, passing}
 use Rattle.cache_law.specs.Beginning.{Beginning, beginning_of}
 use Rattle.cache_law.specs.Law.{Step, answered, after, step_of, looked_up, inserted, MayAnswer}
 use Rattle.cache_law.specs.History.{Follows, Legal, LegalFrom, next_state, reached_from, reached, bytes_of}
@@ -36,7 +37,7 @@ use Rattle.cache_law.proofs.Serving.{follows_from}
 use Rattle.cache_law.proofs.LookedUp.{legal_looked_up}
 use Rattle.cache_law.proofs.Given.{looked_gives}
 use Rattle.cache_law.proofs.Held.{all-filter, all-map, all-weaken}
-use Rattle.cache_law.proofs.Present.{count, HeldOnce, once_after, once_at, once_in_run, opened_by, counting_number, softening_number}
+use Rattle.cache_law.proofs.Present.{count, HeldOnce, once_after, once_at, once_in_run, opened_by, counting_number, touching_number, softening_number}
 use Rattle.cache_law.proofs.Struck.{IsShut, shut_later, shut_behind_stored, shut_once_stored, none_numbered, given_says, append_behind, banned_after, legal_behind}
 
 -- one of the bans
@@ -85,8 +86,11 @@ module _ (numbers : List ℕ) (issued : Issued) where
   same_pending true one two bans e f = e
   same_pending false one two bans e f = f
 
-  counting_pending : (number : ℕ) (held : Held) → (counting number held).pending ≡ held.pending
-  counting_pending number held = same_pending (held.view.number == number) _ held held.pending refl refl
+  counting_pending : (place number : ℕ) (held : Held) → (counting place number held).pending ≡ held.pending
+  counting_pending place number held = same_pending (held.view.number == number) _ held held.pending refl refl
+
+  touching_pending : (place number : ℕ) (held : Held) → (touching place number held).pending ≡ held.pending
+  touching_pending place number held = same_pending (held.view.number == number) _ held held.pending refl refl
 
   softening_pending : (moment : ℕ) (keys : List (List ℕ)) (held : Held) → (softening moment keys held).pending ≡ held.pending
   softening_pending moment keys held = same_pending (has_xkey keys held) _ held held.pending refl refl
@@ -161,21 +165,29 @@ module _ (numbers : List ℕ) (issued : Issued) (query : Query) where
   among-map f held (other ∷ objects) (inl same) = inl (ap f same)
   among-map f held (other ∷ objects) (inr among) = inr (among-map f held objects among)
 
-  counted_waits : (old : List Held) (number : ℕ) (objects : List Held) → WaitsOrFound numbers issued query old objects → WaitsOrFound numbers issued query old (counted number objects)
-  counted_waits old number objects (inl all) =
-      inl (all-map (Waits numbers issued) (Waits numbers issued) (counting number) (λ held waits. waits_same numbers issued held (counting number held) (counting_number number held) (counting_pending numbers issued number held) waits) objects all)
-  counted_waits old number objects (inr found) =
+  -- where each object is changed, but not its number and the bans that wait for it
+  mapped_waits : (f : Held → Held) → ((held : Held) → (f held).view.number ≡ held.view.number) → ((held : Held) → (f held).pending ≡ held.pending)
+      → (old objects : List Held) → WaitsOrFound numbers issued query old objects → WaitsOrFound numbers issued query old (map f objects)
+  mapped_waits f numbered waiting old objects (inl all) =
+      inl (all-map (Waits numbers issued) (Waits numbers issued) f (λ held waits. waits_same numbers issued held (f held) (numbered held) (waiting held) waits) objects all)
+  mapped_waits f numbered waiting old objects (inr found) =
       inr (record {
         held = found.held;
         there = found.there;
         numbered = found.numbered;
         ours = found.ours;
         unmatched = found.unmatched;
-        left = counting number found.left;
-        stays = among-map (counting number) found.left objects found.stays;
-        same = counting_number number found.left ∙ found.same;
-        cleared = counting_pending numbers issued number found.left ∙ found.cleared;
+        left = f found.left;
+        stays = among-map f found.left objects found.stays;
+        same = numbered found.left ∙ found.same;
+        cleared = waiting found.left ∙ found.cleared;
       })
+
+  counted_waits : (old : List Held) (place number : ℕ) (objects : List Held) → WaitsOrFound numbers issued query old objects → WaitsOrFound numbers issued query old (counted place number objects)
+  counted_waits old place number objects = mapped_waits (counting place number) (counting_number place number) (counting_pending numbers issued place number) old objects
+
+  touched_waits : (old : List Held) (place number : ℕ) (objects : List Held) → WaitsOrFound numbers issued query old objects → WaitsOrFound numbers issued query old (touched place number objects)
+  touched_waits old place number objects = mapped_waits (touching place number) (touching_number place number) (touching_pending numbers issued place number) old objects
 
   -- behind a lookup the ban still waits for the object, or the lookup tested it
   looked_waits : (state : State) (caller : ℕ) → AllWait numbers issued state.objects → WaitsOrFound numbers issued query state.objects (looked_up state caller query).state.objects
@@ -183,11 +195,11 @@ module _ (numbers : List ℕ) (issued : Issued) (query : Query) where
       looked_leaf_of (λ (step : Step). WaitsOrFound numbers issued query state.objects step.state.objects) (λ (objects : List Held). WaitsOrFound numbers issued query state.objects objects) state caller query
       (inl all) (inl all) (scan_waits state.moment state.objects all) (record {
         misses = λ objects q stale. q;
-        hits = λ objects q view. counted_waits state.objects view.number objects q;
-        hits_miss = λ objects q. q;
-        passes = λ objects q. q;
-        graces = λ objects q view. counted_waits state.objects view.number objects q;
-        graces_alone = λ objects q view. counted_waits state.objects view.number objects q;
+        hits = λ objects q view. counted_waits state.objects state.entries view.number objects q;
+        hits_miss = λ objects q view. touched_waits state.objects state.entries view.number objects q;
+        passes = λ objects q view. touched_waits state.objects state.entries view.number objects q;
+        graces = λ objects q view. counted_waits state.objects state.entries view.number objects q;
+        graces_alone = λ objects q view. counted_waits state.objects state.entries view.number objects q;
         waits = λ objects q token. q;
       })
 
@@ -206,7 +218,7 @@ plain_waits numbers issued room state caller Draw plain all = either (WaitsBehin
 plain_waits numbers issued room state caller (Lookup own) plain all = absurd (false≢true plain)
 plain_waits numbers issued room state caller (Pick vcl target word) plain all = picked_leaf (WaitsBehind numbers issued) state vcl target word all (λ place. all)
 plain_waits numbers issued room state caller (Insert token object stale) plain all = absurd (false≢true plain)
-plain_waits numbers issued room state caller (Ban ban) plain all = ban_waits numbers issued (issued_behind state.bans state.moment ban) state.objects (object_only ban) all
+plain_waits numbers issued room state caller (Ban ban) plain all = ban_waits numbers issued (issued_behind state.issued state.moment ban) state.objects (object_only ban) all
 plain_waits numbers issued room state caller BanList plain all = all
 plain_waits numbers issued room state caller (Purge key) plain all = all-filter (Waits numbers issued) (λ (held : Held). not (has_key key held)) state.objects all
 plain_waits numbers issued room state caller (Xkey keys soft) plain all = xkey_waits numbers issued state.moment keys soft state.objects all
@@ -257,20 +269,24 @@ one_more_waits numbers issued token [] others all = tt
 one_more_waits numbers issued token (held ∷ objects) others all =
     (one_more_step numbers issued token held (token == held.view.number) refl others.0 all.0, one_more_waits numbers issued token objects others.1 all.1)
 
-stored_heir : (numbers : List ℕ) (issued : Issued) (token : ℕ) (object : Object) (stale : ℕ) (objects : List Held) (own : Bool) → own ≡ has_number numbers stale → has_number numbers token ≡ false → count token objects ≤ 0 → is_gone (Some stale) objects ≡ false
-    → AllWait numbers issued objects → AllWait (cond own (token ∷ numbers) numbers) issued (stored_over token object (Some stale) objects)
-stored_heir numbers issued token object stale objects true a other none_ there all = (
+stored_heir : (numbers : List ℕ) (issued : Issued) (room place token : ℕ) (object : Object) (stale : ℕ) (objects : List Held) (own : Bool) → own ≡ has_number numbers stale → has_number numbers token ≡ false → count token objects ≤ 0 → is_gone (Some stale) objects ≡ false
+    → AllWait numbers issued objects → AllWait (cond own (token ∷ numbers) numbers) issued (stored_over room place token object (Some stale) objects)
+stored_heir numbers issued room place token object stale objects true a other none_ there all = (
   λ own. inherit_waits numbers issued stale objects (sym a) all there,
-  all-filter (Waits (token ∷ numbers) issued) (λ (held : Held). not (held.view.number == stale)) objects (one_more_waits numbers issued token objects (none_numbered token objects none_) all),
+  all-filter (Waits (token ∷ numbers) issued) _ (without_stale (Some stale) objects)
+      (all-filter (Waits (token ∷ numbers) issued) (λ (held : Held). not (held.view.number == stale)) objects (one_more_waits numbers issued token objects (none_numbered token objects none_) all)),
 )
-stored_heir numbers issued token object stale objects false a other none_ there all =
-    (λ own. absurd (true≢false (sym own ∙ other)), all-filter (Waits numbers issued) (λ (held : Held). not (held.view.number == stale)) objects all)
+stored_heir numbers issued room place token object stale objects false a other none_ there all = (
+  λ own. absurd (true≢false (sym own ∙ other)),
+  all-filter (Waits numbers issued) _ (without_stale (Some stale) objects) (all-filter (Waits numbers issued) (λ (held : Held). not (held.view.number == stale)) objects all),
+)
 
-stored_waits : (numbers : List ℕ) (issued : Issued) (token : ℕ) (object : Object) (stale : Option ℕ) (objects : List Held) → has_number numbers token ≡ false → count token objects ≤ 0 → is_gone stale objects ≡ false
-    → AllWait numbers issued objects → AllWait (cond (is_of numbers stale) (token ∷ numbers) numbers) issued (stored_over token object stale objects)
-stored_waits numbers issued token object None objects other none_ there all = (λ own. absurd (true≢false (sym own ∙ other)), all)
-stored_waits numbers issued token object (Some stale) objects other none_ there all =
-    stored_heir numbers issued token object stale objects (has_number numbers stale) refl other none_ there all
+stored_waits : (numbers : List ℕ) (issued : Issued) (room place token : ℕ) (object : Object) (stale : Option ℕ) (objects : List Held) → has_number numbers token ≡ false → count token objects ≤ 0 → is_gone stale objects ≡ false
+    → AllWait numbers issued objects → AllWait (cond (is_of numbers stale) (token ∷ numbers) numbers) issued (stored_over room place token object stale objects)
+stored_waits numbers issued room place token object None objects other none_ there all =
+    (λ own. absurd (true≢false (sym own ∙ other)), all-filter (Waits numbers issued) _ objects all)
+stored_waits numbers issued room place token object (Some stale) objects other none_ there all =
+    stored_heir numbers issued room place token object stale objects (has_number numbers stale) refl other none_ there all
 
 abbrev InsertedWaits : List ℕ → Issued → ℕ → Object → Option ℕ → Step → Type 0
 InsertedWaits numbers issued token object stale step = AllWait (with_heir numbers (Insert token object stale) step.reply) issued step.state.objects
@@ -285,7 +301,7 @@ inserted_waits numbers issued room state caller token object stale shut once all
       full = all;
       stores = λ opened there.
           let open_ = opened_by state.fetches caller token opened in
-          stored_waits numbers issued token object stale state.objects (open_is_other numbers token state shut open_) (once.while_open open_) there all;
+          stored_waits numbers issued room state.entries token object stale state.objects (open_is_other numbers token state shut open_) (once.while_open open_) there all;
     })
 
 -- The ban waits for each object that has one of the numbers, which were drawn and whose fetches are closed.
@@ -315,10 +331,10 @@ by_call : (beginning : Beginning) (state : State) (numbers : List ℕ) (issued :
     → AllWait (with_heir numbers call reply) issued (after beginning state caller moment call reply).objects ⊎ IsTested beginning state (record { caller = caller; moment = moment; call = call; reply = reply }) numbers issued
 by_call beginning state numbers issued caller moment (Lookup query) reply may all shut once =
     let now : State = at_moment moment state in
-    let is : after beginning state caller moment (Lookup query) reply ≡ (looked_up now caller query).state = after-lawful beginning state caller moment (Lookup query) reply may in
+    let is : after beginning state caller moment (Lookup query) reply ≡ record (looked_up now caller query).state { entries = state.entries + 1 } = after-lawful beginning state caller moment (Lookup query) reply may in
     by_found now is (looked_waits numbers issued query now caller all)
   where
-    by_found : (now : State) → after beginning state caller moment (Lookup query) reply ≡ (looked_up now caller query).state → WaitsOrFound numbers issued query (at_moment moment state).objects (looked_up now caller query).state.objects
+    by_found : (now : State) → after beginning state caller moment (Lookup query) reply ≡ record (looked_up now caller query).state { entries = state.entries + 1 } → WaitsOrFound numbers issued query (at_moment moment state).objects (looked_up now caller query).state.objects
         → AllWait numbers issued (after beginning state caller moment (Lookup query) reply).objects ⊎ IsTested beginning state (record { caller = caller; moment = moment; call = Lookup query; reply = reply }) numbers issued
     by_found now is (inl waits) = inl (subst (λ (s : State). AllWait numbers issued s.objects) (sym is) waits)
     by_found now is (inr found) =
@@ -416,7 +432,7 @@ given_tested params boot before between behind ban entry words query view number
     let follows = follows_from beginning beginning.base 0 before (between ++ entry ∷ behind) ban legal.each in
     let shut = shut_once_stored beginning beginning.base 0 number before (ban ∷ (between ++ entry ∷ behind)) legal.each (once_in_run number params boot []) stored in
     let waits : AllWait (number ∷ []) issued next.objects =
-    subst (λ (s : State). AllWait (number ∷ []) issued s.objects) (sym (banned_after beginning state ban words follows called)) (over_waits (number ∷ []) issued (at_moment ban.moment state).objects other) in
+    subst (AllWait (number ∷ []) issued) (sym (banned_after beginning state ban words follows called)) (over_waits (number ∷ []) issued (at_moment ban.moment state).objects other) in
     let tracked : Tracked (number ∷ []) issued next = record { waits = waits; shut = (shut_later beginning state (ban ∷ []) number shut, tt) } in
     let is = legal_looked_up beginning (before ++ ban ∷ between) behind entry (subst (Legal beginning) (sym (append_behind before between ban (entry ∷ behind))) legal) (given_says entry.reply view told) in
     let rest = legal_behind beginning beginning.base 0 before (ban ∷ (between ++ entry ∷ behind)) legal.each in

@@ -27,8 +27,8 @@ loads_next room state caller (Lookup query) =
     looked_leaf (LoadsNext state) state caller query (record { rises = omega arith; next = λ n e. cc }) (record {
       misses = λ objects stale. record { rises = omega arith; next = λ n e. cc };
       hits = λ objects view. record { rises = omega arith; next = λ n e. cc };
-      hits_miss = λ objects. record { rises = omega arith; next = λ n e. cc };
-      passes = λ objects. record { rises = omega arith; next = λ n e. cc };
+      hits_miss = λ objects view. record { rises = omega arith; next = λ n e. cc };
+      passes = λ objects view. record { rises = omega arith; next = λ n e. cc };
       graces = λ objects view. record { rises = omega arith; next = λ n e. cc };
       graces_alone = λ objects view. record { rises = omega arith; next = λ n e. cc };
       waits = λ objects token. record { rises = omega arith; next = λ n e. cc };

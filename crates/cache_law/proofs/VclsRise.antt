@@ -91,8 +91,8 @@ rise_behind room state caller (Lookup query) is =
     looked_leaf RiseBehind state caller query is (record {
       misses = λ objects stale. rise_on state _ is refl refl;
       hits = λ objects view. rise_on state _ is refl refl;
-      hits_miss = λ objects. rise_on state _ is refl refl;
-      passes = λ objects. rise_on state _ is refl refl;
+      hits_miss = λ objects view. rise_on state _ is refl refl;
+      passes = λ objects view. rise_on state _ is refl refl;
       graces = λ objects view. rise_on state _ is refl refl;
       graces_alone = λ objects view. rise_on state _ is refl refl;
       waits = λ objects token. rise_on state _ is refl refl;
@@ -140,7 +140,7 @@ rise_from beginning state [] is = is
 rise_from beginning state (e ∷ es) is =
     let now : VclsRise (at_moment e.moment state) = rise_on state _ is refl refl in
     rise_from beginning (next_state beginning state e) es
-    (behind_either VclsRise e.reply _ _ (rise_refused (at_moment e.moment state) e.call now) (rise_behind beginning.params.room (at_moment e.moment state) e.caller e.call now))
+    (rise_on _ _ (behind_either VclsRise e.reply _ _ (rise_refused (at_moment e.moment state) e.call now) (rise_behind beginning.params.room (at_moment e.moment state) e.caller e.call now)) refl refl)
 
 above_one : (loaded other : LoadedVcl) (vcls : List LoadedVcl) → Above loaded vcls → IsOneOf other vcls → loaded.vcl.number < other.vcl.number
 above_one loaded other [] above one = absurd one

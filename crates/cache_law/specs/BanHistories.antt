@@ -35,7 +35,7 @@ WasStored number (entry ∷ entries) = (entry.reply ≡ Stored number) ⊎ WasSt
 
 -- the ban that an entry issues in the state
 abbrev pub issued_in : State → Entry → BanWords → Issued
-issued_in state entry words = issued_behind state.bans entry.moment words
+issued_in state entry words = issued_behind state.issued entry.moment words
 
 -- In the state an object of the number was there and in time when the entry issued the ban, which didn't match it.
 pub record WasSpared (state : State) (entry : Entry) (words : BanWords) (number : ℕ) : Type 0 where

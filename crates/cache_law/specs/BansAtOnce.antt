@@ -1,6 +1,6 @@
 -- What a ban does when it is issued, and what a lookup does with the bans that an object has still to be tested on
 -- (Varnish Users Guide, "Purging and banning").
-use Rattle.std.specs.Prelude.{ℕ, ◌+◌, Bool, false, not, List, [], ◌∷◌, filter, map, length, if◌then◌else◌}
+use Rattle.std.specs.Prelude.{ℕ, ◌+◌, Bool, false, not, List, [], ◌∷◌, filter, map, if◌then◌else◌}
 use Rattle.std.specs.List.{list_any, AllByRecursion}
 use Rattle.cache_law.specs.declared.ban.Ban.{Ban}
 use Rattle.cache_law.specs.declared.ban.BanLine.{BanLine}
@@ -10,9 +10,9 @@ use Rattle.cache_law.specs.Bans.{matches, meets, object_only}
 use Rattle.cache_law.specs.ShownBans.{IsPartOf}
 use Rattle.cache_law.specs.State.{Held}
 
--- the ban that is issued at the moment behind these, which are all that were issued
-abbrev pub issued_behind : List Issued → ℕ → Ban → Issued
-issued_behind bans moment ban = record { number = length bans + 1; moment = moment; ban = ban }
+-- the ban that is issued at the moment behind so many
+abbrev pub issued_behind : ℕ → ℕ → Ban → Issued
+issued_behind issued moment ban = record { number = issued + 1; moment = moment; ban = ban }
 
 -- the ban is put onto what the object has still to be tested on
 abbrev pub awaiting : Issued → Held → Held

@@ -18,6 +18,8 @@ boot_vcl boot = record { number = 1; name = codes "boot"; text = boot.text; back
 abbrev pub base_of : Boot → State
 base_of boot =
     record {
+      entries = 0;
+      issued = 0;
       moment = 0;
       next = 1;
       next_vcl = 2;

@@ -1,5 +1,5 @@
 -- What each call answers together with the state that it leaves, and what may be answered in its place.
-use Rattle.std.specs.Prelude.{◌≡◌, ◌≢◌, ◌⊎◌, ℕ, Bool, true, false, List, ◌∷◌, ◌+◌, ◌==◌, Option, Some, None, nat_lt, if◌then◌else◌}
+use Rattle.std.specs.Prelude.{◌≡◌, ◌≢◌, ◌⊎◌, ℕ, Bool, true, false, List, ◌∷◌, ◌+◌, ◌==◌, Option, Some, None, if◌then◌else◌}
 use Rattle.std.specs.List.{list_any}
 use Rattle.std.specs.Str.{bytes_eq}
 use Rattle.cache_law.specs.declared.object.Object.{Object}
@@ -23,9 +23,10 @@ use Rattle.cache_law.specs.Purges.{count_of, has_key, without_key, has_xkey, xke
 use Rattle.cache_law.specs.Targets.{with_health, chosen, counted_on, name_at}
 use Rattle.cache_law.specs.Vcls.{is_taken, called, numbered, with_vcl, without_vcl, those_staying, vcl_lines}
 use Rattle.cache_law.specs.Object.{in_time, size_of}
-use Rattle.cache_law.specs.State.{State, Held, at_moment, has_round, has_fetch, least_token, with_wait, without_fetch, without_fetches_of, without_round_of, is_gone, without_stale, stored_over, sizes_of}
+use Rattle.cache_law.specs.State.{State, Held, at_moment, has_round, has_fetch, least_token, with_wait, without_fetch, without_fetches_of, without_round_of, is_gone, without_stale}
+use Rattle.cache_law.specs.Room.{has_no_room, stored_over}
 use Rattle.cache_law.specs.Beginning.{Beginning}
-use Rattle.cache_law.specs.Lookup.{Scan, scanned, raised, counted}
+use Rattle.cache_law.specs.Lookup.{Scan, scanned, raised, counted, touched}
 
 -- a reply, and the state behind it
 pub record Step : Type 0 where
@@ -68,15 +69,20 @@ fetching state caller key =
 abbrev pub missed : State → ℕ → List (List ℕ) → Option ObjectView → Step
 missed state caller key stale = record { reply = Miss state.next stale; state = fetching state caller key }
 
--- the object's hit is counted
+-- the object is used, and its hit is counted
 abbrev pub with_hit : State → ObjectView → State
-with_hit state view = record state { objects = counted view.number state.objects }
+with_hit state view = record state { objects = counted state.entries view.number state.objects }
+
+-- the marker is used
+abbrev pub with_use : State → ObjectView → State
+with_use state view = record state { objects = touched state.entries view.number state.objects }
 
 -- what an object gives that is fresh: itself, or what it is a marker of
 abbrev pub found_fresh : State → ℕ → List (List ℕ) → ObjectView → Object → Step
 found_fresh state caller key view (Ordinary response) = leaving (with_hit state view) (Hit (raised view))
-found_fresh state caller key view (HitForMiss marker) = record { reply = HitMiss state.next; state = fetching state caller key }
-found_fresh state caller key view (HitForPass marker) = leaving state HitPass
+found_fresh state caller key view (HitForMiss marker) =
+    record { reply = HitMiss state.next; state = fetching (with_use state view) caller key }
+found_fresh state caller key view (HitForPass marker) = leaving (with_use state view) HitPass
 
 -- An object in grace is given, with a token exactly where no fetch of the key is open.
 abbrev pub found_grace : State → ℕ → List (List ℕ) → ObjectView → Option ℕ → Step
@@ -130,17 +136,18 @@ looked_up state caller query = in_round state caller (remembered caller (sought 
 abbrev pub closing : ℕ → State → Reply → Step
 closing token state reply = record { reply = reply; state = record state { fetches = without_fetch token state.fetches } }
 
--- the object stands first, in the stale one's place, and its fetch is closed
-abbrev pub stored : State → ℕ → Object → Option ℕ → Step
-stored state token object stale = closing token (record state { objects = stored_over token object stale state.objects }) (Stored token)
+-- the object stands first, in the stale one's place, those that it displaces are gone, and its fetch is closed
+abbrev pub stored : ℕ → State → ℕ → Object → Option ℕ → Step
+stored room state token object stale =
+    closing token (record state { objects = stored_over room state.entries token object stale state.objects }) (Stored token)
 
--- the object has to be in time, and its size to find room beside those that stay
+-- the object has to be in time, and room for it to be there or to be made
 abbrev pub placed : ℕ → State → ℕ → Object → Option ℕ → Step
 placed room state token object stale =
     if in_time state.moment object
-    then (if nat_lt room (sizes_of (without_stale stale state.objects) + size_of object)
+    then (if has_no_room room (size_of object) (without_stale stale state.objects)
     then closing token state NoRoom
-    else stored state token object stale)
+    else stored room state token object stale)
     else closing token state NotInTime
 
 -- An insertion of an open fetch; where the stale object is gone, the fetch stays open.
@@ -157,11 +164,11 @@ abbrev pub banned_by : State → Issued → Step
 banned_by state issued =
     record {
       reply = Banned;
-      state = record state { bans = issued ∷ state.bans; objects = ban_over issued state.objects };
+      state = record state { issued = state.issued + 1; bans = issued ∷ state.bans; objects = ban_over issued state.objects };
     }
 
 abbrev pub banned : State → BanWords → Step
-banned state ban = banned_by state (issued_behind state.bans state.moment ban)
+banned state ban = banned_by state (issued_behind state.issued state.moment ban)
 
 -- A purge removes the objects of the key, and counts them.
 abbrev pub purged : State → List (List ℕ) → Step
@@ -294,7 +301,9 @@ abbrev pub behind : Reply → State → State → State
 behind Refused refusal law = refusal
 behind reply refusal law = law
 
--- the state that a call with this reply leaves
+-- the state that a call with this reply leaves, with one more entry
 abbrev pub after : Beginning → State → ℕ → ℕ → Call → Reply → State
 after beginning state caller moment call reply =
-    behind reply (refused (at_moment moment state) call) (step_of beginning state caller moment call).state
+    record (behind reply (refused (at_moment moment state) call) (step_of beginning state caller moment call).state) {
+      entries = state.entries + 1;
+    }

@@ -1,6 +1,7 @@
 pub mod Object
 pub mod Bans
 pub mod State
+pub mod Room
 pub mod Vcls
 pub mod Targets
 pub mod Purges

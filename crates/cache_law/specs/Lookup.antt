@@ -56,13 +56,22 @@ is_in_grace moment options object = lt_z (pos moment) (grace_until options objec
 abbrev pub raised : ObjectView → ObjectView
 raised view = record view { hits = min (view.hits + 1) (2 ^ 64 - 1) }
 
--- the object has one more hit where it has this number
-abbrev pub counting : ℕ → Held → Held
-counting number held = if held.view.number == number then record held { view = raised held.view } else held
+-- the object has one more hit, and was used at this place of the history, where it has this number
+abbrev pub counting : ℕ → ℕ → Held → Held
+counting place number held =
+    if held.view.number == number then record held { view = raised held.view; used = place } else held
 
--- the objects, of which that of this number has one more hit
-abbrev pub counted : ℕ → List Held → List Held
-counted number objects = map (counting number) objects
+-- the objects, of which that of this number has one more hit and was used at this place
+abbrev pub counted : ℕ → ℕ → List Held → List Held
+counted place number objects = map (counting place number) objects
+
+-- the object was used at this place where it has this number
+abbrev pub touching : ℕ → ℕ → Held → Held
+touching place number held = if held.view.number == number then record held { used = place } else held
+
+-- the objects, of which that of this number was used at this place
+abbrev pub touched : ℕ → ℕ → List Held → List Held
+touched place number objects = map (touching place number) objects
 
 -- What a scan of objects of any kind found, and what it leaves of them: a fresh object, which ended it, and of the
 -- objects before it the first that is in grace and the first that the backend may confirm.

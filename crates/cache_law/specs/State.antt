@@ -13,12 +13,17 @@ use Rattle.cache_law.specs.declared.vcl.Counter.{Counter}
 use Rattle.cache_law.specs.declared.vcl.ForcedHealth.{ForcedHealth}
 use Rattle.cache_law.specs.Object.{in_time, size_of, same_texts}
 
--- a stored object, and the bans that a lookup has still to test it on, newest first
+-- A stored object, the place in the history of the entry that used it last, and the bans that a lookup has still to test it
+-- on, newest first. What stored it or gave it, or was told what it is a marker of, used it.
 pub record Held : Type 0 where
   pub view : ObjectView
+  pub used : ℕ
   pub pending : List Issued
 
 pub record State : Type 0 where
+  -- how many entries there are, and how many bans were issued, from a run's beginning on
+  pub entries : ℕ
+  pub issued : ℕ
   -- the moment of the newest entry
   pub moment : ℕ
   -- the next number to be drawn
@@ -120,11 +125,6 @@ without_stale (Some stale) objects = filter (λ held. not (held.view.number == s
 abbrev pub inherited : Option ℕ → List Held → List Issued
 inherited None objects = []
 inherited (Some stale) objects = option_map_or (λ held. held.pending) (find (λ held. held.view.number == stale) objects) []
-
--- the objects with one more before them, under the number of its fetch: it takes the stale one's place
-abbrev pub stored_over : ℕ → Object → Option ℕ → List Held → List Held
-stored_over token object stale objects =
-    record { view = record { number = token; hits = 0; object = object }; pending = inherited stale objects } ∷ without_stale stale objects
 
 -- the sizes of the objects
 abbrev pub sizes_of : List Held → ℕ

@@ -15,6 +15,7 @@ mod call;
 mod laws;
 mod matching;
 mod object;
+mod room_laws;
 pub mod rounds;
 mod setting;
 mod state;
@@ -36,6 +37,7 @@ pub use laws::{
 };
 pub use matching::{can_confirm, is_chosen_by, is_fresh_for, is_in_grace_for, matches};
 pub use object::{Content, Marker, Object, ObjectView, Response, VaryItem, is_in_time};
+pub use room_laws::{objects_are_used_apart, room_is_made};
 pub use setting::{Boot, Params};
 pub use state::{OpenFetch, OpenRound};
 pub use vcl::{Counter, ForcedHealth, Health, LoadedVcl, Vcl, VclLine, VclSource, VclState};

@@ -14,7 +14,7 @@ pub fn key(alloc: Global, words: &str) -> Result<Sequence<Text>, AllocError> {
     Ok(key)
 }
 
-/// What was fetched: an object with `body`, `ttl`, `grace`, `keep`, `xkeys` and fields, of a response that varies by the field
+/// What was fetched: an object with `body` or so many `bytes`, `ttl`, `grace`, `keep`, `xkeys` and fields, of a response that varies by the field
 /// `X` with the values `vary` or by more than fields; or a marker with `ttl`.
 pub fn object(alloc: Global, words: &str) -> Result<Shared<Object>, AllocError> {
     let object = if words::has(words, "hit_for_miss") {
@@ -61,9 +61,21 @@ fn content(alloc: Global, words: &str) -> Result<Content, AllocError> {
         status: 200,
         reason: Text::of(alloc, b"")?,
         fields: words::fields(alloc, words)?,
-        body: words::text(alloc, words, "body")?,
+        body: body(alloc, words)?,
         xkeys: words::texts(alloc, words, "xkeys")?,
     })
+}
+
+// `body`, or as many bytes as `bytes` says.
+fn body(alloc: Global, words: &str) -> Result<Text, AllocError> {
+    let Some(count) = words::count(words, "bytes") else {
+        return words::text(alloc, words, "body");
+    };
+    let mut bytes = Vec::new(alloc);
+    for _ in 0..count {
+        bytes.push(b'a')?;
+    }
+    Text::from_vec(bytes)
 }
 
 fn vary(alloc: Global, words: &str) -> Result<Sequence<VaryItem>, AllocError> {

@@ -1,5 +1,6 @@
 pub mod Passes
 pub mod Objects
+pub mod MadeRoom
 pub mod Scans
 pub mod Bannings
 pub mod Tested

@@ -2,18 +2,17 @@
 use Rattle.std.proofs.Common.{◌≡◌, ℕ, Bool, true, false, not, cond, List, [], ◌∷◌, ◌++◌, ◌+◌, ◌-◌, ◌<◌, zero, suc, ◌&&◌, ◌||◌, ◌==◌, length, take, drop, get_or, add-one, append_assoc, find, filter, map, Option, Some, None, refl, arith, sym, ap, ◌∙◌}
 use Rattle.std.specs.List.{list_all, list_any}
 use Rattle.std.proofs.lemmas.Bool.{and_parts}
-use Rattle.std.proofs.lemmas.List.Sums.{sum_by-cons}
 use Rattle.std.specs.Option.{option_map_or, option_or}
 use Rattle.std.proofs.lemmas.List.Folds.{find-append}
 use Rattle.cache_law.specs.declared.ban.Issued.{Issued}
-use Rattle.cache_law.specs.Object.{in_time, size_of}
+use Rattle.cache_law.specs.Object.{in_time}
 use Rattle.cache_law.specs.BansAtOnce.{cleared}
-use Rattle.cache_law.specs.State.{Held, those_in_time, without_stale, inherited, sizes_of}
-use Rattle.cache_law.specs.Lookup.{raised, counting, counted}
+use Rattle.cache_law.specs.State.{Held, those_in_time, without_stale, inherited}
+use Rattle.cache_law.specs.Lookup.{raised, counting, counted, touching, touched}
 use Rattle.flat_core.specs.declared.stored_object.StoredObject.{StoredObject}
 use Rattle.flat_core.specs.declared.stored_object.Fate.{Fate}
 use Rattle.flat_core.specs.declared.stored_object.Fate.TheVariants.{Stays, Tested, Goes}
-use Rattle.flat_core.specs.StoredObject.{waiting, held_of, held_all, left_of, settled, held_left, settled_held, is_change, moved_on, counted_in, stays, size_staying, sizes_staying, tested_for}
+use Rattle.flat_core.specs.StoredObject.{waiting, held_of, held_all, left_of, settled, held_left, settled_held, is_change, moved_on, counted_in, touched_in, stays, tested_for}
 use Rattle.flat_core.proofs.Passes.{at_next, drop_all, take_all}
 
 -- nothing waits for an object that was tested on all bans
@@ -43,30 +42,48 @@ filter-all now (kept ∷ objects) e =
     kept_whole (in_time now kept.view.object) kept objects _ both.0 (sym (filter-all now objects both.1))
 
 -- an object with a hit counted, in memory and by the law
-one_counted : (bans : List Issued) (b : Bool) (kept : StoredObject) → held_of bans (cond b (record kept { view = raised kept.view }) kept) ≡ cond b (record (held_of bans kept) { view = raised kept.view }) (held_of bans kept)
-one_counted bans true kept = refl
-one_counted bans false kept = refl
+one_counted : (bans : List Issued) (place : ℕ) (b : Bool) (kept : StoredObject) → held_of bans (cond b (record kept { view = raised kept.view; used = place }) kept) ≡ cond b (record (held_of bans kept) { view = raised kept.view; used = place }) (held_of bans kept)
+one_counted bans place true kept = refl
+one_counted bans place false kept = refl
 
-pub held_all-counted : (bans : List Issued) (number : ℕ) (objects : List StoredObject) → held_all bans (map (counted_in number) objects) ≡ counted number (held_all bans objects)
-held_all-counted bans number [] = refl
-held_all-counted bans number (kept ∷ objects) =
-    ap (λ (held : Held). held ∷ held_all bans (map (counted_in number) objects)) (one_counted bans (kept.view.number == number) kept)
-    ∙ ap (λ (rest : List Held). counting number (held_of bans kept) ∷ rest) (held_all-counted bans number objects)
+pub held_all-counted : (bans : List Issued) (place number : ℕ) (objects : List StoredObject) → held_all bans (map (counted_in place number) objects) ≡ counted place number (held_all bans objects)
+held_all-counted bans place number [] = refl
+held_all-counted bans place number (kept ∷ objects) =
+    ap (λ (held : Held). held ∷ held_all bans (map (counted_in place number) objects)) (one_counted bans place (kept.view.number == number) kept)
+    ∙ ap (λ (rest : List Held). counting place number (held_of bans kept) ∷ rest) (held_all-counted bans place number objects)
 
-same_time : (now : ℕ) (b : Bool) (held : Held) → in_time now (cond b (record held { view = raised held.view }) held).view.object ≡ in_time now held.view.object
-same_time now true held = refl
-same_time now false held = refl
+-- an object that is used, in memory and by the law
+one_touched : (bans : List Issued) (place : ℕ) (b : Bool) (kept : StoredObject) → held_of bans (cond b (record kept { used = place }) kept) ≡ cond b (record (held_of bans kept) { used = place }) (held_of bans kept)
+one_touched bans place true kept = refl
+one_touched bans place false kept = refl
 
-counted_or_not : (number : ℕ) (held : Held) (lives : Bool) (late early : List Held) → late ≡ counted number early → cond lives (counting number held ∷ late) late ≡ counted number (cond lives (held ∷ early) early)
-counted_or_not number held true late early e = ap (λ (rest : List Held). counting number held ∷ rest) e
-counted_or_not number held false late early e = e
+pub held_all-touched : (bans : List Issued) (place number : ℕ) (objects : List StoredObject) → held_all bans (map (touched_in place number) objects) ≡ touched place number (held_all bans objects)
+held_all-touched bans place number [] = refl
+held_all-touched bans place number (kept ∷ objects) =
+    ap (λ (held : Held). held ∷ held_all bans (map (touched_in place number) objects)) (one_touched bans place (kept.view.number == number) kept)
+    ∙ ap (λ (rest : List Held). touching place number (held_of bans kept) ∷ rest) (held_all-touched bans place number objects)
+
+mapped_or_not : (f : Held → Held) (held : Held) (lives : Bool) (late early : List Held) → late ≡ map f early → cond lives (f held ∷ late) late ≡ map f (cond lives (held ∷ early) early)
+mapped_or_not f held true late early e = ap (λ (rest : List Held). f held ∷ rest) e
+mapped_or_not f held false late early e = e
+
+-- what changes no object's time leaves in time what is in time
+in_time-map : (now : ℕ) (f : Held → Held) → ((held : Held) → in_time now (f held).view.object ≡ in_time now held.view.object) → (objects : List Held) → those_in_time now (map f objects) ≡ map f (those_in_time now objects)
+in_time-map now f same [] = refl
+in_time-map now f same (held ∷ objects) =
+    ap (λ (b : Bool). cond b (f held ∷ those_in_time now (map f objects)) (those_in_time now (map f objects))) (same held)
+    ∙ mapped_or_not f held (in_time now held.view.object) _ _ (in_time-map now f same objects)
+
+same_time : (now : ℕ) (b : Bool) (one two : Held) → one.view.object ≡ two.view.object → in_time now (cond b one two).view.object ≡ in_time now two.view.object
+same_time now true one two e = ap (in_time now) e
+same_time now false one two e = refl
 
 -- a hit changes nothing of an object's time
-pub in_time-counted : (now number : ℕ) (objects : List Held) → those_in_time now (counted number objects) ≡ counted number (those_in_time now objects)
-in_time-counted now number [] = refl
-in_time-counted now number (held ∷ objects) =
-    ap (λ (b : Bool). cond b (counting number held ∷ those_in_time now (counted number objects)) (those_in_time now (counted number objects))) (same_time now (held.view.number == number) held)
-    ∙ counted_or_not number held (in_time now held.view.object) _ _ (in_time-counted now number objects)
+pub in_time-counted : (now place number : ℕ) (objects : List Held) → those_in_time now (counted place number objects) ≡ counted place number (those_in_time now objects)
+in_time-counted now place number objects = in_time-map now (counting place number) (λ held. same_time now (held.view.number == number) _ held refl) objects
+
+pub in_time-touched : (now place number : ℕ) (objects : List Held) → those_in_time now (touched place number objects) ≡ touched place number (those_in_time now objects)
+in_time-touched now place number objects = in_time-map now (touching place number) (λ held. same_time now (held.view.number == number) _ held refl) objects
 
 or_same : (a later : Bool) → (a || later) ≡ ((a && true) || later)
 or_same true later = refl
@@ -106,19 +123,6 @@ pub inherits : (bans : List Issued) (stale : Option ℕ) (objects : List StoredO
 inherits bans None objects = none_waits bans
 inherits bans (Some stale) [] = none_waits bans
 inherits bans (Some stale) (kept ∷ objects) = inherits_one bans (kept.view.number == stale) kept _ _ (inherits bans (Some stale) objects)
-
-size_or_not : (bans : List Issued) (b : Bool) (kept : StoredObject) (rest : List Held) → sizes_of (cond b (held_of bans kept ∷ rest) rest) ≡ cond b (size_of kept.view.object) 0 + sizes_of rest
-size_or_not bans true kept rest = sum_by-cons (λ (held : Held). size_of held.view.object) (held_of bans kept) rest
-size_or_not bans false kept rest = omega arith
-
--- the sizes of those that stay
-pub sizes_that_stay : (bans : List Issued) (stale : Option ℕ) (objects : List StoredObject) → sizes_staying stale objects ≡ sizes_of (without_stale stale (held_all bans objects))
-sizes_that_stay bans None [] = refl
-sizes_that_stay bans None (kept ∷ objects) =
-    omega (arith, sum_by-cons (size_staying None) kept objects, sum_by-cons (λ (held : Held). size_of held.view.object) (held_of bans kept) (held_all bans objects), sizes_that_stay bans None objects)
-sizes_that_stay bans (Some stale) [] = refl
-sizes_that_stay bans (Some stale) (kept ∷ objects) =
-    omega (arith, sum_by-cons (size_staying (Some stale)) kept objects, size_or_not bans (not (kept.view.number == stale)) kept (without_stale (Some stale) (held_all bans objects)), sizes_that_stay bans (Some stale) objects)
 
 -- what is left of the objects, in memory and by the law
 one_left : (bans : List Issued) (fate : Fate) (kept : StoredObject) (objects : List StoredObject) (rest : List Held) → held_all bans objects ≡ rest → held_all bans (left_of (length bans) fate kept ++ objects) ≡ held_left fate (held_of bans kept) ++ rest

@@ -1,6 +1,6 @@
 -- What each answer of the plain cache leaves is what the law leaves.
-use Rattle.std.proofs.Common.{◌≡◌, ◌≢◌, ℕ, Bool, true, false, cond, List, [], ◌∷◌, ◌+◌, ◌<◌, ◌≤◌, ◌++◌, ◌^◌, length, map, filter, Option, Some, None, nat_lt, inr, refl, arith, sym, ap, ◌∙◌, subst}
-use Rattle.std.proofs.lemmas.Bool.{cond-true, cond-false, lt-ltb, le-ltb, ltb-true, eq-eqb, ne_eqb}
+use Rattle.std.proofs.Common.{◌≡◌, ◌≢◌, ℕ, Bool, true, false, cond, List, [], ◌∷◌, ◌+◌, ◌<◌, ◌++◌, ◌^◌, length, map, filter, Option, Some, None, nat_lt, inr, refl, arith, sym, ap, ◌∙◌, subst}
+use Rattle.std.proofs.lemmas.Bool.{cond-true, cond-false, ltb-true, eq-eqb, ne_eqb}
 use Rattle.std.specs.List.{list_any}
 use Rattle.std.specs.Str.{bytes_eq}
 use Rattle.cache_law.specs.declared.object.Object.{Object}
@@ -29,8 +29,8 @@ use Rattle.cache_law.specs.Vcls.{called, is_taken, numbered, those_staying, with
 use Rattle.cache_law.specs.History.{is_numbered}
 use Rattle.cache_law.specs.ShownBans.{ShowsBans}
 use Rattle.cache_law.specs.BansAtOnce.{issued_behind, ban_over, open_lines}
-use Rattle.cache_law.specs.State.{State, Held, those_in_time, at_moment, has_round, has_fetch, with_wait, without_fetch, without_fetches_of, without_round_of, is_gone, without_stale, stored_over, sizes_of}
-use Rattle.cache_law.specs.Lookup.{counted}
+use Rattle.cache_law.specs.State.{State, Held, those_in_time, at_moment, has_round, has_fetch, with_wait, without_fetch, without_fetches_of, without_round_of, is_gone, without_stale}
+use Rattle.cache_law.specs.Room.{staying, has_no_room, stored_over}
 use Rattle.cache_law.specs.Law.{Step, behind, refused, leaving, begun, drawn, closing, placed, inserted, banned, purged_by, picked_at, health_set, loaded, loaded_as, switched, switched_to, discarded, discarded_of, vcls_listed, dropped, ended, wait_in, IsBanList}
 use Rattle.cache_law.proofs.Moments.{those_in_time-later}
 use Rattle.cache_law.proofs.Lawful.{asks_bans, is_refusal, behind_lawful, MayAnswer-lawful}
@@ -41,12 +41,14 @@ use Rattle.flat_core.specs.declared.stored_object.Fate.{Fate}
 use Rattle.flat_core.specs.declared.finding.Finding.{Finding}
 use Rattle.flat_core.specs.declared.finding.Finding.TheVariants.{Hit, HitMiss, HitPass, Grace, GraceAlone, Wait, Miss}
 use Rattle.flat_core.specs.declared.finding.Found.{Found}
-use Rattle.flat_core.specs.StoredObject.{held_of, held_all, AreTested, settled, settled_held, counting_in, stays as staying, sizes_staying, first_of}
-use Rattle.flat_core.specs.Found.{opens_fetch, hit_in, reply_of, next_after, counted_for, opened_for, told_so}
+use Rattle.flat_core.specs.StoredObject.{held_of, held_all, AreTested, settled, settled_held, counting_in, touching_in, first_of}
+use Rattle.flat_core.specs.Room.{stays_from, MakesRoom, HasNone}
+use Rattle.flat_core.specs.Found.{opens_fetch, hit_in, marker_in, reply_of, next_after, counted_for, touched_for, opened_for, told_so}
 use Rattle.flat_core.specs.Banning.{ban_fates}
 use Rattle.flat_core.specs.Purging.{has_xkey, is_purged, is_spared, softening}
 use Rattle.flat_core.specs.Step.{Answers}
-use Rattle.flat_core.proofs.Objects.{held_all-filter, held_all-counted, held_all-settled, in_time-counted, held_all-stays, inherits, sizes_that_stay}
+use Rattle.flat_core.proofs.Objects.{held_all-filter, held_all-counted, held_all-touched, held_all-settled, in_time-counted, in_time-touched, inherits}
+use Rattle.flat_core.proofs.MadeRoom.{stay_so, room_so, none_so}
 use Rattle.flat_core.proofs.Bannings.{all_listed, bans_over}
 use Rattle.flat_core.proofs.Purges.{of_object, not_of_object, counts, spared, softened_so}
 
@@ -121,53 +123,78 @@ pub draws : (old : State) (now caller : ℕ) (answer : Answer) → has_round old
 draws old now caller answer opened told kept =
     by_parts old now Draw (drawn (at_moment now old) caller) (Drawn old.next) (old.next + 1) old.objects (those_in_time now old.objects) old.fetches old.fetches old.rounds old.rounds answer refl (cond-true _ _ _ opened) refl (sym (once now old.objects)) refl refl told kept
 
--- the hit is counted in memory as by the law
-counted_left : (now : ℕ) (bans : List Issued) (fates : List Fate) (objects later : List StoredObject) (hit : Option ℕ) → later ≡ counting_in hit (settled (length bans) fates objects)
-    → those_in_time now (held_all bans later) ≡ those_in_time now (counted_for hit (those_in_time now (settled_held fates (held_all bans objects))))
-counted_left now bans fates objects later None counts =
-    ap (λ (k : List StoredObject). those_in_time now (held_all bans k)) counts
-    ∙ ap (those_in_time now) (held_all-settled bans fates objects)
-    ∙ sym (once now (settled_held fates (held_all bans objects)))
-counted_left now bans fates objects later (Some number) counts =
+-- the hit is counted in memory as by the law, and a marker is used
+counted_all : (place : ℕ) (bans : List Issued) (hit : Option ℕ) (objects : List StoredObject) → held_all bans (counting_in place hit objects) ≡ counted_for place hit (held_all bans objects)
+counted_all place bans None objects = refl
+counted_all place bans (Some number) objects = held_all-counted bans place number objects
+
+touched_all : (place : ℕ) (bans : List Issued) (marker : Option ℕ) (objects : List StoredObject) → held_all bans (touching_in place marker objects) ≡ touched_for place marker (held_all bans objects)
+touched_all place bans None objects = refl
+touched_all place bans (Some number) objects = held_all-touched bans place number objects
+
+counted_in_time : (now place : ℕ) (hit : Option ℕ) (objects : List Held) → those_in_time now (counted_for place hit objects) ≡ counted_for place hit (those_in_time now objects)
+counted_in_time now place None objects = refl
+counted_in_time now place (Some number) objects = in_time-counted now place number objects
+
+touched_in_time : (now place : ℕ) (marker : Option ℕ) (objects : List Held) → those_in_time now (touched_for place marker objects) ≡ touched_for place marker (those_in_time now objects)
+touched_in_time now place None objects = refl
+touched_in_time now place (Some number) objects = in_time-touched now place number objects
+
+-- what a lookup uses
+abbrev used_for : ℕ → Finding → List Held → List Held
+used_for place finding objects = touched_for place (marker_in finding) (counted_for place (hit_in finding) objects)
+
+used_in_time : (now place : ℕ) (finding : Finding) (objects : List Held) → those_in_time now (used_for place finding objects) ≡ used_for place finding (those_in_time now objects)
+used_in_time now place finding objects =
+    touched_in_time now place (marker_in finding) (counted_for place (hit_in finding) objects)
+    ∙ ap (touched_for place (marker_in finding)) (counted_in_time now place (hit_in finding) objects)
+
+used_left : (now place : ℕ) (bans : List Issued) (fates : List Fate) (objects later : List StoredObject) (finding : Finding)
+    → later ≡ touching_in place (marker_in finding) (counting_in place (hit_in finding) (settled (length bans) fates objects))
+    → those_in_time now (held_all bans later) ≡ those_in_time now (used_for place finding (those_in_time now (settled_held fates (held_all bans objects))))
+used_left now place bans fates objects later finding uses =
     let left : List Held = settled_held fates (held_all bans objects) in
-    ap (λ (k : List StoredObject). those_in_time now (held_all bans k)) counts
-    ∙ ap (those_in_time now) (held_all-counted bans number (settled (length bans) fates objects))
-    ∙ ap (λ (o : List Held). those_in_time now (counted number o)) (held_all-settled bans fates objects)
-    ∙ in_time-counted now number left
-    ∙ ap (counted number) (sym (once now left))
-    ∙ sym (in_time-counted now number (those_in_time now left))
+    ap (λ (k : List StoredObject). those_in_time now (held_all bans k)) uses
+    ∙ ap (those_in_time now) (touched_all place bans (marker_in finding) (counting_in place (hit_in finding) (settled (length bans) fates objects)))
+    ∙ ap (λ (o : List Held). those_in_time now (touched_for place (marker_in finding) o)) (counted_all place bans (hit_in finding) (settled (length bans) fates objects))
+    ∙ ap (λ (o : List Held). those_in_time now (used_for place finding o)) (held_all-settled bans fates objects)
+    ∙ used_in_time now place finding left
+    ∙ ap (used_for place finding) (sym (once now left))
+    ∙ sym (used_in_time now place finding (those_in_time now left))
 
 no_refusal : (token : ℕ) (finding : Finding) → is_refusal (reply_of token finding) ≡ false
 no_refusal token (Hit view) = refl
-no_refusal token HitMiss = refl
-no_refusal token HitPass = refl
+no_refusal token (HitMiss number) = refl
+no_refusal token (HitPass number) = refl
 no_refusal token (Grace view) = refl
 no_refusal token (GraceAlone view) = refl
 no_refusal token (Wait other) = refl
 no_refusal token (Miss stale) = refl
 
 -- what a lookup in an open round leaves
-pub looks : (old : State) (bans : List Issued) (objects later : List StoredObject) (fetches : List OpenFetch) (rounds : List OpenRound) (next now caller : ℕ) (query : Query) (found : Found) (answer : Answer) → old.objects ≡ held_all bans objects → later ≡ counting_in (hit_in found.finding) (settled (length bans) found.fates objects) → next ≡ next_after (opens_fetch found.finding) old.next → fetches ≡ opened_for (opens_fetch found.finding) old.next caller query.key old.fetches → answer.told ≡ reply_of old.next found.finding → answer.kept ≡ reply_of old.next found.finding → rounds ≡ with_wait caller (wait_in answer.told) old.rounds → Answers old (record old { moment = now; next = next; objects = held_all bans later; fetches = fetches; rounds = rounds }) now (Lookup query) (told_so old now caller query.key (Some found)) answer
+pub looks : (old : State) (bans : List Issued) (objects later : List StoredObject) (fetches : List OpenFetch) (rounds : List OpenRound) (next now caller : ℕ) (query : Query) (found : Found) (answer : Answer) → old.objects ≡ held_all bans objects → later ≡ touching_in old.entries (marker_in found.finding) (counting_in old.entries (hit_in found.finding) (settled (length bans) found.fates objects)) → next ≡ next_after (opens_fetch found.finding) old.next → fetches ≡ opened_for (opens_fetch found.finding) old.next caller query.key old.fetches → answer.told ≡ reply_of old.next found.finding → answer.kept ≡ reply_of old.next found.finding → rounds ≡ with_wait caller (wait_in answer.told) old.rounds → Answers old (record old { moment = now; next = next; objects = held_all bans later; fetches = fetches; rounds = rounds }) now (Lookup query) (told_so old now caller query.key (Some found)) answer
 looks old bans objects later fetches rounds next now caller query found answer kept_ counts follows opens told kept runs =
     subst (λ (n : ℕ). Answers old (record old { moment = now; next = n; objects = held_all bans later; fetches = fetches; rounds = rounds }) now (Lookup query) (told_so old now caller query.key (Some found)) answer) (sym follows)
     (by_parts old now (Lookup query) _ (reply_of old.next found.finding) (next_after (opens_fetch found.finding) old.next) (held_all bans later) _ fetches _ rounds _ answer refl refl (no_refusal old.next found.finding)
-    (counted_left now bans found.fates objects later (hit_in found.finding) counts
-    ∙ ap (λ (o : List Held). those_in_time now (counted_for (hit_in found.finding) (those_in_time now (settled_held found.fates o)))) (sym kept_))
+    (used_left now old.entries bans found.fates objects later found.finding counts
+    ∙ ap (λ (o : List Held). those_in_time now (used_for old.entries found.finding (those_in_time now (settled_held found.fates o)))) (sym kept_))
     opens (runs ∙ ap (λ (r : Reply). with_wait caller (wait_in r) old.rounds) told) told kept)
 
 -- a ban is issued
-pub bans_so : (old : State) (objects later : List StoredObject) (all : List Issued) (issued : Issued) (ban : Ban) (fates : List Fate) (count now : ℕ) (answer : Answer) → old.objects ≡ held_all old.bans objects → AreTested old.bans objects → issued ≡ issued_behind old.bans now ban → all ≡ issued ∷ old.bans → fates ≡ ban_fates now ban objects → count ≡ length all → later ≡ settled count fates objects → answer.told ≡ Banned → answer.kept ≡ Banned → Answers old (record old { moment = now; bans = all; objects = held_all all later }) now (BanCall ban) (banned (at_moment now old) ban) answer
-bans_so old objects later all issued ban fates count now answer kept_ tested is_ pushed are counts settles told kept =
-    let one : Issued = issued_behind old.bans now ban in
+pub bans_so : (old : State) (objects later : List StoredObject) (all : List Issued) (issued : Issued) (ban : Ban) (fates : List Fate) (count now : ℕ) (answer : Answer) → old.objects ≡ held_all old.bans objects → old.issued ≡ length old.bans → AreTested old.bans objects → issued ≡ issued_behind old.issued now ban → all ≡ issued ∷ old.bans → fates ≡ ban_fates now ban objects → count ≡ length all → later ≡ settled count fates objects → answer.told ≡ Banned → answer.kept ≡ Banned → Answers old (record old { moment = now; issued = length all; bans = all; objects = held_all all later }) now (BanCall ban) (banned (at_moment now old) ban) answer
+bans_so old objects later all issued ban fates count now answer kept_ many tested is_ pushed are counts settles told kept =
+    let one : Issued = issued_behind old.issued now ban in
+    let more : length all ≡ old.issued + 1 = omega (arith, many, ap length pushed) in
     let left : later ≡ settled (length (one ∷ old.bans)) (ban_fates now ban objects) objects =
     settles ∙ ap (λ (f : List Fate). settled count f objects) are ∙ ap (λ (n : ℕ). settled n (ban_fates now ban objects) objects) (counts ∙ ap length (pushed ∙ ap (λ (i : Issued). i ∷ old.bans) is_)) in
     let whole : held_all all later ≡ held_all (one ∷ old.bans) (settled (length (one ∷ old.bans)) (ban_fates now ban objects) objects) =
     ap (λ (b : List Issued). held_all b later) (pushed ∙ ap (λ (i : Issued). i ∷ old.bans) is_) ∙ ap (held_all (one ∷ old.bans)) left in
     let over = bans_over now one old.bans objects refl tested in
-    by_law old (record old { moment = now; bans = all; objects = held_all all later }) now (BanCall ban) _ Banned
-    (record old { moment = now; bans = one ∷ old.bans; objects = ban_over one (those_in_time now old.objects) }) answer refl refl refl refl
-    (ap (λ (b : List Issued). record old { moment = now; bans = b; objects = those_in_time now (held_all all later) }) (pushed ∙ ap (λ (i : Issued). i ∷ old.bans) is_)
-    ∙ ap (λ (o : List Held). record old { moment = now; bans = one ∷ old.bans; objects = o })
+    by_law old (record old { moment = now; issued = length all; bans = all; objects = held_all all later }) now (BanCall ban) _ Banned
+    (record old { moment = now; issued = old.issued + 1; bans = one ∷ old.bans; objects = ban_over one (those_in_time now old.objects) }) answer refl refl refl refl
+    (ap (λ (n : ℕ). record old { moment = now; issued = n; bans = all; objects = those_in_time now (held_all all later) }) more
+    ∙ ap (λ (b : List Issued). record old { moment = now; issued = old.issued + 1; bans = b; objects = those_in_time now (held_all all later) }) (pushed ∙ ap (λ (i : Issued). i ∷ old.bans) is_)
+    ∙ ap (λ (o : List Held). record old { moment = now; issued = old.issued + 1; bans = one ∷ old.bans; objects = o })
     (ap (those_in_time now) whole
     ∙ sym (once now (held_all (one ∷ old.bans) (settled (length (one ∷ old.bans)) (ban_fates now ban objects) objects)))
     ∙ ap (those_in_time now) (over ∙ ap (λ (o : List Held). ban_over one (those_in_time now o)) (sym kept_)))) told kept
@@ -234,9 +261,6 @@ Gives i views answer = Answers i.old (keeping i views) i.now (Insert i.token i.o
 left_in_time : (i : Insertion) → kept_all i i.left ≡ those_in_time i.now i.old.objects
 left_in_time i = ap (kept_all i) i.thinned ∙ held_all-filter i.old.bans i.now i.views ∙ ap (those_in_time i.now) (sym i.kept)
 
-sizes_left : (i : Insertion) → sizes_staying i.stale i.left ≡ sizes_of (without_stale i.stale (those_in_time i.now i.old.objects))
-sizes_left i = sizes_that_stay i.old.bans i.stale i.left ∙ ap (λ (o : List Held). sizes_of (without_stale i.stale o)) (left_in_time i)
-
 same_left : (i : Insertion) → those_in_time i.now (kept_all i i.left) ≡ those_in_time i.now i.old.objects
 same_left i = ap (those_in_time i.now) (left_in_time i) ∙ once i.now i.old.objects
 
@@ -244,27 +268,31 @@ pub too_late : (room : ℕ) (old : State) (now caller token : ℕ) (object : Obj
 too_late room old now caller token object stale fetches answer opened here late closed told kept =
     closes old now (Insert token object stale) token _ NotInTime old.objects fetches answer refl (by_fetch room old now caller token object stale _ opened here (cond-false _ _ _ late)) refl refl closed told kept
 
-pub no_room : (i : Insertion) (answer : Answer) → in_time i.now i.object ≡ true → i.room < sizes_staying i.stale i.left + size_of i.object → answer.told ≡ NoRoom → answer.kept ≡ NoRoom → Gives i i.left answer
+pub no_room : (i : Insertion) (answer : Answer) → in_time i.now i.object ≡ true → HasNone i.room (size_of i.object) i.stale i.left → answer.told ≡ NoRoom → answer.kept ≡ NoRoom → Gives i i.left answer
 no_room i answer lives full told kept =
-    let full_ : nat_lt i.room (sizes_of (without_stale i.stale (those_in_time i.now i.old.objects)) + size_of i.object) ≡ true = lt-ltb _ _ (omega (arith, full, sizes_left i)) in
+    let full_ : has_no_room i.room (size_of i.object) (without_stale i.stale (those_in_time i.now i.old.objects)) ≡ true =
+    ap (λ (o : List Held). has_no_room i.room (size_of i.object) (without_stale i.stale o)) (sym (left_in_time i)) ∙ none_so i.old.bans i.room (size_of i.object) i.stale i.left full in
     closes i.old i.now (Insert i.token i.object i.stale) i.token _ NoRoom (kept_all i i.left) i.fetches answer refl
     (by_fetch i.room i.old i.now i.caller i.token i.object i.stale _ i.opened i.here (cond-true _ _ _ lives ∙ cond-true _ _ _ full_)) refl (same_left i) i.closed told kept
 
 -- the new object before those that stay
-put_first : (i : Insertion) (later : List StoredObject) → later ≡ first_of i.token i.object i.stale (length i.old.bans) i.left ∷ filter (staying i.stale) i.left → kept_all i later ≡ stored_over i.token i.object i.stale (those_in_time i.now i.old.objects)
-put_first i later first =
+put_first : (i : Insertion) (bound : ℕ) (later : List StoredObject) → MakesRoom i.room (size_of i.object) i.stale i.left bound → later ≡ first_of i.old.entries i.token i.object i.stale (length i.old.bans) i.left ∷ filter (stays_from i.stale bound) i.left
+    → kept_all i later ≡ stored_over i.room i.old.entries i.token i.object i.stale (those_in_time i.now i.old.objects)
+put_first i bound later makes first =
     let view : ObjectView = record { number = i.token; hits = 0; object = i.object } in
     ap (kept_all i) first
-    ∙ ap (λ (rest : List Held). held_of i.old.bans (first_of i.token i.object i.stale (length i.old.bans) i.left) ∷ rest) (held_all-stays i.old.bans i.stale i.left)
-    ∙ ap (λ pending. record { view = view; pending = pending } ∷ without_stale i.stale (kept_all i i.left)) (inherits i.old.bans i.stale i.left)
-    ∙ ap (stored_over i.token i.object i.stale) (left_in_time i)
+    ∙ ap (λ (rest : List Held). held_of i.old.bans (first_of i.old.entries i.token i.object i.stale (length i.old.bans) i.left) ∷ rest) (stay_so i.old.bans i.room (size_of i.object) i.stale i.left bound makes)
+    ∙ ap (λ pending. record { view = view; used = i.old.entries; pending = pending } ∷ staying i.room (size_of i.object) (without_stale i.stale (kept_all i i.left))) (inherits i.old.bans i.stale i.left)
+    ∙ ap (stored_over i.room i.old.entries i.token i.object i.stale) (left_in_time i)
 
-pub stores : (i : Insertion) (later : List StoredObject) (answer : Answer) → in_time i.now i.object ≡ true → sizes_staying i.stale i.left + size_of i.object ≤ i.room → later ≡ first_of i.token i.object i.stale (length i.old.bans) i.left ∷ filter (staying i.stale) i.left → answer.told ≡ Stored i.token → answer.kept ≡ Stored i.token → Gives i later answer
-stores i later answer lives fits first told kept =
-    let fits_ : nat_lt i.room (sizes_of (without_stale i.stale (those_in_time i.now i.old.objects)) + size_of i.object) ≡ false = le-ltb _ _ (omega (arith, fits, sizes_left i)) in
-    by_parts i.old i.now (Insert i.token i.object i.stale) (law_of i) (Stored i.token) i.old.next (kept_all i later) (stored_over i.token i.object i.stale (those_in_time i.now i.old.objects)) i.fetches _ i.old.rounds i.old.rounds answer refl
+pub stores : (i : Insertion) (bound : ℕ) (later : List StoredObject) (answer : Answer) → in_time i.now i.object ≡ true → MakesRoom i.room (size_of i.object) i.stale i.left bound
+    → later ≡ first_of i.old.entries i.token i.object i.stale (length i.old.bans) i.left ∷ filter (stays_from i.stale bound) i.left → answer.told ≡ Stored i.token → answer.kept ≡ Stored i.token → Gives i later answer
+stores i bound later answer lives makes first told kept =
+    let fits_ : has_no_room i.room (size_of i.object) (without_stale i.stale (those_in_time i.now i.old.objects)) ≡ false =
+    ap (λ (o : List Held). has_no_room i.room (size_of i.object) (without_stale i.stale o)) (sym (left_in_time i)) ∙ room_so i.old.bans i.room (size_of i.object) i.stale i.left bound makes in
+    by_parts i.old i.now (Insert i.token i.object i.stale) (law_of i) (Stored i.token) i.old.next (kept_all i later) (stored_over i.room i.old.entries i.token i.object i.stale (those_in_time i.now i.old.objects)) i.fetches _ i.old.rounds i.old.rounds answer refl
     (by_fetch i.room i.old i.now i.caller i.token i.object i.stale _ i.opened i.here (cond-true _ _ _ lives ∙ cond-false _ _ _ fits_)) refl
-    (ap (those_in_time i.now) (put_first i later first)) i.closed refl told kept
+    (ap (those_in_time i.now) (put_first i bound later makes first)) i.closed refl told kept
 
 -- an insertion of an open fetch isn't answered that it isn't open
 other_reply : (room : ℕ) (state : State) (caller token : ℕ) (object : Object) (stale : Option ℕ) → has_fetch state.fetches caller token ≡ true → (inserted room state caller token object stale).reply ≢ NotOpen
@@ -272,7 +300,7 @@ other_reply room state caller token object stale opened =
     subst (λ (s : Step). s.reply ≢ NotOpen) (sym (cond-true _ _ _ opened))
     (either (λ (s : Step). s.reply ≢ NotOpen) (is_gone stale state.objects) _ _ (λ e. cc)
     (either (λ (s : Step). s.reply ≢ NotOpen) (in_time state.moment object) _ _
-    (either (λ (s : Step). s.reply ≢ NotOpen) (nat_lt room (sizes_of (without_stale stale state.objects) + size_of object)) _ _ (λ e. cc) (λ e. cc)) (λ e. cc)))
+    (either (λ (s : Step). s.reply ≢ NotOpen) (has_no_room room (size_of object) (without_stale stale state.objects)) _ _ (λ e. cc) (λ e. cc)) (λ e. cc)))
 
 -- memory was wanting: the fetch is closed and nothing is stored
 pub refuses : (room : ℕ) (old : State) (now caller token : ℕ) (object : Object) (stale : Option ℕ) (objects : List Held) (fetches : List OpenFetch) (answer : Answer) → has_fetch old.fetches caller token ≡ true → those_in_time now objects ≡ those_in_time now old.objects → fetches ≡ without_fetch token old.fetches → answer.told ≡ Refused → answer.kept ≡ Refused → Answers old (record old { moment = now; objects = objects; fetches = fetches }) now (Insert token object stale) (inserted room (at_moment now old) caller token object stale) answer

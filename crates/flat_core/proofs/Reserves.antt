@@ -1,10 +1,11 @@
 -- What is reserved behind a call, by what it finds and by what was open before it.
-use Rattle.std.proofs.Common.{◌≡◌, ℕ, Bool, true, false, cond, List, ◌∷◌, ◌+◌, ◌*◌, length, Option, Some, None, refl, arith, nat_lt}
+use Rattle.std.proofs.Common.{◌≡◌, ℕ, Bool, true, false, cond, List, ◌∷◌, ◌+◌, ◌*◌, length, Option, Some, None, refl, arith}
 use Rattle.std.proofs.lemmas.List.{length-map}
 use Rattle.cache_law.specs.declared.object.Object.{Object}
 use Rattle.cache_law.specs.declared.call.Reply.TheVariants.{Began, NoRound, Drawn, NotOpen, StaleGone, NotInTime, NoRoom, Dropped}
 use Rattle.cache_law.specs.Object.{in_time, size_of}
-use Rattle.cache_law.specs.State.{State, has_round, has_fetch, remembering, with_wait, without_fetch, without_stale, is_gone, reserve, sizes_of}
+use Rattle.cache_law.specs.State.{State, has_round, has_fetch, remembering, with_wait, without_fetch, without_stale, is_gone, reserve}
+use Rattle.cache_law.specs.Room.{has_no_room}
 use Rattle.cache_law.specs.Law.{begun, drawn, leaving, closing, stored, inserted, dropped, wait_in}
 use Rattle.cache_law.specs.declared.state.OpenFetch.{OpenFetch}
 use Rattle.cache_law.specs.declared.state.OpenRound.{OpenRound}
@@ -42,15 +43,15 @@ lookup_reserve old now caller key None = omega arith
 lookup_reserve old now caller key (Some found) =
     one_opened old.rounds old.fetches (opens_fetch found.finding) old.next caller key (wait_in (reply_of old.next found.finding))
 
-by_tests : (state : State) (token : ℕ) (object : Object) (stale : Option ℕ) (opened gone lives full : Bool) → 64 * (length state.rounds + cond gone (length state.fetches) (cond opened (length (without_fetch token state.fetches)) (length state.fetches))) ≡ reserve (cond opened (cond gone (leaving state StaleGone) (cond lives (cond full (closing token state NoRoom) (stored state token object stale)) (closing token state NotInTime))) (leaving state NotOpen)).state
-by_tests state token object stale false false lives full = refl
-by_tests state token object stale false true lives full = refl
-by_tests state token object stale true true lives full = refl
-by_tests state token object stale true false false full = refl
-by_tests state token object stale true false true false = refl
-by_tests state token object stale true false true true = refl
+by_tests : (room : ℕ) (state : State) (token : ℕ) (object : Object) (stale : Option ℕ) (opened gone lives full : Bool) → 64 * (length state.rounds + cond gone (length state.fetches) (cond opened (length (without_fetch token state.fetches)) (length state.fetches))) ≡ reserve (cond opened (cond gone (leaving state StaleGone) (cond lives (cond full (closing token state NoRoom) (stored room state token object stale)) (closing token state NotInTime))) (leaving state NotOpen)).state
+by_tests room state token object stale false false lives full = refl
+by_tests room state token object stale false true lives full = refl
+by_tests room state token object stale true true lives full = refl
+by_tests room state token object stale true false false full = refl
+by_tests room state token object stale true false true false = refl
+by_tests room state token object stale true false true true = refl
 
 -- an insertion of an open fetch closes it, unless the stale object is gone
 pub insert_reserve : (room : ℕ) (state : State) (caller token : ℕ) (object : Object) (stale : Option ℕ) → 64 * (length state.rounds + cond (is_gone stale state.objects) (length state.fetches) (cond (has_fetch state.fetches caller token) (length (without_fetch token state.fetches)) (length state.fetches))) ≡ reserve (inserted room state caller token object stale).state
 insert_reserve room state caller token object stale =
-    by_tests state token object stale (has_fetch state.fetches caller token) (is_gone stale state.objects) (in_time state.moment object) (nat_lt room (sizes_of (without_stale stale state.objects) + size_of object))
+    by_tests room state token object stale (has_fetch state.fetches caller token) (is_gone stale state.objects) (in_time state.moment object) (has_no_room room (size_of object) (without_stale stale state.objects))

@@ -78,7 +78,7 @@ numbered_behind made fits =
     let fits_ : FitsBehind made.beginning made.entries made.caller made.moment made.call = subst (λ (m : ℕ). FitsBehind made.beginning made.entries made.caller m made.call) at_ fits in
     ap (λ (s : State). is_numbered (answered made.beginning.params.room s made.caller made.call).reply) (same_state made) ∙ fits_.number
 
--- the answer, and what is kept behind it
+-- the answer, and what is kept behind it before its entry is counted
 pub record Answered (made : Made) : Type 0 where
   pub new : State
   pub answer : Answer
@@ -88,16 +88,22 @@ pub record Answered (made : Made) : Type 0 where
 
 same_after : (made : Made) (reply : Reply) → after made.beginning made.old made.caller made.moment made.call reply ≡ after made.beginning (before made) made.caller made.moment made.call reply
 same_after made reply =
-    ap (λ (s : State). behind reply (refused s made.call) (answered made.beginning.params.room s made.caller made.call).state) (same_state made)
+    ap (λ (s : State). record (behind reply (refused s made.call) (answered made.beginning.params.room s made.caller made.call).state) { entries = s.entries + 1 }) (same_state made)
+
+-- what is kept once the answer's entry is counted
+abbrev pub counted : (made : Made) → Answered made → State
+counted made done = record done.new { entries = length made.entries + 1 }
 
 -- what is kept behind the answer is the state that the entries and the answer's reach
-reaches_behind : (made : Made) (done : Answered made) → as_seen done.new ≡ as_seen (reached made.beginning (made.entries ++ entry_with made done.answer.kept ∷ []))
+reaches_behind : (made : Made) (done : Answered made) → as_seen (counted made done) ≡ as_seen (reached made.beginning (made.entries ++ entry_with made done.answer.kept ∷ []))
 reaches_behind made done =
     let told = done.answer.told in
     let left : State = after made.beginning (before made) made.caller made.moment made.call told in
     let moment : left.moment ≡ made.moment = (after_grows made.beginning (before made) made.caller made.moment made.call told).moment in
-    ap (λ (m : ℕ). at_moment m done.new) done.answers.moment
-    ∙ done.answers.leaves
+    let count : length made.entries + 1 ≡ made.old.entries + 1 = omega (arith, made.sound.counted) in
+    ap (λ (m : ℕ). at_moment m (counted made done)) done.answers.moment
+    ∙ ap (λ (s : State). record s { entries = length made.entries + 1 }) done.answers.leaves
+    ∙ ap (λ (n : ℕ). at_moment made.moment (record (behind told (refused (at_moment made.moment made.old) made.call) (step_of made.beginning made.old made.caller made.moment made.call).state) { entries = n })) count
     ∙ ap (at_moment made.moment) (same_after made told)
     ∙ ap (λ (m : ℕ). at_moment m left) (sym moment)
     ∙ ap (λ (r : Reply). as_seen (next_state made.beginning (before made) (entry_with made r))) (sym done.answers.twice)
@@ -109,13 +115,14 @@ reserve_left made done =
     let least = reserve-after made.beginning made.old made.caller made.moment made.call done.answer.told done.answers.allows in
     omega (arith, least, made.reserves, ap reserve done.answers.leaves)
 
-pub sound_behind : (made : Made) (done : Answered made) (larger : ℕ) → length made.entries + 1 + length done.new.rounds + length done.new.fetches ≤ larger → Sound made.beginning (made.entries ++ entry_with made done.answer.kept ∷ []) larger (made.used + bytes_of made.call) done.new
+pub sound_behind : (made : Made) (done : Answered made) (larger : ℕ) → length made.entries + 1 + length done.new.rounds + length done.new.fetches ≤ larger → Sound made.beginning (made.entries ++ entry_with made done.answer.kept ∷ []) larger (made.used + bytes_of made.call) (counted made done)
 sound_behind made done larger room_ =
     let entry : Entry = entry_with made done.answer.kept in
     let left = reserve_left made done in
     record {
       reaches = reaches_behind made done;
       counts = omega (arith, made.sound.counts, bytes_of_all-push made.entries entry);
+      counted = omega (arith, length-append made.entries (entry ∷ []));
       within = omega (arith, done.within, left);
       numbers = omega (arith, ap (λ (s : State). s.next) done.answers.leaves, (after_grows made.beginning made.old made.caller made.moment made.call done.answer.told).next, made.sound.numbers, length-append made.entries (entry ∷ []));
       reserved = omega (arith, room_, length-append made.entries (entry ∷ []));

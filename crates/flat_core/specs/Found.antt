@@ -10,7 +10,7 @@ use Rattle.cache_law.specs.declared.call.Call.{Call}
 use Rattle.cache_law.specs.declared.call.Call.TheVariants.{Lookup, Insert}
 use Rattle.cache_law.specs.declared.call.Reply.{Reply}
 use Rattle.cache_law.specs.declared.call.Reply.TheVariants as replies
-use Rattle.cache_law.specs.Lookup.{raised, counted}
+use Rattle.cache_law.specs.Lookup.{raised, counted, touched}
 use Rattle.cache_law.specs.State.{State, Held, at_moment, has_fetch, least_token, with_wait}
 use Rattle.cache_law.specs.Law.{Step, leaving, busy, wait_in, looked_up}
 use Rattle.flat_core.specs.declared.stored_object.StoredObject.{StoredObject}
@@ -23,8 +23,8 @@ use Rattle.flat_core.specs.Scans.{seen_all}
 
 abbrev pub given_by : ObjectView → Object → Finding
 given_by view (Ordinary response) = Hit view
-given_by view (HitForMiss marker) = HitMiss
-given_by view (HitForPass marker) = HitPass
+given_by view (HitForMiss marker) = HitMiss view.number
+given_by view (HitForPass marker) = HitPass view.number
 
 abbrev pub graced_by : ObjectView → Option ℕ → Finding
 graced_by view None = Grace view
@@ -57,8 +57,8 @@ found_in now query bans fetches objects =
 -- it opens a fetch
 abbrev pub opens_fetch : Finding → Bool
 opens_fetch (Hit view) = false
-opens_fetch HitMiss = true
-opens_fetch HitPass = false
+opens_fetch (HitMiss number) = true
+opens_fetch (HitPass number) = false
 opens_fetch (Grace view) = true
 opens_fetch (GraceAlone view) = false
 opens_fetch (Wait token) = false
@@ -71,18 +71,28 @@ opens_more (Some found) = opens_fetch found.finding
 -- the number of the object whose hit is counted
 abbrev pub hit_in : Finding → Option ℕ
 hit_in (Hit view) = Some view.number
-hit_in HitMiss = None
-hit_in HitPass = None
+hit_in (HitMiss number) = None
+hit_in (HitPass number) = None
 hit_in (Grace view) = Some view.number
 hit_in (GraceAlone view) = Some view.number
 hit_in (Wait token) = None
 hit_in (Miss stale) = None
 
+-- the number of the marker that is used
+abbrev pub marker_in : Finding → Option ℕ
+marker_in (Hit view) = None
+marker_in (HitMiss number) = Some number
+marker_in (HitPass number) = Some number
+marker_in (Grace view) = None
+marker_in (GraceAlone view) = None
+marker_in (Wait token) = None
+marker_in (Miss stale) = None
+
 -- the reply, where the next number is this
 abbrev pub reply_of : ℕ → Finding → Reply
 reply_of token (Hit view) = replies.Hit (raised view)
-reply_of token HitMiss = replies.HitMiss token
-reply_of token HitPass = replies.HitPass
+reply_of token (HitMiss number) = replies.HitMiss token
+reply_of token (HitPass number) = replies.HitPass
 reply_of token (Grace view) = replies.Grace (raised view) (Some token)
 reply_of token (GraceAlone view) = replies.Grace (raised view) None
 reply_of token (Wait other) = replies.Wait other
@@ -91,9 +101,13 @@ reply_of token (Miss stale) = replies.Miss token stale
 abbrev pub next_after : Bool → ℕ → ℕ
 next_after opens next = if opens then next + 1 else next
 
-abbrev pub counted_for : Option ℕ → List Held → List Held
-counted_for None objects = objects
-counted_for (Some number) objects = counted number objects
+abbrev pub counted_for : ℕ → Option ℕ → List Held → List Held
+counted_for place None objects = objects
+counted_for place (Some number) objects = counted place number objects
+
+abbrev pub touched_for : ℕ → Option ℕ → List Held → List Held
+touched_for place None objects = objects
+touched_for place (Some number) objects = touched place number objects
 
 abbrev pub opened_for : Bool → ℕ → ℕ → List (List ℕ) → List OpenFetch → List OpenFetch
 opened_for opens token caller key fetches =
@@ -106,7 +120,7 @@ found_so state caller key finding =
       reply = reply_of state.next finding;
       state = record state {
         next = next_after (opens_fetch finding) state.next;
-        objects = counted_for (hit_in finding) state.objects;
+        objects = touched_for state.entries (marker_in finding) (counted_for state.entries (hit_in finding) state.objects);
         fetches = opened_for (opens_fetch finding) state.next caller key state.fetches;
         rounds = with_wait caller (wait_in (reply_of state.next finding)) state.rounds;
       };

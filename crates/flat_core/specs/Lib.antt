@@ -1,4 +1,5 @@
 pub mod StoredObject
+pub mod Room
 pub mod Scans
 pub mod Banning
 pub mod Purging

@@ -14,6 +14,7 @@ pub record Plain : Type 0 where
 pub record Sound (beginning : Beginning) (entries : List Entry) (room used : ℕ) (state : State) : Type 0 where
   pub reaches : as_seen state ≡ as_seen (reached beginning entries)
   pub counts : used ≡ bytes_of_all entries
+  pub counted : state.entries ≡ length entries
   pub within : used + reserve state ≤ beginning.params.history
   pub numbers : state.next ≤ beginning.base.next + length entries
   pub reserved : length entries + length state.rounds + length state.fetches ≤ room

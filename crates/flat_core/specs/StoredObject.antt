@@ -1,10 +1,9 @@
 -- How the objects in memory stand for those of the law, and the changes of them.
-use Rattle.std.specs.Prelude.{ℕ, Bool, true, false, not, List, [], ◌∷◌, ◌++◌, ◌-◌, ◌==◌, ◌≤◌, Option, Some, None, filter, find, map, length, take, sum_by, if◌then◌else◌}
+use Rattle.std.specs.Prelude.{ℕ, Bool, true, false, not, List, [], ◌∷◌, ◌++◌, ◌-◌, ◌==◌, ◌≤◌, Option, Some, None, filter, find, map, length, take, if◌then◌else◌}
 use Rattle.std.specs.List.{AllByRecursion}
 use Rattle.std.specs.Option.{option_map_or}
 use Rattle.cache_law.specs.declared.object.Object.{Object}
 use Rattle.cache_law.specs.declared.ban.Issued.{Issued}
-use Rattle.cache_law.specs.Object.{size_of}
 use Rattle.cache_law.specs.Bans.{object_only}
 use Rattle.cache_law.specs.BansAtOnce.{cleared}
 use Rattle.cache_law.specs.Lookup.{raised}
@@ -23,7 +22,7 @@ waiting bans tested = filter is_waiting (take (length bans - tested) bans)
 
 -- a stored object as the law has it, where these bans were issued
 abbrev pub held_of : List Issued → StoredObject → Held
-held_of bans kept = record { view = kept.view; pending = waiting bans kept.tested }
+held_of bans kept = record { view = kept.view; used = kept.used; pending = waiting bans kept.tested }
 
 abbrev pub held_all : List Issued → List StoredObject → List Held
 held_all bans objects = map (held_of bans) objects
@@ -66,32 +65,34 @@ settled_held [] objects = objects
 settled_held (fate ∷ fates) [] = []
 settled_held (fate ∷ fates) (held ∷ objects) = held_left fate held ++ settled_held fates objects
 
--- the object has one more hit if it has this number
-abbrev pub counted_in : ℕ → StoredObject → StoredObject
-counted_in number kept = if kept.view.number == number then record kept { view = raised kept.view } else kept
+-- the object has one more hit, and was used at this place of the history, if it has this number
+abbrev pub counted_in : ℕ → ℕ → StoredObject → StoredObject
+counted_in place number kept =
+    if kept.view.number == number then record kept { view = raised kept.view; used = place } else kept
 
-abbrev pub counting_in : Option ℕ → List StoredObject → List StoredObject
-counting_in None objects = objects
-counting_in (Some number) objects = map (counted_in number) objects
+abbrev pub counting_in : ℕ → Option ℕ → List StoredObject → List StoredObject
+counting_in place None objects = objects
+counting_in place (Some number) objects = map (counted_in place number) objects
+
+-- the object was used at this place if it has this number
+abbrev pub touched_in : ℕ → ℕ → StoredObject → StoredObject
+touched_in place number kept = if kept.view.number == number then record kept { used = place } else kept
+
+abbrev pub touching_in : ℕ → Option ℕ → List StoredObject → List StoredObject
+touching_in place None objects = objects
+touching_in place (Some number) objects = map (touched_in place number) objects
 
 -- the object stays where one takes the place of the stale one
 abbrev pub stays : Option ℕ → StoredObject → Bool
 stays None kept = true
 stays (Some stale) kept = not (kept.view.number == stale)
 
--- what it takes of the room then
-abbrev pub size_staying : Option ℕ → StoredObject → ℕ
-size_staying stale kept = if stays stale kept then size_of kept.view.object else 0
-
-abbrev pub sizes_staying : Option ℕ → List StoredObject → ℕ
-sizes_staying stale objects = sum_by (size_staying stale) objects
-
 -- how many bans there were when the stale object was last tested, or without one how many there are
 abbrev pub tested_for : ℕ → Option ℕ → List StoredObject → ℕ
 tested_for count None objects = count
 tested_for count (Some stale) objects = option_map_or (λ kept. kept.tested) (find (λ kept. kept.view.number == stale) objects) count
 
--- an object that comes first, in the stale one's place
-abbrev pub first_of : ℕ → Object → Option ℕ → ℕ → List StoredObject → StoredObject
-first_of token object stale count objects =
-    record { view = record { number = token; hits = 0; object = object }; tested = tested_for count stale objects }
+-- an object that comes first, in the stale one's place, and was used at this place of the history
+abbrev pub first_of : ℕ → ℕ → Object → Option ℕ → ℕ → List StoredObject → StoredObject
+first_of place token object stale count objects =
+    record { view = record { number = token; hits = 0; object = object }; used = place; tested = tested_for count stale objects }

@@ -1,5 +1,5 @@
 // What becomes of the objects when a ban is issued.
-ghost use Rattle.std.specs.Prelude.{◌≡◌, ◌∷◌, map, IfOk, OnOk, OnErr};
+ghost use Rattle.std.specs.Prelude.{◌≡◌, ◌∷◌, length, map, IfOk, OnOk, OnErr};
 ghost use Rattle.cache_law.specs.BansAtOnce.{issued_behind, open_line, open_lines};
 ghost use Rattle.flat_core.specs.Banning.{ban_fates, banned_fate};
 
@@ -64,7 +64,7 @@ pub(crate) fn issue(
     moment: u64,
     ban: &Shared<Ban>,
 ) -> Result<(), AllocError>
-    ensures ok { OnOk result (bans.new.items ≡ issued_behind bans.old.items moment ban.now ∷ bans.old.items) }
+    ensures ok { OnOk result (bans.new.items ≡ issued_behind (length bans.old.items) moment ban.now ∷ bans.old.items) }
     ensures err { OnErr result (bans.new.items ≡ bans.old.items) }
 {
     let issued = Issued {

@@ -102,6 +102,7 @@ impl CacheCore for FlatCore {
             reply: answer.kept,
         };
         push_within_room(&mut self.entries, entry);
+        self.store.set_entries(place + 1);
         Ok(Told {
             moment,
             place,

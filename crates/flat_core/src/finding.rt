@@ -2,7 +2,7 @@
 ghost use Rattle.std.specs.Prelude.{◌≡◌, IfOk};
 ghost use Rattle.cache_law.specs.Law.{busy as busy_with, wait_in as told_to_wait};
 ghost use Rattle.cache_law.specs.Lookup.{raised};
-ghost use Rattle.flat_core.specs.Found.{fetch_finding, finding_by, found_in, given_by as given, graced_by as graced, hit_in as hit_by, opens_fetch, other_finding, reply_of as reply_by};
+ghost use Rattle.flat_core.specs.Found.{fetch_finding, finding_by, found_in, given_by as given, graced_by as graced, hit_in as hit_by, marker_in as marker_by, opens_fetch, other_finding, reply_of as reply_by};
 
 use crate::lists::least_token;
 use crate::scan::scan;
@@ -16,9 +16,9 @@ use units::Sequence;
 pub(crate) enum Finding {
     /// A fresh object.
     Hit(ObjectView),
-    /// A fresh marker of either kind.
-    HitMiss,
-    HitPass,
+    /// A fresh marker of either kind, and its number.
+    HitMiss(u64),
+    HitPass(u64),
     /// An object in grace, whose key has no open fetch.
     Grace(ObjectView),
     /// An object in grace, whose key has one.
@@ -42,8 +42,8 @@ fn fresh_finding(view: ObjectView) -> Finding
 {
     let found = match &*view.object {
         Object::Ordinary(_) => None,
-        Object::HitForMiss(_) => Some(Finding::HitMiss),
-        Object::HitForPass(_) => Some(Finding::HitPass),
+        Object::HitForMiss(_) => Some(Finding::HitMiss(view.number)),
+        Object::HitForPass(_) => Some(Finding::HitPass(view.number)),
     };
     match found {
         Some(marked) => marked,
@@ -140,8 +140,9 @@ pub(crate) fn opens_fetch(found: &Finding) -> bool
     ensures { result ≡ opens_fetch found.now }
 {
     match found {
-        Finding::Hit(_) | Finding::HitPass | Finding::GraceAlone(_) | Finding::Wait(_) => false,
-        Finding::HitMiss | Finding::Grace(_) | Finding::Miss(_) => true,
+        Finding::Hit(_) | Finding::HitPass(_) => false,
+        Finding::GraceAlone(_) | Finding::Wait(_) => false,
+        Finding::HitMiss(_) | Finding::Grace(_) | Finding::Miss(_) => true,
     }
 }
 
@@ -151,7 +152,18 @@ pub(crate) fn hit_in(found: &Finding) -> Option<u64>
 {
     match found {
         Finding::Hit(view) | Finding::Grace(view) | Finding::GraceAlone(view) => Some(view.number),
-        Finding::HitMiss | Finding::HitPass | Finding::Wait(_) | Finding::Miss(_) => None,
+        Finding::HitMiss(_) | Finding::HitPass(_) | Finding::Wait(_) | Finding::Miss(_) => None,
+    }
+}
+
+/// The number of the marker that says how the request goes on.
+pub(crate) fn marker_in(found: &Finding) -> Option<u64>
+    ensures { result ≡ marker_by found.now }
+{
+    match found {
+        Finding::HitMiss(number) | Finding::HitPass(number) => Some(*number),
+        Finding::Hit(_) | Finding::Grace(_) | Finding::GraceAlone(_) => None,
+        Finding::Wait(_) | Finding::Miss(_) => None,
     }
 }
 
@@ -172,8 +184,8 @@ pub(crate) fn reply_of(token: u64, finding: Finding) -> Reply
 {
     match finding {
         Finding::Hit(view) => Reply::Hit(raised(view)),
-        Finding::HitMiss => Reply::HitMiss { token },
-        Finding::HitPass => Reply::HitPass,
+        Finding::HitMiss(_) => Reply::HitMiss { token },
+        Finding::HitPass(_) => Reply::HitPass,
         Finding::Grace(view) => Reply::Grace {
             object: raised(view),
             token: Some(token),

@@ -13,6 +13,7 @@ mod lists;
 mod matching;
 mod picking;
 mod purging;
+mod room;
 mod scan;
 mod store;
 mod stored_object;

@@ -6,11 +6,13 @@ ghost use Rattle.std.specs.VecDeque.{deque_len, deque_capacity};
 ghost use Rattle.cache_law.specs.declared.ban.Issued.{Issued as IssuedBan};
 ghost use Rattle.cache_law.specs.Object.{in_time};
 ghost use Rattle.cache_law.specs.State.{has_round, has_fetch, is_closed, is_gone, is_open, least_of, least_token, least_with, remembering, those_in_time, told_to_wait, with_wait, without_fetch, without_fetches_of, without_round_of};
-ghost use Rattle.flat_core.specs.StoredObject.{counted_in, counting_in, first_of, held_all, is_change, left_of, moved_on, settled, size_staying, sizes_staying, stays, tested_for};
+ghost use Rattle.flat_core.specs.StoredObject.{counted_in, counting_in, first_of, held_all, is_change, left_of, moved_on, settled, stays, tested_for, touched_in, touching_in};
+ghost use Rattle.flat_core.specs.Room.{stays_from};
 ghost use Rattle.flat_core.specs.Found.{next_after, opened_for};
 
+use crate::room::stays_from;
 use crate::stored_object::{Fate, StoredObject};
-use cache_law::{Object, ObjectView, OpenFetch, OpenRound, is_in_time, object_size};
+use cache_law::{Object, ObjectView, OpenFetch, OpenRound, is_in_time};
 use std::alloc::{AllocError, Global};
 use std::collections::VecDeque;
 use units::{Copied, Sequence, Shared, Text};
@@ -45,8 +47,8 @@ pub(crate) fn is_closed(fetches: &VecDeque<OpenFetch>, token: u64) -> bool
     !is_open(fetches, token)
 }
 
-/// The least of a token and of another that may be known.
-fn least_of(token: u64, known: Option<u64>) -> u64
+/// The least of a number and of another that may be known.
+pub(crate) fn least_of(token: u64, known: Option<u64>) -> u64
     ensures { result ≡ least_of token known }
 {
     match known {
@@ -151,30 +153,58 @@ pub(crate) fn remember(rounds: &mut VecDeque<OpenRound>, caller: u32, token: Opt
     }
 }
 
-/// Counts a hit of the object if it has this number.
-fn count_in(kept: &mut StoredObject, number: u64)
-    ensures { kept.new ≡ counted_in number kept.old }
+/// Counts a hit of the object at this place of the history if it has this number.
+fn count_in(kept: &mut StoredObject, used: u64, number: u64)
+    ensures { kept.new ≡ counted_in used number kept.old }
 {
     if kept.view.number == number {
         kept.view.hits = kept.view.hits.saturating_add(1);
+        kept.used = used;
     }
 }
 
 /// Counts a hit of the object of this number.
-fn count_hit(objects: &mut VecDeque<StoredObject>, number: u64)
-    ensures { objects.new.items ≡ map (counted_in number) objects.old.items }
+fn count_hit(objects: &mut VecDeque<StoredObject>, used: u64, number: u64)
+    ensures { objects.new.items ≡ map (counted_in used number) objects.old.items }
 {
     for place in 0..objects.len() {
-        count_in(&mut objects[place], number);
+        count_in(&mut objects[place], used, number);
     }
 }
 
-/// Counts a hit of the object of this number, if there is one.
-pub(crate) fn count_hit_of(objects: &mut VecDeque<StoredObject>, number: Option<u64>)
-    ensures { objects.new.items ≡ counting_in number objects.old.items }
+/// Counts a hit of the object of this number, if there is one, at this place of the history.
+pub(crate) fn count_hit_of(objects: &mut VecDeque<StoredObject>, used: u64, number: Option<u64>)
+    ensures { objects.new.items ≡ counting_in used number objects.old.items }
 {
     if let Some(number) = number {
-        count_hit(objects, number);
+        count_hit(objects, used, number);
+    }
+}
+
+/// Uses the marker at this place of the history if it has this number.
+fn touch_in(kept: &mut StoredObject, used: u64, number: u64)
+    ensures { kept.new ≡ touched_in used number kept.old }
+{
+    if kept.view.number == number {
+        kept.used = used;
+    }
+}
+
+/// Uses the marker of this number.
+fn touch(objects: &mut VecDeque<StoredObject>, used: u64, number: u64)
+    ensures { objects.new.items ≡ map (touched_in used number) objects.old.items }
+{
+    for place in 0..objects.len() {
+        touch_in(&mut objects[place], used, number);
+    }
+}
+
+/// Uses the marker of this number, if there is one, at this place of the history.
+pub(crate) fn touch_of(objects: &mut VecDeque<StoredObject>, used: u64, number: Option<u64>)
+    ensures { objects.new.items ≡ touching_in used number objects.old.items }
+{
+    if let Some(number) = number {
+        touch(objects, used, number);
     }
 }
 
@@ -196,6 +226,7 @@ fn left_of(count: usize, fate: Fate, kept: StoredObject) -> Option<StoredObject>
         Fate::Stays => Some(kept),
         Fate::Tested => Some(StoredObject {
             view: kept.view,
+            used: kept.used,
             tested: count,
         }),
         Fate::Goes => None,
@@ -251,43 +282,13 @@ pub(crate) fn settle(objects: &mut VecDeque<StoredObject>, fates: &[Fate], count
 }
 
 /// Whether the object stays where one takes the place of the stale one.
-fn stays(stale: Option<u64>, kept: &StoredObject) -> bool
+pub(crate) fn stays(stale: Option<u64>, kept: &StoredObject) -> bool
     ensures { result ≡ stays stale kept.now }
 {
     match stale {
         Some(stale) => kept.view.number != stale,
         None => true,
     }
-}
-
-fn size_staying(stale: Option<u64>, kept: &StoredObject) -> u128
-    ensures { result ≡ min (size_staying stale kept.now) (2 ^ 128 - 1) }
-{
-    if stays(stale, kept) {
-        object_size(&kept.view.object)
-    } else {
-        0
-    }
-}
-
-/// What the objects but the stale one take of the room beside what is counted already, or the greatest number of 128
-/// bits where that is less.
-fn sizes_from(start: u128, stale: Option<u64>, objects: &[StoredObject]) -> u128
-    ensures { result ≡ min (start + sizes_staying stale objects.now) (2 ^ 128 - 1) }
-{
-    let mut total = start;
-    for kept in objects {
-        total = total.saturating_add(size_staying(stale, kept));
-    }
-    total
-}
-
-/// What the objects but the stale one take of the room, or the greatest number of 128 bits where that is less.
-pub(crate) fn sizes_without(objects: &VecDeque<StoredObject>, stale: Option<u64>) -> u128
-    ensures { result ≡ min (sizes_staying stale objects.now.items) (2 ^ 128 - 1) }
-{
-    let (newer, older) = objects.as_slices();
-    sizes_from(sizes_from(0, stale, newer), stale, older)
 }
 
 /// Whether an object in time has the number.
@@ -324,13 +325,13 @@ pub(crate) fn keep_in_time(objects: &mut VecDeque<StoredObject>, moment: u64)
     }
 }
 
-/// Drops the stale object.
-fn drop_stale(objects: &mut VecDeque<StoredObject>, stale: Option<u64>)
-    ensures items { objects.new.items ≡ filter (stays stale) objects.old.items }
+/// Drops the stale object, and those that were used before this place of the history.
+fn keep_from(objects: &mut VecDeque<StoredObject>, stale: Option<u64>, bound: u128)
+    ensures items { objects.new.items ≡ filter (stays_from stale bound) objects.old.items }
     ensures len { deque_len objects.new ≤ deque_len objects.old }
     ensures capacity { deque_capacity objects.new ≡ deque_capacity objects.old }
 {
-    objects.retain(|kept| stays(stale, kept));
+    objects.retain(|kept| stays_from(stale, bound, kept));
 }
 
 fn kept_among(objects: &[StoredObject], number: u64) -> Option<&StoredObject>
@@ -373,16 +374,18 @@ fn tested_for(count: usize, stale: Option<u64>, objects: &VecDeque<StoredObject>
     tested_or(kept_of(newer, older, stale), count)
 }
 
-/// Puts the object before the others, under the number of its fetch and in the stale one's place, where there are so many
-/// bans.
+/// Puts the object before the others, under the number of its fetch, in the stale one's place and used at this place of the
+/// history, where there are so many bans. The objects that were used before the bound go.
 pub(crate) fn put_first(
     objects: &mut VecDeque<StoredObject>,
+    used: u64,
     token: u64,
     object: &Shared<Object>,
     stale: Option<u64>,
+    bound: u128,
     count: usize,
 ) -> Result<(), AllocError>
-    ensures ok { OnOk result (objects.new.items ≡ first_of token object.now stale count objects.old.items ∷ filter (stays stale) objects.old.items) }
+    ensures ok { OnOk result (objects.new.items ≡ first_of used token object.now stale count objects.old.items ∷ filter (stays_from stale bound) objects.old.items) }
     ensures err { OnErr result (objects.new.items ≡ objects.old.items) }
 {
     objects.try_reserve(1)?;
@@ -392,9 +395,10 @@ pub(crate) fn put_first(
             hits: 0,
             object: object.copy()?,
         },
+        used,
         tested: tested_for(count, stale, objects),
     };
-    drop_stale(objects, stale);
+    keep_from(objects, stale, bound);
     objects.push_front_reserved(kept);
     Ok(())
 }

@@ -170,6 +170,7 @@ fn softening(
             hits: kept.view.hits,
             object: softened_if(alloc, soft, moment, &kept.view.object)?,
         },
+        used: kept.used,
         tested: kept.tested,
     })
 }

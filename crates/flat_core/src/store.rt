@@ -15,19 +15,20 @@ ghost use Rattle.flat_core.specs.Step.{Answers};
 
 use crate::answer::Answer;
 use crate::banning::{ban_fates, ban_lines, issue};
-use crate::finding::{Finding, Found, hit_in, opens_fetch, reply_of, seek, wait_in};
+use crate::finding::{Finding, Found, hit_in, marker_in, opens_fetch, reply_of, seek, wait_in};
 use crate::lists::{
     awaits, close_fetch, close_fetches_of, close_round_of, count_fetches_without, count_hit_of,
     count_rounds_without, count_without, has_fetch, has_round, is_closed, is_gone, keep_in_time,
-    next_after, open_fetch_if, put_first, remember, settle, sizes_without,
+    next_after, open_fetch_if, put_first, remember, settle, touch_of,
 };
 use crate::picking::{chosen, count_on, name_at, set_health_of};
 use crate::purging::{count_of_key, count_of_xkeys, drop_key, drop_xkeys, softened_all};
+use crate::room::bound_of;
 use crate::stored_object::{Fate, StoredObject};
 use crate::vcls::{called, discard, has_backend, is_taken, keep_used, numbered, vcl_lines};
 use cache_law::{
     Ban, Boot, Call, Counter, ForcedHealth, Health, Issued, LoadedVcl, Object, OpenFetch,
-    OpenRound, Query, Reply, Vcl, VclSource, is_in_time, object_size,
+    OpenRound, Query, Reply, Vcl, VclSource, is_in_time,
 };
 use directors::Target;
 use std::alloc::{AllocError, Global};
@@ -46,6 +47,8 @@ const VCL_NUMBERS: u64 = 1 << 32;
 /// next insertion: the law answers from those in time alone.
 #[derive(Drop)]
 pub(crate) struct Store {
+    // how many entries there are
+    entries: u64,
     moment: u64,
     next: u64,
     next_vcl: u64,
@@ -60,12 +63,15 @@ pub(crate) struct Store {
 }
 
 impl Model for Store {
+    ghost use Rattle.std.specs.Prelude.{length};
     ghost use Rattle.cache_law.specs.State.{State};
     ghost use Rattle.flat_core.specs.StoredObject.{AreTested, held_all};
 
     ghost Value = { State };
 
     ghost view = { λ s. record {
+      entries = s.entries;
+      issued = length s.bans.items;
       moment = s.moment;
       next = s.next;
       next_vcl = s.next_vcl;
@@ -92,6 +98,7 @@ impl Store {
             Err(_) => return Err(out_of_memory(active)),
         };
         Ok(Store {
+            entries: 0,
             moment: 0,
             next: 1,
             next_vcl: u64::from(BOOT_VCL) + 1,
@@ -124,6 +131,13 @@ impl Store {
         ensures { result ≡ self.now.moment }
     {
         self.moment
+    }
+
+    /// Takes note of how many entries there are.
+    pub fn set_entries(&mut self, entries: u64)
+        ensures { self.new ≡ record self.old { entries = entries } }
+    {
+        self.entries = entries;
     }
 
     /// What a call of the caller finds: a lookup in its open round finds something, and no other call does.
@@ -459,6 +473,7 @@ impl Store {
     {
         let opens = opens_fetch(&finding);
         let hit = hit_in(&finding);
+        let marker = marker_in(&finding);
         let token = self.next;
         let answer = Answer::twice(alloc, reply_of(token, finding))?;
         if open_fetch_if(alloc, &mut self.fetches, opens, token, caller, &query.key).is_err() {
@@ -466,7 +481,8 @@ impl Store {
         }
         self.next = next_after(opens, token);
         settle(&mut self.objects, fates, self.bans.len());
-        count_hit_of(&mut self.objects, hit);
+        count_hit_of(&mut self.objects, self.entries, hit);
+        touch_of(&mut self.objects, self.entries, marker);
         remember(&mut self.rounds, caller, wait_in(&answer.told));
         self.moment = moment;
         Ok(answer)
@@ -756,14 +772,23 @@ impl Store {
             };
         }
         keep_in_time(&mut self.objects, moment);
-        let others = sizes_without(&self.objects, stale);
-        if others.saturating_add(object_size(object)) > u128::from(room) {
+        let Some(bound) = bound_of(&self.objects, stale, object, room) else {
             return Answer {
                 told: Reply::NoRoom,
                 kept: Reply::NoRoom,
             };
-        }
-        if put_first(&mut self.objects, token, object, stale, self.bans.len()).is_err() {
+        };
+        let count = self.bans.len();
+        let put = put_first(
+            &mut self.objects,
+            self.entries,
+            token,
+            object,
+            stale,
+            bound,
+            count,
+        );
+        if put.is_err() {
             return Answer {
                 told: Reply::Refused,
                 kept: Reply::Refused,

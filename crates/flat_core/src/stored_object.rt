@@ -1,10 +1,12 @@
 // An object in memory.
 use cache_law::ObjectView;
 
-/// An object in memory, and how many bans there were when it was last tested on all of them.
+/// An object in memory, the place in the history of the entry that used it last, and how many bans there were when it was
+/// last tested on all of them.
 #[derive(Drop)]
 pub(crate) struct StoredObject {
     pub view: ObjectView,
+    pub used: u64,
     pub tested: usize,
 }
 

@@ -24,8 +24,8 @@ law_replies room state caller (Lookup query) =
     looked_leaf (Replies (Lookup query)) state caller query refl (record {
       misses = λ objects stale. refl;
       hits = λ objects view. refl;
-      hits_miss = λ objects. refl;
-      passes = λ objects. refl;
+      hits_miss = λ objects view. refl;
+      passes = λ objects view. refl;
       graces = λ objects view. refl;
       graces_alone = λ objects view. refl;
       waits = λ objects token. refl;

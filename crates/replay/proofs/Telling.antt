@@ -102,8 +102,8 @@ module _ (state : State) (caller other : ℕ) (apart : other ≡ caller → ⊥)
       looked_leaf Others state caller query refl (record {
         misses = λ objects stale. others_remembered caller other apart _ state.rounds;
         hits = λ objects view. others_remembered caller other apart _ state.rounds;
-        hits_miss = λ objects. others_remembered caller other apart _ state.rounds;
-        passes = λ objects. others_remembered caller other apart _ state.rounds;
+        hits_miss = λ objects view. others_remembered caller other apart _ state.rounds;
+        passes = λ objects view. others_remembered caller other apart _ state.rounds;
         graces = λ objects view. others_remembered caller other apart _ state.rounds;
         graces_alone = λ objects view. others_remembered caller other apart _ state.rounds;
         waits = λ objects token. others_remembered caller other apart _ state.rounds;
@@ -152,8 +152,8 @@ module _ (state : State) (caller : ℕ) where
       sought_leaf (λ (step : Step). step.state.rounds ≡ state.rounds) state caller query (record {
         misses = λ objects stale. refl;
         hits = λ objects view. refl;
-        hits_miss = λ objects. refl;
-        passes = λ objects. refl;
+        hits_miss = λ objects view. refl;
+        passes = λ objects view. refl;
         graces = λ objects view. refl;
         graces_alone = λ objects view. refl;
         waits = λ objects token. refl;

@@ -96,8 +96,8 @@ answered_opens room state other n (Lookup query) =
     looked_leaf (StepOpens state other n (Lookup query)) state other query refl (record {
       misses = λ objects stale. has-wait other n _ state.rounds;
       hits = λ objects view. has-wait other n _ state.rounds;
-      hits_miss = λ objects. has-wait other n _ state.rounds;
-      passes = λ objects. has-wait other n _ state.rounds;
+      hits_miss = λ objects view. has-wait other n _ state.rounds;
+      passes = λ objects view. has-wait other n _ state.rounds;
       graces = λ objects view. has-wait other n _ state.rounds;
       graces_alone = λ objects view. has-wait other n _ state.rounds;
       waits = λ objects token. has-wait other n _ state.rounds;

@@ -5,4 +5,4 @@ use Rattle.flat_core.proofs.lists.count_hit.Given as goal
 
 -- the objects before this place are changed
 abbrev pub invariant-loop-place : goal.invariant-loop-place
-invariant-loop-place l = l.objects.items ≡ passed (counted_in l.number) l.place l.initial.objects.items
+invariant-loop-place l = l.objects.items ≡ passed (counted_in l.used l.number) l.place l.initial.objects.items

@@ -1,10 +1,10 @@
-use Rattle.std.proofs.Common.{rules, ◌≡◌, ◌+◌, ◌*◌, ◌≤◌, ◌++◌, ◌∷◌, [], arith, length, refl, sym, ◌∙◌}
+use Rattle.std.proofs.Common.{rules, ap, ℕ, ◌≡◌, ◌+◌, ◌*◌, ◌≤◌, ◌++◌, ◌∷◌, [], arith, length, refl, sym, ◌∙◌}
 use Rattle.std.specs.Prelude.{IsTrue}
 use Rattle.std.proofs.lemmas.Bool.{false≢true}
 use Rattle.std.specs.Vec.{vec_capacity}
 use Rattle.cache_law.specs.Beginning.{beginning_of}
 use Rattle.cache_law.specs.History.{bytes_of}
-use Rattle.flat_core.proofs.Steps.{Made, Answered, within_limit, numbered_behind, kept_too, sound_behind, entered, legal_behind}
+use Rattle.flat_core.proofs.Steps.{Made, Answered, counted, within_limit, numbered_behind, kept_too, sound_behind, entered, legal_behind}
 use Rattle.flat_core.proofs.cache.FlatCoreCacheCore.step.Goals as goal
 
 pub returns-then-not-is_numbered-clause-full : goal.returns-then-not-is_numbered-clause-full
@@ -78,7 +78,9 @@ invariant_of-self-2 c =
     let bytes : c.entry_bytes.result ≡ bytes_of c.args.call = omega (arith, within) in
     let items : c.push_within_room.new.entries.items ≡ c.self.inside.entries.items ++ record { caller = c.args.caller; moment = c.max-moment.result; call = c.args.call; reply = c.in-Ok-answered.answer.kept } ∷ [] = search rules in
     let room : length c.self.inside.entries.items + 1 + length done.new.rounds + length done.new.fetches ≤ vec_capacity c.push_within_room.new.entries = search rules in
-    rw (items, bytes) (sound_behind made done (vec_capacity c.push_within_room.new.entries) room)
+    let last : c.len-place.result ≡ length c.self.inside.entries.items = search rules in
+    let counts : c.set_entries.new.self ≡ counted made done = c.set_entries.ensures ∙ ap (λ (n : ℕ). record c.answer_within-answered.new.store { entries = n + 1 }) last in
+    rw (items, bytes, counts) (sound_behind made done (vec_capacity c.push_within_room.new.entries) room)
 
 pub returns-clause-told : goal.returns-clause-told
 returns-clause-told c =

@@ -1,25 +1,26 @@
-use Rattle.std.proofs.Common.{rules, refl, arith, ◌≡◌, ◌^◌, ◌-◌, ◌∷◌, min, length, filter}
-use Rattle.flat_core.specs.StoredObject.{first_of, stays}
-use Rattle.cache_law.specs.Object.{in_time, size_of}
+use Rattle.std.proofs.Common.{rules, refl, arith, ◌≡◌, ◌∷◌, length, filter}
+use Rattle.flat_core.specs.StoredObject.{first_of}
+use Rattle.flat_core.specs.Room.{stays_from}
+use Rattle.cache_law.specs.Object.{in_time}
 use Rattle.flat_core.specs.declared.stored_object.StoredObject.{StoredObject}
 use Rattle.flat_core.specs.contracts.store.Store.{the_view}
 use Rattle.flat_core.proofs.Replies.{Insertion, inserts_not, stale_gone, too_late, no_room, refuses_late, stores}
 use Rattle.flat_core.proofs.Tested.{filter_tested, first_tested}
 use Rattle.flat_core.proofs.store.Store.insert.Goals as goal
 
-pub invariant_of-self-then-saturating_add-from : goal.invariant_of-self-then-saturating_add-from
-invariant_of-self-then-saturating_add-from c = rw (c.keep_in_time.ensures) (filter_tested _ _ _ c.self.invariant)
+pub invariant_of-self-in_default : goal.invariant_of-self-in_default
+invariant_of-self-in_default c = rw (c.keep_in_time.ensures) (filter_tested _ _ _ c.self.invariant)
 
 pub invariant_of-self-then-is_err : goal.invariant_of-self-then-is_err
 invariant_of-self-then-is_err c =
-    let same : c.put_first.new.objects.items ≡ c.keep_in_time.new.objects.items = search rules in
+    let same : c.put_first-put.new.objects.items ≡ c.keep_in_time.new.objects.items = search rules in
     rw (same, c.keep_in_time.ensures) (filter_tested _ _ _ c.self.invariant)
 
 pub invariant_of-self-2 : goal.invariant_of-self-2
 invariant_of-self-2 c =
-    let count : c.len.result ≡ length c.self.inside.bans.items = omega (arith, c.len.ensures, c.self.inside.bans.ok) in
-    let first : c.put_first.new.objects.items ≡ first_of c.args.token c.args.object.now c.args.stale c.len.result c.keep_in_time.new.objects.items ∷ filter (stays c.args.stale) c.keep_in_time.new.objects.items = search rules in
-    rw (first, count, c.keep_in_time.ensures) (first_tested c.self.inside.bans.items c.args.token c.args.object.now c.args.stale (filter (λ (kept : StoredObject). in_time c.args.moment kept.view.object) c.self.inside.objects.items) (filter_tested c.self.inside.bans.items (λ (kept : StoredObject). in_time c.args.moment kept.view.object) c.self.inside.objects.items c.self.invariant))
+    let count : c.len-count.result ≡ length c.self.inside.bans.items = omega (arith, c.len-count.ensures, c.self.inside.bans.ok) in
+    let first : c.put_first-put.new.objects.items ≡ first_of c.self.inside.entries c.args.token c.args.object.now c.args.stale c.len-count.result c.keep_in_time.new.objects.items ∷ filter (stays_from c.args.stale c.in-Some.bound) c.keep_in_time.new.objects.items = search rules in
+    rw (first, count, c.keep_in_time.ensures) (first_tested c.self.inside.bans.items c.self.inside.entries c.args.token c.args.object.now c.args.stale c.in-Some.bound (filter (λ (kept : StoredObject). in_time c.args.moment kept.view.object) c.self.inside.objects.items) (filter_tested c.self.inside.bans.items (λ (kept : StoredObject). in_time c.args.moment kept.view.object) c.self.inside.objects.items c.self.invariant))
 
 pub returns-then-not-has_fetch : goal.returns-then-not-has_fetch
 returns-then-not-has_fetch c = rw (← c.self.view_is) (inserts_not _ _ _ _ _ _ _ _ (search rules) refl refl)
@@ -31,8 +32,8 @@ pub returns-then-not-is_in_time : goal.returns-then-not-is_in_time
 returns-then-not-is_in_time c =
     rw (← c.self.view_is) (too_late _ _ _ _ _ _ _ _ _ (search rules) (search rules) (search rules) (search rules) refl refl)
 
-pub returns-then-saturating_add-from : goal.returns-then-saturating_add-from
-returns-then-saturating_add-from c =
+pub returns-in_default : goal.returns-in_default
+returns-in_default c =
     let made : Insertion = record {
       room = c.args.room;
       old = the_view c.self.inside;
@@ -50,8 +51,7 @@ returns-then-saturating_add-from c =
       thinned = search rules;
       closed = search rules;
     } in
-    let size : c.object_size.result ≡ min (size_of c.args.object.now) (2 ^ 128 - 1) = rw c.deref-2.ensures at c.object_size.ensures in
-    rw (← c.self.view_is) (no_room made _ (search rules) (omega (arith, size, c.sizes_without-others.ensures)) refl refl)
+    rw (← c.self.view_is) (no_room made _ (search rules) (search rules) refl refl)
 
 pub returns-then-is_err : goal.returns-then-is_err
 returns-then-is_err c =
@@ -72,7 +72,7 @@ returns-then-is_err c =
       thinned = search rules;
       closed = search rules;
     } in
-    let same : c.put_first.new.objects.items ≡ c.keep_in_time.new.objects.items = search rules in
+    let same : c.put_first-put.new.objects.items ≡ c.keep_in_time.new.objects.items = search rules in
     rw (← c.self.view_is, same) (refuses_late made _ refl refl)
 
 pub returns : goal.returns
@@ -94,5 +94,4 @@ returns c =
       thinned = search rules;
       closed = search rules;
     } in
-    let size : c.object_size.result ≡ min (size_of c.args.object.now) (2 ^ 128 - 1) = rw c.deref-2.ensures at c.object_size.ensures in
-    rw (← c.self.view_is) (stores made c.put_first.new.objects.items _ (search rules) (omega (arith, size, c.sizes_without-others.ensures)) (search rules) refl refl)
+    rw (← c.self.view_is) (stores made c.in-Some.bound c.put_first-put.new.objects.items _ (search rules) (search rules) (search rules) refl refl)

@@ -1,12 +1,12 @@
 use Rattle.std.proofs.Common.{rules, refl, arith, ◌≤◌, length}
 use Rattle.flat_core.proofs.Replies.{looks}
-use Rattle.flat_core.proofs.Tested.{settled_tested, counting_tested}
+use Rattle.flat_core.proofs.Tested.{settled_tested, counting_tested, touching_tested}
 use Rattle.flat_core.proofs.store.Store.look.Goals as goal
 
 pub invariant_of-self-2 : goal.invariant_of-self-2
 invariant_of-self-2 c =
     let enough : c.len.result ≤ length c.self.inside.bans.items = omega (arith, c.len.ensures, c.self.inside.bans.ok) in
-    rw (c.count_hit_of.ensures, c.settle.ensures) (counting_tested c.self.inside.bans.items c.hit_in-hit.result _ (settled_tested c.self.inside.bans.items c.len.result c.args.fates.now c.self.inside.objects.items enough c.self.invariant))
+    rw (c.touch_of.ensures, c.count_hit_of.ensures, c.settle.ensures) (touching_tested c.self.inside.bans.items c.self.inside.entries c.marker_in-marker.result _ (counting_tested c.self.inside.bans.items c.self.inside.entries c.hit_in-hit.result _ (settled_tested c.self.inside.bans.items c.len.result c.args.fates.now c.self.inside.objects.items enough c.self.invariant)))
 
 pub returns-clause-ok : goal.returns-clause-ok
 returns-clause-ok c =

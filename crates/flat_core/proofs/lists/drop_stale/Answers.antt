@@ -1,7 +1,0 @@
-use Rattle.std.proofs.Common.{rules}
-use Rattle.std.proofs.lemmas.Fn.{filter_same}
-use Rattle.flat_core.specs.StoredObject.{stays}
-use Rattle.flat_core.proofs.lists.drop_stale.Goals as goal
-
-pub returns-clause-items : goal.returns-clause-items
-returns-clause-items c = filter_same _ (stays c.args.stale) _ (λ x b f' k. search rules) _ _ c.retain.ensures.filtered

@@ -1,7 +1,0 @@
-use Rattle.std.proofs.Common.{◌≡◌, ◌-◌, ◌^◌, ◌+◌, min, take}
-use Rattle.flat_core.specs.StoredObject.{sizes_staying}
-use Rattle.flat_core.proofs.lists.sizes_from.Given as goal
-
--- the objects so far are counted
-abbrev pub invariant-loop-kept : goal.invariant-loop-kept
-invariant-loop-kept l = l.total ≡ min (l.start + sizes_staying l.stale (take l.kept-index l.objects)) (2 ^ 128 - 1)
