@@ -1,10 +1,10 @@
 // The evaluation of an expression, which stops where a purge by keys is wanted.
-ghost use Rattle.std.specs.Prelude.{◌≡◌, ◌<◌, ◌≤◌, ◌+◌, ◌∷◌, [], List, IfOk, length, slice_get};
+ghost use Rattle.std.specs.Prelude.{◌≡◌, ◌∷◌, [], List, IfOk, IsSome, Some, slice_get};
+ghost use Rattle.vcl_values.specs.Values.{truth_of};
 ghost use Rattle.vcl_context.specs.declared.turn.Answer.{Answer};
-ghost use Rattle.vcl_operands.specs.Outs.{and_then, IsSure};
-ghost use Rattle.vcl_operands.specs.Nodes.{World, world, value_at, left_of, rest_of, came_to, given_number, given_if, with_rest};
-ghost use Rattle.vcl_operands.specs.Weights.{power, weight, frames_weight, arguments_weight, LeavesLess, IsBegun};
-ghost use Rattle.vcl_context.specs.declared.context.Context.{Context as ContextHere};
+ghost use Rattle.vcl_operands.specs.Outs.{IsSure};
+ghost use Rattle.vcl_operands.specs.Nodes.{world, value_at, rest_of, came_to, given_number, given_if};
+ghost use Rattle.vcl_operands.specs.Steps.{step, called_step, decided_step, given_step, entered_step};
 
 use crate::calls::applied;
 use crate::frame::{Doing, Frame, Plan, Unary, plan_of};
@@ -56,7 +56,7 @@ impl Evaluation {
         }
     }
 
-    /// Evaluates a node that doesn't stray. What waits behind a purge that is wanted weighs less than any node.
+    /// Evaluates a node that isn't stuck.
     pub fn evaluate(
         &mut self,
         alloc: Global,
@@ -67,14 +67,13 @@ impl Evaluation {
     ) -> Result<Outcome, AllocError>
         requires fresh { self.old ≡ [] }
         requires sure { (s : List Answer) → IsSure (value_at (world program.now.code functions.now.stored context.now) number s) }
-        ensures value { IfOk result (λ outcome. (s : List Answer) → value_at (world program.now.code functions.now.stored context.now) number s
+        ensures { IfOk result (λ outcome. (s : List Answer) → value_at (world program.now.code functions.now.stored context.now) number s
             ≡ came_to (world program.now.code functions.now.stored context.now) outcome self.new s) }
-        ensures less { IfOk result (λ outcome. LeavesLess (power (length program.now.code.arena.nodes)) outcome self.new) }
     {
         self.run(alloc, program, functions, context, Doing::Evaluate(number))
     }
 
-    /// Goes on with the count of a purge. What waits behind a further one weighs less than what waited behind this.
+    /// Goes on with the count of a purge.
     pub fn answer(
         &mut self,
         alloc: Global,
@@ -84,9 +83,8 @@ impl Evaluation {
         count: i64,
     ) -> Result<Outcome, AllocError>
         requires { (s : List Answer) → IsSure (given_number (world program.now.code functions.now.stored context.now) self.old (Answer.Number count) s) }
-        ensures value { IfOk result (λ outcome. (s : List Answer) → given_number (world program.now.code functions.now.stored context.now) self.old (Answer.Number count) s
+        ensures { IfOk result (λ outcome. (s : List Answer) → given_number (world program.now.code functions.now.stored context.now) self.old (Answer.Number count) s
             ≡ came_to (world program.now.code functions.now.stored context.now) outcome self.new s) }
-        ensures less { IfOk result (λ outcome. LeavesLess (frames_weight self.old) outcome self.new) }
     {
         self.run(
             alloc,
@@ -106,10 +104,10 @@ impl Evaluation {
         first: Doing,
     ) -> Result<Outcome, AllocError>
         requires { (s : List Answer) → IsSure (rest_of (world program.now.code functions.now.stored context.now) first self.old s) }
-        ensures value { IfOk result (λ outcome. (s : List Answer) → rest_of (world program.now.code functions.now.stored context.now) first self.old s
+        ensures { IfOk result (λ outcome. (s : List Answer) → rest_of (world program.now.code functions.now.stored context.now) first self.old s
             ≡ came_to (world program.now.code functions.now.stored context.now) outcome self.new s) }
-        ensures less { IsBegun first → IfOk result (λ outcome. LeavesLess (weight first self.old) outcome self.new) }
     {
+        compiled_falls(program);
         let mut doing = first;
         'steps: loop {
             doing = match doing {
@@ -135,12 +133,9 @@ impl Evaluation {
         context: &Context,
         number: usize,
     ) -> Result<Doing, AllocError>
-        requires { (s : List Answer) → IsSure (rest_of (world program.now.code functions.now.stored context.now) (Doing.Evaluate number) self.old s) }
-        ensures value { IfOk result (λ next. (s : List Answer) → rest_of (world program.now.code functions.now.stored context.now) (Doing.Evaluate number) self.old s
-            ≡ rest_of (world program.now.code functions.now.stored context.now) next self.new s) }
-        ensures smaller { IfOk result (λ next. weight next self.new < weight (Doing.Evaluate number) self.old) }
+        requires { IsSome (entered_step (world program.now.code functions.now.stored context.now) number self.old) }
+        ensures { IfOk result (λ next. entered_step (world program.now.code functions.now.stored context.now) number self.old ≡ Some (step next self.new)) }
     {
-        compiled_falls(program);
         let Some(node) = node_at(program.code.arena.nodes.as_slice(), number) else {
             unreachable!();
         };
@@ -170,10 +165,8 @@ impl Evaluation {
         frame: Frame,
         value: Value,
     ) -> Result<Doing, AllocError>
-        requires { (context : ContextHere) × ((s : List Answer) → IsSure (left_of (world program.now.code functions.now.stored context) (frame ∷ self.old) value s)) }
-        ensures value { (context : ContextHere) → IfOk result (λ next. (s : List Answer) → left_of (world program.now.code functions.now.stored context) (frame ∷ self.old) value s
-            ≡ rest_of (world program.now.code functions.now.stored context) next self.new s) }
-        ensures smaller { IfOk result (λ next. weight next self.new < frames_weight (frame ∷ self.old)) }
+        requires { IsSome (given_step program.now.code functions.now.stored frame value self.old) }
+        ensures { IfOk result (λ next. given_step program.now.code functions.now.stored frame value self.old ≡ Some (step next self.new)) }
     {
         match frame {
             Frame::One(what) => Ok(given_if(changed(alloc, program, what, &value)?)),
@@ -195,9 +188,8 @@ impl Evaluation {
 
     // The right side, unless the left one decides.
     fn decided(&mut self, decided: bool, right: usize, left: &Value) -> Result<Doing, AllocError>
-        requires { (w : World) × ((s : List Answer) → IsSure (left_of w (Frame.Decide decided right ∷ self.old) left.now s)) }
-        ensures value { (w : World) → IfOk result (λ next. (s : List Answer) → left_of w (Frame.Decide decided right ∷ self.old) left.now s ≡ rest_of w next self.new s) }
-        ensures smaller { IfOk result (λ next. weight next self.new < frames_weight (Frame.Decide decided right ∷ self.old)) }
+        requires { IsSome (decided_step decided right (truth_of left.now) self.old) }
+        ensures { IfOk result (λ next. decided_step decided right (truth_of left.now) self.old ≡ Some (step next self.new)) }
     {
         match left.truth() {
             None => unreachable!(),
@@ -220,10 +212,8 @@ impl Evaluation {
         values: Sequence<Value>,
         rest: Arguments,
     ) -> Result<Doing, AllocError>
-        requires { (w : World) × (w.stored ≡ functions.now.stored) × ((s : List Answer) → IsSure (and_then (with_rest w.stored (value_at w) function rest values s) (left_of w self.old))) }
-        ensures value { (w : World) → w.stored ≡ functions.now.stored
-            → IfOk result (λ next. (s : List Answer) → and_then (with_rest w.stored (value_at w) function rest values s) (left_of w self.old) ≡ rest_of w next self.new s) }
-        ensures smaller { IfOk result (λ next. weight next self.new ≤ arguments_weight rest + frames_weight self.old) }
+        requires { IsSome (called_step functions.now.stored function values rest self.old) }
+        ensures { IfOk result (λ next. called_step functions.now.stored function values rest self.old ≡ Some (step next self.new)) }
     {
         match rest {
             Arguments::Zero => Ok(given_if(applied(
