@@ -97,10 +97,17 @@ impl Machine {
         match waiting.answered(alloc, program, functions, answer) {
             Ok(stop) => Ok(self.stopped(stop)),
             Err(wanting) => {
-                self.waiting = None;
+                self.give_up();
                 Err(wanting)
             }
         }
+    }
+
+    // Nothing goes on after want of memory.
+    fn give_up(&mut self)
+        ensures { self.new.waiting ≡ None }
+    {
+        self.waiting = None;
     }
 
     // The turn of what a run has come to.

@@ -134,25 +134,36 @@ impl RunState {
         requires { IsSome (finished_step program.now.code what value self.old) }
         ensures { IfOk result (λ task. finished_step program.now.code what value self.old ≡ Some (step task self.new)) }
     {
+        self.finish(alloc, program, &what, &value)
+    }
+
+    fn finish(
+        &mut self,
+        alloc: Global,
+        program: &Compiled,
+        what: &Finish,
+        value: &Value,
+    ) -> Result<Task, AllocError>
+        requires { IsSome (finished_step program.now.code what.now value.now self.old) }
+        ensures { IfOk result (λ task. finished_step program.now.code what.now value.now self.old ≡ Some (step task self.new)) }
+    {
         match what {
-            Finish::Assign(variable) => self.assigned(alloc, variable, &value),
-            Finish::Append(variable) => self.appended(alloc, variable, &value),
+            Finish::Assign(variable) => self.assigned(alloc, *variable, value),
+            Finish::Append(variable) => self.appended(alloc, *variable, value),
             Finish::AssignField(message, number) => {
-                self.field_assigned(alloc, program, message, number, &value)
+                self.field_assigned(alloc, program, *message, *number, value)
             }
             Finish::AppendField(message, number) => {
-                self.field_appended(alloc, program, message, number, &value)
+                self.field_appended(alloc, program, *message, *number, value)
             }
-            Finish::HashData => self.key_added(alloc, &value),
-            Finish::Synthetic => self.body_set(alloc, &value),
-            Finish::Ban => banned(alloc, &value),
+            Finish::HashData => self.key_added(alloc, value),
+            Finish::Synthetic => self.body_set(alloc, value),
+            Finish::Ban => banned(alloc, value),
             Finish::Forget => Ok(Task::Run),
-            Finish::Choose(number) => self.taken(program, number, &value),
-            Finish::Return(word) => ends_with_one(alloc, word, &value),
-            Finish::ReturnFirst(word, second) => {
-                Ok(Task::Evaluate(second, Finish::ReturnSecond(word, value)))
-            }
-            Finish::ReturnSecond(word, first) => ends_with_two(alloc, word, &first, &value),
+            Finish::Choose(number) => self.taken(program, *number, value),
+            Finish::Return(word) => ends_with_one(alloc, *word, value),
+            Finish::ReturnFirst(word, second) => second_next(*word, *second, value),
+            Finish::ReturnSecond(word, first) => ends_with_two(alloc, *word, first, value),
         }
     }
 
@@ -262,6 +273,14 @@ fn banned(alloc: Global, value: &Value) -> Result<Task, AllocError>
         Some(text) => Ok(Task::Ban(text)),
         None => Ok(Task::End(Return::Fail)),
     }
+}
+
+// The second value of two, behind the first.
+fn second_next(word: ReturnWord, second: usize, first: &Value) -> Result<Task, AllocError>
+    ensures { IfOk result (λ task. task ≡ Task.Evaluate second (Finish.ReturnSecond word first.now)) }
+{
+    let first = first.copy()?;
+    Ok(Task::Evaluate(second, Finish::ReturnSecond(word, first)))
 }
 
 fn ends_plain(alloc: Global, word: ReturnWord) -> Result<Task, AllocError>

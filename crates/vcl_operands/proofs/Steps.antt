@@ -21,9 +21,9 @@ use Rattle.vcl_operands.specs.declared.frame.Plan.TheVariants as plan
 use Rattle.vcl_operands.specs.declared.frame.Unary.TheVariants as unary
 use Rattle.vcl_operands.specs.Falls.{Falls}
 use Rattle.vcl_operands.specs.Meaning.{Operand, decided_by}
-use Rattle.vcl_operands.specs.Nodes.{World, changed, combined, onward, with_rest, value_at, left_of, rest_of, leaf, plan_of, planned}
+use Rattle.vcl_operands.specs.Nodes.{World, changed, combined, onward, with_rest, value_at, left_of, rest_of, given_if, leaf, plan_of, planned}
 use Rattle.vcl_operands.specs.Outs.{Out, On, Ends, Asks, Stuck, and_then, known_on, made_on, ask, number_of, IsSure}
-use Rattle.vcl_operands.specs.Steps.{Step, step, made_step, called_step, decided_step, purged_step, given_step, planned_step, entered_step}
+use Rattle.vcl_operands.specs.Steps.{Step, step, stay, given_due, called_step, decided_step, purge_due, given_step, planned_step, entered_step}
 use Rattle.vcl_operands.specs.Values.{as_text, applied}
 use Rattle.vcl_operands.specs.Weights.{power, weight, frames_weight, arguments_weight, plan_weight}
 use Rattle.vcl_operands.proofs.Binds.{bind_bind, sure-along, some-before}
@@ -35,7 +35,7 @@ abbrev pub behind_step : World → Option Step → Operand
 behind_step w None s = Stuck
 behind_step w (Some next) s = rest_of w next.next next.waiting s
 
-made-behind : (w : World) (o : Option (Option Value)) (fs : List Frame) (s : List Answer) → and_then (made_on o s) (left_of w fs) ≡ behind_step w (option_map (made_step fs) o) s
+made-behind : (w : World) (o : Option (Option Value)) (fs : List Frame) (s : List Answer) → and_then (made_on o s) (left_of w fs) ≡ behind_step w (option_map (stay fs) (given_due o)) s
 made-behind w None fs s = refl
 made-behind w (Some None) fs s = refl
 made-behind w (Some (Some v)) fs s = refl
@@ -61,7 +61,7 @@ decided-behind w decided x (Some left) fs s = chosen-behind w decided x (beq lef
 
 purged-behind : (w : World) (soft : Bool) (keys : Option (List ℕ)) (fs : List Frame) (s : List Answer)
     → and_then (and_then (known_on keys s) (λ keys s. and_then (ask (Xkey keys soft) s) (λ answer. On (value.Int (number_of answer))))) (left_of w fs)
-    ≡ behind_step w (Some (purged_step soft keys fs)) s
+    ≡ behind_step w (Some (step (purge_due soft keys) fs)) s
 purged-behind w soft None fs s = refl
 purged-behind w soft (Some keys) fs s = bind_bind (ask (Xkey keys soft) s) (λ answer. On (value.Int (number_of answer))) (left_of w fs)
 
@@ -108,7 +108,7 @@ pub leaf-some : (w : World) (i : ℕ) (n m : Node) (fs : List Frame) → Some n 
 leaf-some w i n m fs e q h =
     let P : Option Node → Type 0 = λ o. IsSome (option_and_then (λ k. planned_step w (plan_of k) fs) o) in
     let Q : Plan → Type 0 = λ p. IsSome (planned_step w p fs) in
-    some-before (made_step fs) (leaf w.code w.context m) (subst Q (sym q) (subst P (sym e) h))
+    some-before given_if (leaf w.code w.context m) (some-before (stay fs) (given_due (leaf w.code w.context m)) (subst Q (sym q) (subst P (sym e) h)))
 
 -- the rest of an evaluation that a step has come to
 pub stepped : (w : World) (o : Option Step) (x : Out (List Answer) Value) (next : Doing) (new : List Frame) (s : List Answer) → x ≡ behind_step w o s → o ≡ Some (step next new)
@@ -123,7 +123,7 @@ LessBehind n (Some next) = weight next.next next.waiting < n
 pub less-behind : (n : ℕ) (o : Option Step) (next : Doing) (new : List Frame) → LessBehind n o → o ≡ Some (step next new) → weight next new < n
 less-behind n o next new h e = subst (λ (p : Option Step). LessBehind n p) e h
 
-made-less : (n : ℕ) (fs : List Frame) (o : Option (Option Value)) → frames_weight fs < n → LessBehind n (option_map (made_step fs) o)
+made-less : (n : ℕ) (fs : List Frame) (o : Option (Option Value)) → frames_weight fs < n → LessBehind n (option_map (stay fs) (given_due o))
 made-less n fs None h = tt
 made-less n fs (Some None) h = omega (arith, h)
 made-less n fs (Some (Some v)) h = omega (arith, h)
@@ -145,7 +145,7 @@ decided-less : (decided : Bool) (x : ℕ) (left : Option Bool) (fs : List Frame)
 decided-less decided x None fs = tt
 decided-less decided x (Some left) fs = chosen-less decided x (beq left decided) fs
 
-purged-less : (soft : Bool) (keys : Option (List ℕ)) (fs : List Frame) → LessBehind (frames_weight (frame.Purge soft ∷ fs)) (Some (purged_step soft keys fs))
+purged-less : (soft : Bool) (keys : Option (List ℕ)) (fs : List Frame) → LessBehind (frames_weight (frame.Purge soft ∷ fs)) (Some (step (purge_due soft keys) fs))
 purged-less soft None fs = omega arith
 purged-less soft (Some keys) fs = omega arith
 

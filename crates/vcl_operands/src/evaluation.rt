@@ -1,13 +1,14 @@
 // The evaluation of an expression, which stops where a purge by keys is wanted.
-ghost use Rattle.std.specs.Prelude.{◌≡◌, ◌∷◌, [], List, IfOk, IsSome, Some, slice_get};
+ghost use Rattle.std.specs.Prelude.{◌≡◌, ◌∷◌, ◌++◌, [], List, IfOk, IsSome, Some, slice_get};
 ghost use Rattle.vcl_values.specs.Values.{truth_of};
 ghost use Rattle.vcl_context.specs.declared.turn.Answer.{Answer};
 ghost use Rattle.vcl_operands.specs.Outs.{IsSure};
-ghost use Rattle.vcl_operands.specs.Nodes.{world, value_at, rest_of, came_to, given_number, given_if};
-ghost use Rattle.vcl_operands.specs.Steps.{step, called_step, decided_step, given_step, entered_step};
+ghost use Rattle.vcl_operands.specs.Nodes.{world, value_at, rest_of, came_to, given_number, given_if, changed, combined};
+ghost use Rattle.vcl_operands.specs.Values.{as_text};
+ghost use Rattle.vcl_operands.specs.Steps.{step, given_due, purge_due, called_step, decided_step, given_step, entered_step};
 
 use crate::calls::applied;
-use crate::frame::{Doing, Frame, Plan, Unary, plan_of};
+use crate::frame::{Binary, Doing, Frame, Plan, Unary, plan_of};
 use crate::laws::compiled_falls;
 use crate::leaves::leaf;
 use crate::operators::{changed, combined, short_text};
@@ -169,19 +170,13 @@ impl Evaluation {
         ensures { IfOk result (λ next. given_step program.now.code functions.now.stored frame value self.old ≡ Some (step next self.new)) }
     {
         match frame {
-            Frame::One(what) => Ok(given_if(changed(alloc, program, what, &value)?)),
+            Frame::One(what) => given_changed(alloc, program, what, &value),
             Frame::Left(what, right) => self.first(right, Frame::Right(what, value)),
-            Frame::Right(what, left) => {
-                Ok(given_if(combined(alloc, program, what, &left, &value)?))
-            }
+            Frame::Right(what, left) => given_combined(alloc, program, what, &left, &value),
             Frame::Decide(decided, right) => self.decided(decided, right, &value),
-            Frame::Purge(soft) => match short_text(alloc, &value)? {
-                Some(keys) => Ok(Doing::Need(keys, soft)),
-                None => Ok(Doing::Fail),
-            },
-            Frame::Apply(function, mut values, rest) => {
-                values.push(value)?;
-                self.called(alloc, functions, function, values, rest)
+            Frame::Purge(soft) => purge_due(alloc, soft, &value),
+            Frame::Apply(function, values, rest) => {
+                self.argument(alloc, functions, function, values, value, rest)
             }
         }
     }
@@ -201,6 +196,23 @@ impl Evaluation {
                 }
             }
         }
+    }
+
+    // A stored function with one more of its arguments.
+    fn argument(
+        &mut self,
+        alloc: Global,
+        functions: &VmodTable,
+        function: usize,
+        mut values: Sequence<Value>,
+        value: Value,
+        rest: Arguments,
+    ) -> Result<Doing, AllocError>
+        requires { IsSome (called_step functions.now.stored function (values ++ value ∷ []) rest self.old) }
+        ensures { IfOk result (λ next. called_step functions.now.stored function (values ++ value ∷ []) rest self.old ≡ Some (step next self.new)) }
+    {
+        values.push(value)?;
+        self.called(alloc, functions, function, values, rest)
     }
 
     // A stored function with some of its arguments: the next one, or its value.
@@ -241,6 +253,42 @@ fn given_if(value: Option<Value>) -> Doing
     match value {
         Some(value) => Doing::Give(value),
         None => Doing::Fail,
+    }
+}
+
+// What is made of one value.
+fn given_changed(
+    alloc: Global,
+    program: &Compiled,
+    what: Unary,
+    value: &Value,
+) -> Result<Doing, AllocError>
+    requires { IsSome (given_due (changed program.now.code what value.now)) }
+    ensures { IfOk result (λ next. given_due (changed program.now.code what value.now) ≡ Some next) }
+{
+    Ok(given_if(changed(alloc, program, what, value)?))
+}
+
+// What is made of two values.
+fn given_combined(
+    alloc: Global,
+    program: &Compiled,
+    what: Binary,
+    left: &Value,
+    right: &Value,
+) -> Result<Doing, AllocError>
+    requires { IsSome (given_due (combined program.now.code what left.now right.now)) }
+    ensures { IfOk result (λ next. given_due (combined program.now.code what left.now right.now) ≡ Some next) }
+{
+    Ok(given_if(combined(alloc, program, what, left, right)?))
+}
+
+fn purge_due(alloc: Global, soft: bool, keys: &Value) -> Result<Doing, AllocError>
+    ensures { IfOk result (λ next. next ≡ purge_due soft (as_text keys.now)) }
+{
+    match short_text(alloc, keys)? {
+        Some(keys) => Ok(Doing::Need(keys, soft)),
+        None => Ok(Doing::Fail),
     }
 }
 
