@@ -64,8 +64,12 @@ may-skip fits (command.Xkey keys soft) mute f = absurd mute
 pub fits-skip : (fits : Answer → Type 0) (heard : Turn) (command : Command) → heard ≡ turn.Need command → Awaits fits heard → AsksNothing command → fits Done
 fits-skip fits heard command same f mute = may-skip fits command mute (subst (λ (t : Turn). Awaits fits t) same f)
 
-pub less-skip : (before after : ℕ) (heard : Turn) (command : Command) → heard ≡ turn.Need command → LeavesLess before after heard → after < before
-less-skip before after heard command same h = subst (λ (t : Turn). LeavesLess before after t) same h
+mute-less : (before after : ℕ) (command : Command) → AsksNothing command → LeavesLess before after (turn.Need command) → after < before
+mute-less before after (command.Ban text) mute h = h
+mute-less before after (command.Xkey keys soft) mute h = absurd mute
+
+pub less-skip : (before after : ℕ) (heard : Turn) (command : Command) → heard ≡ turn.Need command → AsksNothing command → LeavesLess before after heard → after < before
+less-skip before after heard command same mute h = mute-less before after command mute (subst (λ (t : Turn). LeavesLess before after t) same h)
 
 pub stopping : {M : Type 0} (e : Evaluator) (stands : M → Ran → Type 0) (fits : M → Answer → Type 0) (state : State) (run : M) (ran : Ran) (round : Round)
     (heard : Turn) (command : Command) (asked : Asked) (call : Call)

@@ -14,7 +14,7 @@ use Rattle.vcl_code.specs.declared.node.Choice.TheVariants as choice
 use Rattle.vcl_program.specs.declared.code.Code.{Code}
 use Rattle.vcl_context.specs.declared.turn.Answer.{Answer}
 use Rattle.vcl_operands.specs.Falls.{ChoicesFall}
-use Rattle.vcl_operands.specs.Outs.{Out, On, Ends, Asks, Strays, and_then, fail}
+use Rattle.vcl_operands.specs.Outs.{Out, On, Ends, Asks, Stuck, and_then, fail}
 use Rattle.vcl_operands.specs.Nodes.{world, value_at}
 use Rattle.vcl_eval.specs.declared.finish.Finish.{Finish}
 use Rattle.vcl_eval.specs.declared.finish.Finish.TheVariants as finish
@@ -32,13 +32,13 @@ pub then-same : {A B : Type 0} (k : ℕ) (m : Out State A) (f g : A → State �
 then-same k (On a s) f g h e = e a s h
 then-same k (Ends word s) f g h e = refl
 then-same k (Asks command) f g h e = refl
-then-same k Strays f g h e = refl
+then-same k Stuck f g h e = refl
 
 pub in-state-same : (k : ℕ) (s : State) (o : Out (List Answer) Value) (f g : Value → Doing) → k ≤ s.statements → ((v : Value) → SameFrom k (f v) (g v)) → and_then (in_state s o) f ≡ and_then (in_state s o) g
 in-state-same k s (On v answers) f g h e = e v (record s { answers = answers }) h
 in-state-same k s (Ends word answers) f g h e = refl
 in-state-same k s (Asks command) f g h e = refl
-in-state-same k s Strays f g h e = refl
+in-state-same k s Stuck f g h e = refl
 
 operand-same : (k : ℕ) (code : Code) (stored : List Stored) (e : ℕ) (f g : Value → Doing) → ((v : Value) → SameFrom k (f v) (g v)) → SameFrom k (with_operand code stored e f) (with_operand code stored e g)
 operand-same k code stored e f g h s low = in-state-same k s (value_at (world code stored s.context) e s.answers) f g low h
@@ -100,7 +100,7 @@ statement-same k code stored f g p next s low h r =
     least-low k s (On a t) low h = omega arith
     least-low k s (Ends word t) low h = tt
     least-low k s (Asks command) low h = tt
-    least-low k s Strays low h = tt
+    least-low k s Stuck low h = tt
 
 pub counted-same : (d e : Doing) (b : Bool) (s : State) → nat_lt s.statements most_statements ≡ b
     → (s.statements < most_statements → d (record s { statements = s.statements + 1 }) ≡ e (record s { statements = s.statements + 1 }))
@@ -184,13 +184,13 @@ pub branch-is : (code : Code) → ChoicesFall code.arena.branches → (stored : 
 unfolding choice_at
 branch-is code falls stored go j b s e = branch-within code falls stored go (length code.arena.branches) j b s e (slice_get_within code.arena.branches j b e)
 
-none-within : (code : Code) (stored : List Stored) (go : ℕ → Doing) (d j : ℕ) (s : State) → slice_get code.arena.branches j ≡ None → choice_within d code stored go (choice.Branch j) s ≡ Strays
+none-within : (code : Code) (stored : List Stored) (go : ℕ → Doing) (d j : ℕ) (s : State) → slice_get code.arena.branches j ≡ None → choice_within d code stored go (choice.Branch j) s ≡ Stuck
 unfolding choice_within
 none-within code stored go zero j s e = refl
 none-within code stored go (suc d) j s e =
     ap (λ (o : Option Branch). asked_at code stored (λ v. taken_by go (choice_within d code stored go) (slice_get code.arena.branches j) (truth_of v)) (option_map (λ (x : Branch). x.condition) o) s) e
 
-pub branch-none : (code : Code) (stored : List Stored) (go : ℕ → Doing) (j : ℕ) (s : State) → slice_get code.arena.branches j ≡ None → choice_at code stored go (choice.Branch j) s ≡ Strays
+pub branch-none : (code : Code) (stored : List Stored) (go : ℕ → Doing) (j : ℕ) (s : State) → slice_get code.arena.branches j ≡ None → choice_at code stored go (choice.Branch j) s ≡ Stuck
 unfolding choice_at
 branch-none code stored go j s e = none-within code stored go (length code.arena.branches) j s e
 

@@ -1,5 +1,4 @@
 pub mod Depths
-pub mod Lefts
 pub mod Rises
 pub mod Steps
 pub mod Sure

@@ -14,7 +14,7 @@ use Rattle.vcl_program.specs.declared.code.Code.{Code}
 use Rattle.vcl_context.specs.declared.turn.Answer.{Answer}
 use Rattle.vcl_context.specs.declared.turn.Command.TheVariants.{Ban}
 use Rattle.vcl_context.specs.declared.turn.Return.{Return}
-use Rattle.vcl_operands.specs.Outs.{Out, On, Ends, Asks, Strays, and_then, fail, known_on, ask}
+use Rattle.vcl_operands.specs.Outs.{Out, On, Ends, Asks, Stuck, and_then, fail, known_on, ask}
 use Rattle.vcl_operands.specs.Nodes.{world, value_at}
 use Rattle.vcl_operands.specs.Values.{as_text}
 use Rattle.vcl_eval.specs.declared.finish.Finish.{Finish}
@@ -30,7 +30,7 @@ abbrev pub AtLeast : {A : Type 0} → ℕ → Out State A → Type 0
 AtLeast n (On a s) = n ≤ s.statements
 AtLeast n (Ends word s) = Unit {0}
 AtLeast n (Asks command) = Unit {0}
-AtLeast n Strays = Unit {0}
+AtLeast n Stuck = Unit {0}
 
 abbrev pub Rises : Doing → Type 0
 Rises d = (s : State) → AtLeast s.statements (d s)
@@ -39,13 +39,13 @@ pub least-then : {A B : Type 0} (n : ℕ) (m : Out State A) (f : A → State →
 least-then n (On a s) f h k = k a s h
 least-then n (Ends word s) f h k = tt
 least-then n (Asks command) f h k = tt
-least-then n Strays f h k = tt
+least-then n Stuck f h k = tt
 
 pub least-less : {A : Type 0} (n k : ℕ) (m : Out State A) → k ≤ n → AtLeast n m → AtLeast k m
 least-less n k (On a s) h p = omega arith
 least-less n k (Ends word s) h p = tt
 least-less n k (Asks command) h p = tt
-least-less n k Strays h p = tt
+least-less n k Stuck h p = tt
 
 -- what rises, from a state with no fewer statements
 pub rise-from : (d : Doing) (n : ℕ) (s : State) → Rises d → n ≤ s.statements → AtLeast n (d s)
@@ -55,7 +55,7 @@ in-state-least : {A : Type 0} (s : State) (o : Out (List Answer) A) → AtLeast 
 in-state-least s (On a answers) = le_refl s.statements
 in-state-least s (Ends word answers) = tt
 in-state-least s (Asks command) = tt
-in-state-least s Strays = tt
+in-state-least s Stuck = tt
 
 operand-rises : (code : Code) (stored : List Stored) (e : ℕ) (next : Value → Doing) → ((v : Value) → Rises (next v)) → Rises (with_operand code stored e next)
 operand-rises code stored e next r s =

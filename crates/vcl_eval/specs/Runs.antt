@@ -1,4 +1,4 @@
--- What runs of subroutines do, on a text in numbers, with the answers that they are given. What no sound text has strays.
+-- What runs of subroutines do, on a text in numbers, with the answers that they are given. What no sound text has is stuck.
 use Rattle.std.specs.Prelude.{ℕ, zero, suc, Bool, List, [], ◌∷◌, Option, Some, None, option_map, option_and_then, slice_get, slice_index, length, if◌then◌else◌}
 use Rattle.vcl_values.specs.declared.value.Value.{Value}
 use Rattle.vcl_values.specs.Values.{truth_of}
@@ -17,7 +17,7 @@ use Rattle.vcl_code.specs.declared.node.Choice.{Choice}
 use Rattle.vcl_code.specs.declared.node.Choice.TheVariants as choice
 use Rattle.vcl_program.specs.declared.code.Code.{Code}
 use Rattle.vcl_context.specs.declared.turn.Answer.{Answer}
-use Rattle.vcl_operands.specs.Outs.{Out, Strays, and_then, fail}
+use Rattle.vcl_operands.specs.Outs.{Out, Stuck, and_then, fail}
 use Rattle.vcl_operands.specs.Nodes.{world, value_at}
 use Rattle.vcl_eval.specs.declared.finish.Finish.{Finish}
 use Rattle.vcl_eval.specs.declared.finish.Finish.TheVariants as finish
@@ -34,12 +34,12 @@ with_operand code stored e next s = and_then (in_state s (value_at (world code s
 -- a block or nothing, if there is one
 abbrev pub block_on : (ℕ → Doing) → Option ℕ → Doing
 block_on go (Some block) s = go block s
-block_on go None s = Strays
+block_on go None s = Stuck
 
 -- a branch's block, or what is taken where its condition doesn't hold
 abbrev pub taken_by : (ℕ → Doing) → (Choice → Doing) → Option Branch → Option Bool → Doing
-taken_by go other None truth s = Strays
-taken_by go other (Some branch) None s = Strays
+taken_by go other None truth s = Stuck
+taken_by go other (Some branch) None s = Stuck
 taken_by go other (Some branch) (Some truth) s = if truth then go branch.block s else other branch.otherwise s
 
 -- a branch by its number: its condition, and what is taken by it; what is taken otherwise has a smaller number
@@ -47,13 +47,13 @@ abbrev pub condition_of : List Branch → ℕ → Option ℕ
 condition_of branches k = option_map (λ (b : Branch). b.condition) (slice_get branches k)
 
 abbrev pub asked_at : Code → List Stored → (Value → Doing) → Option ℕ → Doing
-asked_at code stored next None s = Strays
+asked_at code stored next None s = Stuck
 asked_at code stored next (Some e) s = with_operand code stored e next s
 
 unfoldable pub choice_within : ℕ → Code → List Stored → (ℕ → Doing) → Choice → Doing
 choice_within depth code stored go choice.Nothing s = nothing s
 choice_within depth code stored go (choice.Block block) s = go block s
-choice_within zero code stored go (choice.Branch k) s = Strays
+choice_within zero code stored go (choice.Branch k) s = Stuck
 choice_within (suc depth) code stored go (choice.Branch k) s =
     asked_at code stored (λ v. taken_by go (choice_within depth code stored go) (slice_get code.arena.branches k) (truth_of v)) (condition_of code.arena.branches k) s
 
@@ -104,11 +104,11 @@ planned code stored go (plan.Return word) s = ends_due (plain word) s
 
 abbrev pub begun_by : Code → List Stored → (ℕ → Doing) → Option Plan → Doing
 begun_by code stored go (Some p) s = planned code stored go p s
-begun_by code stored go None s = Strays
+begun_by code stored go None s = Stuck
 
 -- a block: its statement, which is counted, and then the block behind it
 abbrev pub block_done : Code → List Stored → (ℕ → Doing) → Option Block → Doing
-block_done code stored go None s = Strays
+block_done code stored go None s = Stuck
 block_done code stored go (Some End) s = nothing s
 block_done code stored go (Some (Then what next)) s = counted (λ s. and_then (begun_by code stored go (plan_of what) s) (λ done. go next)) s
 

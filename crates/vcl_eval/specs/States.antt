@@ -5,7 +5,7 @@ use Rattle.vcl_context.specs.declared.context.Context.{Context}
 use Rattle.vcl_context.specs.declared.turn.Answer.{Answer}
 use Rattle.vcl_context.specs.declared.turn.Command.TheVariants.{Ban}
 use Rattle.vcl_context.specs.declared.turn.Return.{Return}
-use Rattle.vcl_operands.specs.Outs.{Out, On, Ends, Asks, Strays, and_then, fail, known_on, ask}
+use Rattle.vcl_operands.specs.Outs.{Out, On, Ends, Asks, Stuck, and_then, fail, known_on, ask}
 use Rattle.vcl_operands.specs.Values.{as_text}
 
 pub record State : Type 0 where
@@ -25,7 +25,7 @@ abbrev pub in_state : {A : Type 0} → State → Out (List Answer) A → Out Sta
 in_state s (On a answers) = On a (record s { answers = answers })
 in_state s (Ends word answers) = Ends word (record s { answers = answers })
 in_state s (Asks command) = Asks command
-in_state s Strays = Strays
+in_state s Stuck = Stuck
 
 abbrev pub nothing : Doing
 nothing s = On tt s
@@ -38,7 +38,7 @@ set_on None s = fail s
 -- the same where there is a context or a refusal in a sound text alone
 abbrev pub set_due : Option (Option Context) → Doing
 set_due (Some due) s = set_on due s
-set_due None s = Strays
+set_due None s = Stuck
 
 -- the most statements of a run: each is counted before it runs, and the next one ends the run
 abbrev pub most_statements : ℕ
@@ -54,7 +54,7 @@ ends_on None s = fail s
 
 abbrev pub ends_due : Option (Option Return) → Doing
 ends_due (Some word) s = ends_on word s
-ends_due None s = Strays
+ends_due None s = Stuck
 
 -- any text is asked to be banned; whoever answers knows whether it is a ban
 abbrev pub banned : Value → Doing

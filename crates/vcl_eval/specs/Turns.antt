@@ -6,8 +6,8 @@ use Rattle.vcl_program.specs.declared.code.Code.{Code}
 use Rattle.vcl_context.specs.declared.turn.Answer.{Answer}
 use Rattle.vcl_context.specs.declared.turn.Answer.TheVariants as answer
 use Rattle.vcl_context.specs.declared.turn.Command.TheVariants as command
-use Rattle.vcl_operands.specs.Outs.{Out, On, Ends, Asks, Strays, IsSure}
-use Rattle.vcl_eval.specs.declared.live.Live.{Live}
+use Rattle.vcl_operands.specs.Outs.{Out, On, Ends, Asks, Stuck, IsSure}
+use Rattle.vcl_eval.specs.declared.run_state.RunState.{RunState}
 use Rattle.vcl_eval.specs.declared.machine.Asked.{Asked}
 use Rattle.vcl_eval.specs.declared.machine.Asked.TheVariants as asked
 use Rattle.vcl_eval.specs.declared.machine.Machine.{Machine}
@@ -17,14 +17,14 @@ use Rattle.vcl_eval.specs.declared.task.Task.TheVariants as task
 use Rattle.vcl_context.specs.declared.turn.Turn.{Turn}
 use Rattle.vcl_context.specs.declared.turn.Turn.TheVariants as turn
 use Rattle.vcl_eval.specs.States.{State}
-use Rattle.vcl_eval.specs.Lives.{rest_of, counted_on}
+use Rattle.vcl_eval.specs.RunStates.{rest_of, counted_on}
 
 -- what is left of a run, by the answers that are still to come
 abbrev pub Left : Type 0
 Left = List Answer → Out State (Unit {0})
 
 -- a run that waits has this left to do: before Begin all of it, and else what is behind the answer that it waits for
-abbrev pub WaitsFor : Code → List Stored → Left → Live → Asked → Type 0
+abbrev pub WaitsFor : Code → List Stored → Left → RunState → Asked → Type 0
 WaitsFor code stored left live asked.Begin = (answers : List Answer) → left answers ≡ rest_of code stored task.Run live answers
 WaitsFor code stored left live asked.Ban = (a : Answer) (answers : List Answer) → left (a ∷ answers) ≡ rest_of code stored task.Run live answers
 WaitsFor code stored left live (asked.Purge what) = (n : ℤ) (answers : List Answer) → left (answer.Number n ∷ answers) ≡ counted_on code stored live what n answers
@@ -36,8 +36,8 @@ WaitsAt code stored left (Some w) = WaitsFor code stored left w.live w.asked
 abbrev pub IsAt : Code → List Stored → Left → Machine → Type 0
 IsAt code stored left machine = WaitsAt code stored left machine.waiting
 
--- whatever it is answered, it doesn't stray
-abbrev pub SureFor : Code → List Stored → Live → Asked → Type 0
+-- whatever it is answered, it isn't stuck
+abbrev pub SureFor : Code → List Stored → RunState → Asked → Type 0
 SureFor code stored live asked.Begin = (answers : List Answer) → IsSure (rest_of code stored task.Run live answers)
 SureFor code stored live asked.Ban = (answers : List Answer) → IsSure (rest_of code stored task.Run live answers)
 SureFor code stored live (asked.Purge what) = (n : ℤ) (answers : List Answer) → IsSure (counted_on code stored live what n answers)
@@ -77,7 +77,7 @@ abbrev pub EndsAs : Out State (Unit {0}) → Turn → Type 0
 EndsAs (Ends word s) t = t ≡ turn.End word (closed s)
 EndsAs (On done s) t = ⊥
 EndsAs (Asks wanted) t = ⊥
-EndsAs Strays t = ⊥
+EndsAs Stuck t = ⊥
 
 -- a turn of what is left: it wants this command and the machine waits for its answer, or it ends so whatever comes
 abbrev pub IsTurn : Code → List Stored → Left → Turn → Machine → Type 0

@@ -1,5 +1,5 @@
 // How statements begin and what is done with the values of their expressions.
-ghost use Rattle.std.specs.Prelude.{◌≡◌, IsSome, Some};
+ghost use Rattle.std.specs.Prelude.{◌≡◌, Some};
 ghost use Rattle.vcl_eval.specs.Runs.{plan_of};
 
 use vcl_code::{Action, Arguments, Choice, ReturnWord};
@@ -37,34 +37,31 @@ pub enum Plan {
     Return(ReturnWord),
 }
 
-/// How a statement begins.
-pub fn plan_of(action: Action) -> Plan
-    requires { IsSome (plan_of action) }
-    ensures { plan_of action ≡ Some result }
+/// How a statement begins, if a sound text has it.
+pub fn plan_of(action: Action) -> Option<Plan>
+    ensures { result ≡ plan_of action }
 {
     match action {
-        Action::Set(variable, e) => Plan::Evaluate(e, Finish::Assign(variable)),
-        Action::Append(variable, e) => Plan::Evaluate(e, Finish::Append(variable)),
-        Action::SetField(message, name, e) => {
-            Plan::Evaluate(e, Finish::AssignField(message, name))
-        }
-        Action::AppendField(message, name, e) => {
-            Plan::Evaluate(e, Finish::AppendField(message, name))
-        }
-        Action::UnsetField(message, name) => Plan::Unset(message, name),
-        Action::Call(number) => Plan::Call(number),
-        Action::If(choice) => Plan::Choose(choice),
-        Action::Return(word, Arguments::Zero) => Plan::Return(word),
-        Action::Return(word, Arguments::One(e)) => Plan::Evaluate(e, Finish::Return(word)),
-        Action::Return(word, Arguments::Two(e, f)) => {
-            Plan::Evaluate(e, Finish::ReturnFirst(word, f))
-        }
-        Action::HashData(e) => Plan::Evaluate(e, Finish::HashData),
-        Action::Synthetic(e) => Plan::Evaluate(e, Finish::Synthetic),
-        Action::Ban(e) => Plan::Evaluate(e, Finish::Ban),
-        Action::Evaluate(e) => Plan::Evaluate(e, Finish::Forget),
-        Action::Return(_, Arguments::Three(_, _, _) | Arguments::More) | Action::Absent => {
-            unreachable!()
-        }
+        Action::Set(variable, e) => evaluates(e, Finish::Assign(variable)),
+        Action::Append(variable, e) => evaluates(e, Finish::Append(variable)),
+        Action::SetField(message, name, e) => evaluates(e, Finish::AssignField(message, name)),
+        Action::AppendField(message, name, e) => evaluates(e, Finish::AppendField(message, name)),
+        Action::UnsetField(message, name) => Some(Plan::Unset(message, name)),
+        Action::Call(number) => Some(Plan::Call(number)),
+        Action::If(choice) => Some(Plan::Choose(choice)),
+        Action::Return(word, Arguments::Zero) => Some(Plan::Return(word)),
+        Action::Return(word, Arguments::One(e)) => evaluates(e, Finish::Return(word)),
+        Action::Return(word, Arguments::Two(e, f)) => evaluates(e, Finish::ReturnFirst(word, f)),
+        Action::HashData(e) => evaluates(e, Finish::HashData),
+        Action::Synthetic(e) => evaluates(e, Finish::Synthetic),
+        Action::Ban(e) => evaluates(e, Finish::Ban),
+        Action::Evaluate(e) => evaluates(e, Finish::Forget),
+        Action::Return(_, Arguments::Three(_, _, _) | Arguments::More) | Action::Absent => None,
     }
+}
+
+fn evaluates(e: usize, what: Finish) -> Option<Plan>
+    ensures { result ≡ Some (Plan.Evaluate e what) }
+{
+    Some(Plan::Evaluate(e, what))
 }

@@ -1,22 +1,22 @@
 // Runs from one command to the next.
-ghost use Rattle.std.specs.Prelude.{◌≡◌, ◌<◌, List, IfOk};
+ghost use Rattle.std.specs.Prelude.{◌≡◌, ◌<◌, ◌≤◌, List, IfOk};
 ghost use Rattle.vcl_context.specs.declared.turn.Answer.{Answer as AnswerHere};
 ghost use Rattle.vcl_operands.specs.Outs.{IsSure};
-ghost use Rattle.vcl_eval.specs.Lives.{rest_of, task_after, stopped, counted_on};
+ghost use Rattle.vcl_eval.specs.RunStates.{rest_of, task_after, stopped, counted_on};
 ghost use Rattle.vcl_eval.specs.Turns.{Left, WaitsFor, SureFor, SuitsAsked, behind_answer};
-ghost use Rattle.vcl_eval.specs.Weights.{weight, amount, IsTidy, TidyAsked, left_asked, StopsLeft};
+ghost use Rattle.vcl_eval.specs.Weights.{weight, left_asked};
 
 use crate::finish::Finish;
-use crate::live::Live;
 use crate::machine::Asked;
+use crate::run_state::RunState;
 use crate::task::{Stop, Task};
 use std::alloc::{AllocError, Global};
 use vcl_context::{Answer, Return};
-use vcl_operands::{Evaluation, Outcome};
+use vcl_operands::{Evaluation, Outcome, compiled_falls};
 use vcl_program::Compiled;
 use vmod_host::VmodTable;
 
-impl Live {
+impl RunState {
     /// Goes on with the answer that is waited for.
     pub(crate) fn answered(
         &mut self,
@@ -30,7 +30,7 @@ impl Live {
         requires sure { SureFor program.now.code functions.now.stored self.old asked }
         ensures value { (left : Left) → WaitsFor program.now.code functions.now.stored left self.old asked → IfOk result (λ stop. (answers : List AnswerHere)
             → behind_answer answer left answers ≡ rest_of program.now.code functions.now.stored (stopped stop) self.new answers) }
-        ensures less { TidyAsked program.now.code self.old asked → IfOk result (λ stop. StopsLeft program.now.code (left_asked program.now.code self.old asked) stop self.new) }
+        ensures less { IfOk result (λ stop. weight program.now.code (stopped stop) self.new ≤ left_asked program.now.code self.old asked) }
     {
         match asked {
             Asked::Begin => self.run(alloc, program, functions, Task::Run),
@@ -53,8 +53,9 @@ impl Live {
         requires { (answers : List AnswerHere) → IsSure (rest_of program.now.code functions.now.stored first self.old answers) }
         ensures value { IfOk result (λ stop. (answers : List AnswerHere) → rest_of program.now.code functions.now.stored first self.old answers
             ≡ rest_of program.now.code functions.now.stored (stopped stop) self.new answers) }
-        ensures less { IsTidy program.now.code first self.old → IfOk result (λ stop. StopsLeft program.now.code (amount program.now.code first self.old) stop self.new) }
+        ensures less { IfOk result (λ stop. weight program.now.code (stopped stop) self.new ≤ weight program.now.code first self.old) }
     {
+        compiled_falls(program);
         let mut task = first;
         'steps: loop {
             task = match task {
@@ -82,8 +83,7 @@ impl Live {
         requires { (answers : List AnswerHere) → IsSure (counted_on program.now.code functions.now.stored self.old what count answers) }
         ensures value { IfOk result (λ stop. (answers : List AnswerHere) → counted_on program.now.code functions.now.stored self.old what count answers
             ≡ rest_of program.now.code functions.now.stored (stopped stop) self.new answers) }
-        ensures less { TidyAsked program.now.code self.old (Asked.Purge what)
-            → IfOk result (λ stop. StopsLeft program.now.code (left_asked program.now.code self.old (Asked.Purge what)) stop self.new) }
+        ensures less { IfOk result (λ stop. weight program.now.code (stopped stop) self.new ≤ left_asked program.now.code self.old (Asked.Purge what)) }
     {
         let outcome = self
             .evaluation
@@ -104,7 +104,6 @@ impl Live {
         ensures value { IfOk result (λ task. (answers : List AnswerHere) → rest_of program.now.code functions.now.stored (Task.Evaluate number what) self.old answers
             ≡ rest_of program.now.code functions.now.stored task self.new answers) }
         ensures smaller { IfOk result (λ task. weight program.now.code task self.new < weight program.now.code (Task.Evaluate number what) self.old) }
-        ensures tidy { IfOk result (λ task. IsTidy program.now.code task self.new) }
     {
         self.evaluation = Evaluation::new(alloc);
         let outcome = self

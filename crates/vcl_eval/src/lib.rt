@@ -7,14 +7,14 @@
 mod finish;
 mod going;
 mod kinds;
-mod live;
 mod machine;
 mod returns;
+mod run_state;
 mod setting;
 mod statements;
 mod task;
 
 pub use finish::{Finish, Plan};
-pub use live::Live;
 pub use machine::{Asked, Machine, Waiting};
+pub use run_state::RunState;
 pub use task::{Stop, Task};

@@ -1,17 +1,17 @@
 // A run of a subroutine that stops and goes on.
-ghost use Rattle.std.specs.Prelude.{◌≡◌, ℕ, List, IfOk, OnOk, OnErr, IsSome, None, option_map};
+ghost use Rattle.std.specs.Prelude.{◌≡◌, ◌≤◌, ℕ, List, IfOk, OnOk, OnErr, IsSome, None, option_map};
 ghost use Rattle.vmod_host.specs.declared.signature.Stored.{Stored};
 ghost use Rattle.vcl_context.specs.declared.turn.Answer.{Answer as AnswerHere};
 ghost use Rattle.vcl_operands.specs.Outs.{Out, IsSure};
 ghost use Rattle.vcl_eval.specs.States.{State};
 ghost use Rattle.vcl_program.specs.declared.code.Code.{Code};
-ghost use Rattle.vcl_eval.specs.Lives.{rest_of, stopped};
+ghost use Rattle.vcl_eval.specs.RunStates.{rest_of, stopped};
 ghost use Rattle.vcl_eval.specs.Runs.{run_at};
-ghost use Rattle.vcl_eval.specs.Weights.{IsTidyAt, left_in, Lessens, TidyAsked, left_asked, StopsLeft, StopsBehind};
+ghost use Rattle.vcl_eval.specs.Weights.{weight, left_in, left_asked, StopsWithin, Lessens};
 ghost use Rattle.vcl_eval.specs.Turns.{Left, WaitsFor, IsAt, SureFor, IsSureAt, SuitsAsked, Suits, behind_answer, IsTurn, IsTurnBehind, SuitsBehind, waits_for};
 
 use crate::finish::Finish;
-use crate::live::Live;
+use crate::run_state::RunState;
 use crate::task::Stop;
 use std::alloc::{AllocError, Global};
 use std::mem;
@@ -34,7 +34,7 @@ pub enum Asked {
 /// A run that waits.
 #[derive(Drop)]
 pub struct Waiting {
-    pub live: Live,
+    pub live: RunState,
     pub asked: Asked,
 }
 
@@ -54,7 +54,6 @@ impl Machine {
     ) -> Result<Machine, AllocError>
         ensures at { (stored : List Stored) → IfOk result (IsAt program.now.code stored (run_at program.now.code stored subroutine context)) }
         ensures suits { IfOk result (Suits Answer.Begin) }
-        ensures tidy { IfOk result (IsTidyAt program.now.code) }
         ensures sure { (stored : List Stored) → ((answers : List AnswerHere) → IsSure (run_at program.now.code stored subroutine context answers)) → IfOk result (IsSureAt program.now.code stored) }
     {
         let mut ahead = Stack::new(alloc);
@@ -62,7 +61,7 @@ impl Machine {
         let statements = context.statements;
         Ok(Machine {
             waiting: Some(Waiting {
-                live: Live {
+                live: RunState {
                     ahead,
                     evaluation: Evaluation::new(alloc),
                     context,
@@ -73,7 +72,7 @@ impl Machine {
         })
     }
 
-    /// Goes on with an answer until a command is wanted or the subroutine ends, on a run that doesn't stray. After want of memory
+    /// Goes on with an answer until a command is wanted or the subroutine ends, on a run that isn't stuck. After want of memory
     /// it answers that for ever.
     pub fn resume(
         &mut self,
@@ -90,7 +89,7 @@ impl Machine {
         ensures sure { IfOk result (λ turn. IsSureAt program.now.code functions.now.stored self.new) }
         ensures wanting { OnErr result (self.new.waiting ≡ None) }
         ensures alive { OnOk result (IsSome self.old.waiting) }
-        ensures less { IsTidyAt program.now.code self.old → IfOk result (λ turn. Lessens program.now.code (left_in program.now.code self.old) turn self.new) }
+        ensures less { IfOk result (λ turn. Lessens program.now.code (left_in program.now.code self.old) turn self.new) }
     {
         let Some(waiting) = &mut self.waiting else {
             return Err(AllocError);
@@ -98,10 +97,17 @@ impl Machine {
         match waiting.answered(alloc, program, functions, answer) {
             Ok(stop) => Ok(self.stopped(stop)),
             Err(wanting) => {
-                self.waiting = None;
+                self.give_up();
                 Err(wanting)
             }
         }
+    }
+
+    // Nothing goes on after want of memory.
+    fn give_up(&mut self)
+        ensures { self.new.waiting ≡ None }
+    {
+        self.waiting = None;
     }
 
     // The turn of what a run has come to.
@@ -109,7 +115,7 @@ impl Machine {
         requires { IsSome self.old.waiting }
         ensures turn { (code : Code) (stored : List Stored) → IsTurnBehind code stored (stopped stop) self.old.waiting result self.new }
         ensures suits { SuitsBehind result self.new }
-        ensures less { (code : Code) (most : ℕ) → StopsBehind code most stop self.old.waiting → Lessens code most result self.new }
+        ensures less { (code : Code) (most : ℕ) → StopsWithin code most stop self.old.waiting → Lessens code most result self.new }
     {
         match stop {
             Stop::Ban(text) => {
@@ -150,8 +156,7 @@ impl Waiting {
         requires sure { SureFor program.now.code functions.now.stored self.old.live self.old.asked }
         ensures value { (left : Left) → WaitsFor program.now.code functions.now.stored left self.old.live self.old.asked → IfOk result (λ stop. (answers : List AnswerHere)
             → behind_answer answer left answers ≡ rest_of program.now.code functions.now.stored (stopped stop) self.new.live answers) }
-        ensures less { TidyAsked program.now.code self.old.live self.old.asked
-            → IfOk result (λ stop. StopsLeft program.now.code (left_asked program.now.code self.old.live self.old.asked) stop self.new.live) }
+        ensures less { IfOk result (λ stop. weight program.now.code (stopped stop) self.new.live ≤ left_asked program.now.code self.old.live self.old.asked) }
     {
         let asked = mem::replace(&mut self.asked, Asked::Begin);
         self.live.answered(alloc, program, functions, asked, answer)

@@ -10,7 +10,7 @@ use std::mem;
 use units::{Shared, Text};
 use vcl_runner::{Executable, Run};
 use vcl_runs::Programs;
-use vcl_soundness::{backends_are_there, program_never_strays, standard_are_meant};
+use vcl_soundness::{backends_are_there, program_never_stuck, standard_are_meant};
 use vcl_store::program_of;
 use vmod_host::VmodTable;
 
@@ -38,7 +38,7 @@ fn make(alloc: Global, functions: Shared<VmodTable>, text: &Text) -> Result<Exec
 {
     match program_of(alloc, text, &functions) {
         Ok(compiled) => {
-            program_never_strays(&compiled);
+            program_never_stuck(&compiled);
             backends_are_there(&compiled);
             standard_are_meant();
             Ok(Executable::of(compiled, functions))

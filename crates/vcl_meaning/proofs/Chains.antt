@@ -17,7 +17,7 @@ use Rattle.vcl_code.specs.Statements.{Chosen, branch, with_chain, with_arms}
 use Rattle.vcl_program.specs.declared.code.Code.{Code}
 use Rattle.vcl_operands.specs.Falls.{ChoicesFall}
 use Rattle.vcl_operands.specs.Later.{Later}
-use Rattle.vcl_operands.specs.Outs.{Out, On, Ends, Asks, Strays, and_then, fail}
+use Rattle.vcl_operands.specs.Outs.{Out, On, Ends, Asks, Stuck, and_then, fail}
 use Rattle.vcl_operands.proofs.Binds.{bind_bind}
 use Rattle.vcl_operands.proofs.Growing.{get-pushed, later-trans, later-block, later-branch}
 use Rattle.vcl_meaning.specs.Meaning.{either_by}
@@ -38,7 +38,7 @@ pub bind-nothing : (m : Out State (Unit {0})) → and_then m (λ done. nothing) 
 bind-nothing (On done s) = refl
 bind-nothing (Ends word s) = refl
 bind-nothing (Asks command) = refl
-bind-nothing Strays = refl
+bind-nothing Stuck = refl
 
 if-bind : (b : Bool) (m : Out State (Unit {0})) (s : State) (f : Unit {0} → Doing) → and_then (if b then m else fail s) f ≡ (if b then and_then m f else fail s)
 if-bind true m s f = refl

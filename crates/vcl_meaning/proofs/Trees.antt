@@ -29,7 +29,7 @@ use Rattle.vcl_program.specs.declared.code.Code.{Code}
 use Rattle.vcl_context.specs.declared.turn.Answer.{Answer}
 use Rattle.vcl_operands.specs.Falls.{Falls, ChoicesFall}
 use Rattle.vcl_operands.specs.Later.{Later}
-use Rattle.vcl_operands.specs.Outs.{Out, On, Ends, Asks, Strays, and_then}
+use Rattle.vcl_operands.specs.Outs.{Out, On, Ends, Asks, Stuck, and_then}
 use Rattle.vcl_operands.specs.Meaning.{Scene, scene, Operand, value_of, operands_of}
 use Rattle.vcl_operands.specs.Meaning.{called as call_value}
 use Rattle.vcl_operands.specs.Nodes.{World, world, value_at}
@@ -104,7 +104,7 @@ unset-is r (Field message name) a later s =
 unset-is r NoTarget a later s = refl
 
 -- return
-many-returned : (word : ReturnWord) (ops : List Operand) (s : State) → 3 < length ops → Strays ≡ returned (Some word) ops s
+many-returned : (word : ReturnWord) (ops : List Operand) (s : State) → 3 < length ops → Stuck ≡ returned (Some word) ops s
 many-returned word [] s h = absurd (omega arith)
 many-returned word (x ∷ []) s h = absurd (omega arith)
 many-returned word (x ∷ y ∷ []) s h = absurd (omega arith)
@@ -115,7 +115,7 @@ second-kept : (r : Reading) (y : ℕ) (next : Value → Value → Doing) (s : St
 second-kept r y next s (On v answers) = refl
 second-kept r y next s (Ends word answers) = refl
 second-kept r y next s (Asks command) = refl
-second-kept r y next s Strays = refl
+second-kept r y next s Stuck = refl
 
 returned-is : (r : Reading) (word : Option ReturnWord) (g : Given) (args : Arguments) (ops : List Operand) (s : State) → g.arguments ≡ args → ArgumentsMean (world_in r s) args ops
     → acts r (return_acted word g).action s ≡ returned word ops s
@@ -131,7 +131,7 @@ returned-is r (Some word) g args ops s e h = ap (λ (x : Arguments). acts r (act
     by-arguments TooMany h = many-returned word ops s h
 
 -- functions
-many-only : (ops : List Operand) (next : Value → Doing) (s : State) → 3 < length ops → Strays ≡ with_only ops next s
+many-only : (ops : List Operand) (next : Value → Doing) (s : State) → 3 < length ops → Stuck ≡ with_only ops next s
 many-only [] next s h = absurd (omega arith)
 many-only (x ∷ []) next s h = absurd (omega arith)
 many-only (x ∷ y ∷ more) next s h = refl

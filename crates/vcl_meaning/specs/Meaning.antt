@@ -1,5 +1,5 @@
 -- What runs of subroutines do (the Varnish Reference Manual, VCL; docs/VCL.md), on a text with its names and with the answers
--- that they are given. What no sound text has strays.
+-- that they are given. What no sound text has is stuck.
 use Rattle.std.specs.Prelude.{◌≡◌, ℕ, zero, suc, ◌==◌, Bool, true, false, List, [], ◌∷◌, Option, Some, None, slice_get, if◌then◌else◌}
 use Rattle.vcl_tree.specs.Phrase as phrase
 use Rattle.vcl_tree.specs.Phrase.{Phrase, Node, Named, More, Bound, Called, Set, Append, Unset, Jump, Return, If, ElseIf, Else}
@@ -24,7 +24,7 @@ use Rattle.vcl_program.specs.declared.declarations.Declarations.{Declarations}
 use Rattle.vcl_program.specs.Declarations.{nothing as undeclared, with_items}
 use Rattle.vcl_program.specs.Codes.{known_of, default_of}
 use Rattle.vcl_context.specs.declared.turn.Answer.{Answer}
-use Rattle.vcl_operands.specs.Outs.{Out, Strays, and_then, fail, IsSure}
+use Rattle.vcl_operands.specs.Outs.{Out, Stuck, and_then, fail, IsSure}
 use Rattle.vcl_operands.specs.Meaning.{Scene, Operand, value_of, operands_of}
 use Rattle.vcl_operands.specs.Meaning.{called as call_value}
 use Rattle.vcl_eval.specs.Returns.{plain, with_one, with_two}
@@ -80,34 +80,34 @@ with_value t e next s = then_with (value_of t.known (scene_in t s.context) e) ne
 
 abbrev pub with_only : List Operand → (Value → Doing) → Doing
 with_only (x ∷ []) next s = then_with x next s
-with_only _ next s = Strays
+with_only _ next s = Stuck
 
 -- `set` and `+=` of a variable or a field, and `unset` of a field
 abbrev pub set_target : Text → Target → Phrase → Doing
 set_target t (Plain variable) e s = with_value t e (λ v s. set_due (set_to variable v s.context) s) s
 set_target t (Field message name) e s = with_value t e (λ v s. set_due (field_to message name v s.context) s) s
-set_target t NoTarget e s = Strays
+set_target t NoTarget e s = Stuck
 
 abbrev pub append_target : Text → Target → Phrase → Doing
 append_target t (Plain variable) e s = with_value t e (λ v s. set_due (append_to variable v s.context) s) s
 append_target t (Field message name) e s = with_value t e (λ v s. set_due (append_field message name v s.context) s) s
-append_target t NoTarget e s = Strays
+append_target t NoTarget e s = Stuck
 
 abbrev pub unset_target : Target → Doing
 unset_target (Field message name) s = set_on (Some (field_unset message name s.context)) s
-unset_target _ s = Strays
+unset_target _ s = Stuck
 
 -- `call` of one of the text's own subroutines, by its place
 abbrev pub call_on : (ℕ → Doing) → Option ℕ → Doing
 call_on calls (Some k) s = calls k s
-call_on calls None s = Strays
+call_on calls None s = Stuck
 
 -- `return` with a word and none, one or two values
 abbrev pub returned : Option ReturnWord → List Operand → Doing
 returned (Some word) [] s = ends_due (plain word) s
 returned (Some word) (x ∷ []) s = then_with x (λ v. ends_due (with_one word v)) s
 returned (Some word) (x ∷ y ∷ []) s = then_with x (λ v. then_with y (λ w. ends_due (with_two word v w))) s
-returned _ operands s = Strays
+returned _ operands s = Stuck
 
 -- a function that is called as a statement; a value that it has is forgotten
 abbrev pub performed : Scene → Callee → Option (List ℕ) → List Operand → Doing
@@ -120,7 +120,7 @@ performed scene function second operands s = then_with (call_value scene functio
 abbrev pub either_by : Option Bool → Doing → Doing → Doing
 either_by (Some true) block other s = block s
 either_by (Some false) block other s = other s
-either_by None block other s = Strays
+either_by None block other s = Stuck
 
 -- With what calls do. Each statement is counted before it runs, an `if` as one, and conditions aren't.
 unfoldable mutual
@@ -136,7 +136,7 @@ unfoldable mutual
   statement_of t calls (Node If sign first) s = branch_of t calls first nothing s
   statement_of t calls (Node ElseIf front last) s = branches_of t calls front (branch_of t calls last nothing) s
   statement_of t calls (Node Else front block) s = branches_of t calls front (block_of t calls block) s
-  statement_of t calls _ s = Strays
+  statement_of t calls _ s = Stuck
 
   -- the conditions of an `if`, one after another, and what is done where none holds
   pub branches_of : Text → (ℕ → Doing) → Phrase → Doing → Doing
@@ -155,7 +155,7 @@ unfoldable mutual
 -- what a call does; no run nests calls deeper than it counts statements
 abbrev pub body_on : (Phrase → Doing) → Option Phrase → Doing
 body_on go (Some body) s = go body s
-body_on go None s = Strays
+body_on go None s = Stuck
 
 unfoldable pub called_within : ℕ → Text → ℕ → Doing
 called_within zero t k s = fail s
@@ -174,7 +174,7 @@ bodies_done t (body ∷ more) s = and_then (block_of t (called t) body s) (λ do
 unfoldable pub run_of : List Item → List Stored → Subroutine → Context → List Answer → Out State (Unit {0})
 run_of items stored subroutine c answers = bodies_done (text_of items stored) (bodies_of subroutine items) (state c c.statements answers)
 
--- no run of a subroutine but vcl_init strays
-abbrev pub NeverStrays : List Item → List Stored → Type 0
-NeverStrays items stored =
+-- no run of a subroutine but vcl_init gets stuck
+abbrev pub NeverStuck : List Item → List Stored → Type 0
+NeverStuck items stored =
     (subroutine : Subroutine) → has Init subroutine ≡ false → (context : Context) (answers : List Answer) → IsSure (run_of items stored subroutine context answers)

@@ -13,7 +13,7 @@ use Rattle.vcl_operands.specs.declared.frame.Frame.TheVariants as frame
 use Rattle.vcl_operands.specs.declared.frame.Plan.TheVariants as plan
 use Rattle.vcl_operands.specs.declared.frame.Unary.{Unary}
 use Rattle.vcl_operands.specs.declared.frame.Unary.TheVariants as unary
-use Rattle.vcl_operands.specs.Outs.{Strays, and_then, made_on}
+use Rattle.vcl_operands.specs.Outs.{Stuck, and_then, made_on}
 use Rattle.vcl_operands.specs.Meaning.{Operand, decides, purged}
 use Rattle.vcl_operands.specs.Falls.{arguments_reach, reach, Falls}
 use Rattle.vcl_operands.specs.Nodes.{World, with_none, with_rest, changed, combined, planned, node_value, known_value, value_within, value_at}
@@ -111,12 +111,12 @@ at-node w falls i n e s =
     let q : i < length w.code.arena.nodes = slice_get_within w.code.arena.nodes i n e in
     ap (λ (o : Operand). o s) (within-node w falls (length w.code.arena.nodes) i n e q q)
 
-within-none : (w : World) (d i : ℕ) (s : List Answer) → slice_get w.code.arena.nodes i ≡ None → value_within d w i s ≡ Strays
+within-none : (w : World) (d i : ℕ) (s : List Answer) → slice_get w.code.arena.nodes i ≡ None → value_within d w i s ≡ Stuck
 unfolding value_within
 within-none w zero i s e = refl
 within-none w (suc d) i s e = ap (λ (o : Option Node). known_value w (value_within d w) o s) e
 
 -- a number without a node
-pub at-none : (w : World) (i : ℕ) (s : List Answer) → slice_get w.code.arena.nodes i ≡ None → value_at w i s ≡ Strays
+pub at-none : (w : World) (i : ℕ) (s : List Answer) → slice_get w.code.arena.nodes i ≡ None → value_at w i s ≡ Stuck
 unfolding value_at
 at-none w i s e = within-none w (length w.code.arena.nodes) i s e

@@ -1,96 +1,181 @@
 -- A step of an evaluation changes nothing of what it comes to, and lessens its weight.
-use Rattle.std.proofs.Math.Nat.{le_refl}
-use Rattle.std.proofs.Common.{◌≡◌, ◌≤◌, ◌<◌, ◌+◌, ℕ, suc, length, Bool, List, [], ◌∷◌, ◌++◌, Option, Some, None, Result, Ok, Err, IfOk, refl, sym, ap, ◌∙◌, subst, arith, slice_get}
-use Rattle.std.proofs.lemmas.Option.{slice_get_within}
+use Rattle.std.proofs.Common.{◌≡◌, ◌<◌, ◌+◌, ℕ, Bool, true, false, List, [], ◌∷◌, ◌++◌, Option, Some, None, option_map, option_and_then, if◌then◌else◌, refl, sym, ap, ◌∙◌, subst, arith, slice_get}
+use Rattle.std.specs.Bool.{beq}
 use Rattle.std.specs.Prelude.{IsSome}
-use Rattle.vcl_values.specs.Values.{truth_of}
 use Rattle.vcl_values.specs.declared.value.Value.{Value}
+use Rattle.vcl_values.specs.declared.value.Value.TheVariants as value
+use Rattle.vcl_values.specs.Values.{truth_of}
 use Rattle.vcl_code.specs.declared.node.Arguments.{Arguments}
+use Rattle.vcl_code.specs.declared.node.Arguments.TheVariants.{Zero, One, Two, Three, More}
 use Rattle.vcl_code.specs.declared.node.Node.{Node}
+use Rattle.vmod_host.specs.declared.signature.Stored.{Stored}
 use Rattle.vcl_context.specs.declared.turn.Answer.{Answer}
+use Rattle.vcl_context.specs.declared.turn.Command.TheVariants.{Xkey}
+use Rattle.vcl_program.specs.declared.code.Code.{Code}
 use Rattle.vcl_operands.specs.declared.frame.Doing.{Doing}
 use Rattle.vcl_operands.specs.declared.frame.Doing.TheVariants as doing
 use Rattle.vcl_operands.specs.declared.frame.Frame.{Frame}
 use Rattle.vcl_operands.specs.declared.frame.Frame.TheVariants as frame
 use Rattle.vcl_operands.specs.declared.frame.Plan.{Plan}
 use Rattle.vcl_operands.specs.declared.frame.Plan.TheVariants as plan
-use Rattle.vcl_operands.specs.Outs.{Out, On, Ends, Asks, Strays, and_then, made_on, IsSure}
+use Rattle.vcl_operands.specs.declared.frame.Unary.TheVariants as unary
+use Rattle.vcl_operands.specs.Falls.{Falls}
 use Rattle.vcl_operands.specs.Meaning.{Operand, decided_by}
-use Rattle.vcl_operands.specs.Falls.{Falls, reach}
 use Rattle.vcl_operands.specs.Nodes.{World, changed, combined, onward, with_rest, value_at, left_of, rest_of, given_if, leaf, plan_of, planned}
-use Rattle.vcl_operands.specs.Values.{applied}
-use Rattle.vcl_operands.specs.declared.frame.Binary.{Binary}
-use Rattle.vcl_operands.specs.declared.frame.Unary.{Unary}
-use Rattle.vcl_code.specs.declared.node.Arguments.TheVariants.{Zero, More}
-use Rattle.vmod_host.specs.declared.signature.Stored.{Stored}
-use Rattle.vcl_operands.specs.declared.evaluation.Outcome.{Outcome}
-use Rattle.vcl_operands.specs.declared.evaluation.Outcome.TheVariants as outcome
-use Rattle.vcl_operands.specs.Weights.{power, weight, frames_weight, frame_weight, arguments_weight, plan_weight, LeavesLess, IsBegun}
-use Rattle.vcl_operands.proofs.Binds.{bind_bind, sure-along, sure-not, made-sure}
+use Rattle.vcl_operands.specs.Outs.{Out, On, Ends, Asks, Stuck, and_then, known_on, made_on, ask, number_of, IsSure}
+use Rattle.vcl_operands.specs.Steps.{Step, step, stay, given_due, called_step, decided_step, purge_due, given_step, planned_step, entered_step}
+use Rattle.vcl_operands.specs.Values.{as_text, applied}
+use Rattle.vcl_operands.specs.Weights.{power, weight, frames_weight, arguments_weight, plan_weight}
+use Rattle.vcl_operands.proofs.Binds.{bind_bind, sure-along, some-before}
 use Rattle.vcl_operands.proofs.Depths.{at-node, at-none}
-use Rattle.vcl_operands.proofs.Weights.{plan-light, none-light, power-below}
+use Rattle.vcl_operands.proofs.Weights.{plan-light}
 
--- a number without a node
-pub enter-none : (w : World) (i : ℕ) (fs : List Frame) (s : List Answer) → None ≡ slice_get w.code.arena.nodes i → and_then (value_at w i s) (left_of w fs) ≡ Strays
-enter-none w i fs s e = ap (λ (o : Out (List Answer) Value). and_then o (left_of w fs)) (at-none w i s (sym e))
+-- what is left behind a step, if there is one
+abbrev pub behind_step : World → Option Step → Operand
+behind_step w None s = Stuck
+behind_step w (Some next) s = rest_of w next.next next.waiting s
 
--- a node by its plan
-enter-plan : (w : World) → Falls w.code.arena.nodes → (i : ℕ) (n : Node) (p : Plan) (fs : List Frame) (s : List Answer) → Some n ≡ slice_get w.code.arena.nodes i → p ≡ plan_of n
-    → and_then (value_at w i s) (left_of w fs) ≡ and_then (planned w (value_at w) p s) (left_of w fs)
-enter-plan w falls i n p fs s e q =
-    ap (λ (o : Out (List Answer) Value). and_then o (left_of w fs)) (at-node w falls i n (sym e) s ∙ ap (λ (x : Plan). planned w (value_at w) x s) (sym q))
+made-behind : (w : World) (o : Option (Option Value)) (fs : List Frame) (s : List Answer) → and_then (made_on o s) (left_of w fs) ≡ behind_step w (option_map (stay fs) (given_due o)) s
+made-behind w None fs s = refl
+made-behind w (Some None) fs s = refl
+made-behind w (Some (Some v)) fs s = refl
 
--- a part first
-pub enter-first : {E : Type 0} (w : World) → Falls w.code.arena.nodes → (i : ℕ) (n : Node) (x : ℕ) (f : Frame) (old new : List Frame) (r : Result Doing E)
-    → Some n ≡ slice_get w.code.arena.nodes i → plan.First x f ≡ plan_of n
-    → IfOk r (λ next. (next ≡ doing.Evaluate x) × (new ≡ f ∷ old)) → IfOk r (λ next. (s : List Answer) → and_then (value_at w i s) (left_of w old) ≡ rest_of w next new s)
-enter-first w falls i n x f old new (Ok next) e q h =
-    λ s. enter-plan w falls i n (plan.First x f) old s e q ∙ bind_bind (value_at w x s) (onward w (value_at w) f) (left_of w old)
-    ∙ sym (ap (λ (d : Doing). rest_of w d new s) h.0 ∙ ap (λ (fs : List Frame). rest_of w (doing.Evaluate x) fs s) h.1)
-enter-first w falls i n x f old new (Err z) e q h = tt
+called-behind : (w : World) (k : ℕ) (given : List Value) (rest : Arguments) (fs : List Frame) (s : List Answer)
+    → and_then (with_rest w.stored (value_at w) k rest given s) (left_of w fs) ≡ behind_step w (called_step w.stored k given rest fs) s
+called-behind w k given Zero fs s = made-behind w (applied w.stored k given) fs s
+called-behind w k given (One x) fs s = bind_bind (value_at w x s) (onward w (value_at w) (frame.Apply k given Zero)) (left_of w fs)
+called-behind w k given (Two x y) fs s = bind_bind (value_at w x s) (onward w (value_at w) (frame.Apply k given (One y))) (left_of w fs)
+called-behind w k given (Three x y z) fs s = bind_bind (value_at w x s) (onward w (value_at w) (frame.Apply k given (Two y z))) (left_of w fs)
+called-behind w k given More fs s = refl
 
--- a stored function
-pub enter-calls : {E : Type 0} (w : World) → Falls w.code.arena.nodes → (i : ℕ) (n : Node) (k : ℕ) (rest : Arguments) (given : List Value) (old new : List Frame) (r : Result Doing E)
-    → Some n ≡ slice_get w.code.arena.nodes i → plan.Calls k rest ≡ plan_of n → given ≡ []
-    → IfOk r (λ next. (s : List Answer) → and_then (with_rest w.stored (value_at w) k rest given s) (left_of w old) ≡ rest_of w next new s)
-    → IfOk r (λ next. (s : List Answer) → and_then (value_at w i s) (left_of w old) ≡ rest_of w next new s)
-enter-calls w falls i n k rest given old new (Ok next) e q g h =
-    λ s. enter-plan w falls i n (plan.Calls k rest) old s e q ∙ ap (λ (vs : List Value). and_then (with_rest w.stored (value_at w) k rest vs s) (left_of w old)) (sym g) ∙ h s
-enter-calls w falls i n k rest given old new (Err z) e q g h = tt
+chosen-behind : (w : World) (decided : Bool) (x : ℕ) (decides : Bool) (fs : List Frame) (s : List Answer)
+    → and_then (if decides then On (value.Bool decided) s else and_then (value_at w x s) (onward w (value_at w) (frame.One unary.Truth))) (left_of w fs)
+    ≡ behind_step w (if decides then Some (step (doing.Give (value.Bool decided)) fs) else Some (step (doing.Evaluate x) (frame.One unary.Truth ∷ fs))) s
+chosen-behind w decided x true fs s = refl
+chosen-behind w decided x false fs s = bind_bind (value_at w x s) (onward w (value_at w) (frame.One unary.Truth)) (left_of w fs)
 
-known-given : (w : World) (o : Option Value) (fs : List Frame) (s : List Answer) → and_then (made_on (Some o) s) (left_of w fs) ≡ rest_of w (given_if o) fs s
-known-given w (Some v) fs s = refl
-known-given w None fs s = refl
+decided-behind : (w : World) (decided : Bool) (x : ℕ) (left : Option Bool) (fs : List Frame) (s : List Answer)
+    → and_then (decided_by decided (value_at w x) left s) (left_of w fs) ≡ behind_step w (decided_step decided x left fs) s
+decided-behind w decided x None fs s = refl
+decided-behind w decided x (Some left) fs s = chosen-behind w decided x (beq left decided) fs s
 
--- a node without parts
-pub enter-leaf : (w : World) → Falls w.code.arena.nodes → (i : ℕ) (n m : Node) (fs : List Frame) (o : Option Value) (next : Doing) (s : List Answer)
-    → Some n ≡ slice_get w.code.arena.nodes i → plan.Leaf m ≡ plan_of n → leaf w.code w.context m ≡ Some o → next ≡ given_if o
-    → and_then (value_at w i s) (left_of w fs) ≡ rest_of w next fs s
-enter-leaf w falls i n m fs o next s e q l d =
-    enter-plan w falls i n (plan.Leaf m) fs s e q ∙ ap (λ (x : Option (Option Value)). and_then (made_on x s) (left_of w fs)) l ∙ known-given w o fs s
-    ∙ sym (ap (λ (x : Doing). rest_of w x fs s) d)
+purged-behind : (w : World) (soft : Bool) (keys : Option (List ℕ)) (fs : List Frame) (s : List Answer)
+    → and_then (and_then (known_on keys s) (λ keys s. and_then (ask (Xkey keys soft) s) (λ answer. On (value.Int (number_of answer))))) (left_of w fs)
+    ≡ behind_step w (Some (step (purge_due soft keys) fs)) s
+purged-behind w soft None fs s = refl
+purged-behind w soft (Some keys) fs s = bind_bind (ask (Xkey keys soft) s) (λ answer. On (value.Int (number_of answer))) (left_of w fs)
 
--- what doesn't stray has a node, and a leaf a value
-pub number-within : (w : World) (i : ℕ) → ((s : List Answer) → IsSure (value_at w i s)) → i < length w.code.arena.nodes
-number-within w i h = by-place (slice_get w.code.arena.nodes i) refl
+-- a value for what waits on top
+pub given-behind : (w : World) (f : Frame) (v : Value) (fs : List Frame) (s : List Answer) → left_of w (f ∷ fs) v s ≡ behind_step w (given_step w.code w.stored f v fs) s
+given-behind w (frame.One what) v fs s = made-behind w (changed w.code what v) fs s
+given-behind w (frame.Left what x) v fs s = bind_bind (value_at w x s) (onward w (value_at w) (frame.Right what v)) (left_of w fs)
+given-behind w (frame.Right what u) v fs s = made-behind w (combined w.code what u v) fs s
+given-behind w (frame.Decide decided x) v fs s = decided-behind w decided x (truth_of v) fs s
+given-behind w (frame.Purge soft) v fs s = purged-behind w soft (as_text v) fs s
+given-behind w (frame.Apply k given rest) v fs s = called-behind w k (given ++ v ∷ []) rest fs s
+
+-- a node
+planned-behind : (w : World) (p : Plan) (fs : List Frame) (s : List Answer) → and_then (planned w (value_at w) p s) (left_of w fs) ≡ behind_step w (planned_step w p fs) s
+planned-behind w (plan.First x f) fs s = bind_bind (value_at w x s) (onward w (value_at w) f) (left_of w fs)
+planned-behind w (plan.Calls k arguments) fs s = called-behind w k [] arguments fs s
+planned-behind w (plan.Leaf n) fs s = made-behind w (leaf w.code w.context n) fs s
+
+pub entered-behind : (w : World) → Falls w.code.arena.nodes → (i : ℕ) (fs : List Frame) (s : List Answer) → and_then (value_at w i s) (left_of w fs) ≡ behind_step w (entered_step w i fs) s
+entered-behind w falls i fs s = by-node (slice_get w.code.arena.nodes i) refl
   where
-    by-place : (o : Option Node) → slice_get w.code.arena.nodes i ≡ o → i < length w.code.arena.nodes
-    by-place (Some n) e = slice_get_within w.code.arena.nodes i n e
-    by-place None e = absurd (sure-not (value_at w i []) (at-none w i [] e) (h []))
+    by-node : (o : Option Node) → slice_get w.code.arena.nodes i ≡ o → and_then (value_at w i s) (left_of w fs) ≡ behind_step w (option_and_then (λ n. planned_step w (plan_of n) fs) o) s
+    by-node None e = ap (λ (o : Out (List Answer) Value). and_then o (left_of w fs)) (at-none w i s e)
+    by-node (Some n) e = ap (λ (o : Out (List Answer) Value). and_then o (left_of w fs)) (at-node w falls i n e s) ∙ planned-behind w (plan_of n) fs s
 
-pub calls-sure : (w : World) → Falls w.code.arena.nodes → (i : ℕ) (n : Node) (k : ℕ) (rest : Arguments) (given : List Value) (fs : List Frame) (s : List Answer)
-    → Some n ≡ slice_get w.code.arena.nodes i → plan.Calls k rest ≡ plan_of n → given ≡ [] → IsSure (and_then (value_at w i s) (left_of w fs))
-    → IsSure (and_then (with_rest w.stored (value_at w) k rest given s) (left_of w fs))
-calls-sure w falls i n k rest given fs s e q g h =
-    sure-along (and_then (value_at w i s) (left_of w fs)) (and_then (with_rest w.stored (value_at w) k rest given s) (left_of w fs))
-    (enter-plan w falls i n (plan.Calls k rest) fs s e q ∙ ap (λ (vs : List Value). and_then (with_rest w.stored (value_at w) k rest vs s) (left_of w fs)) (sym g)) h
+-- an evaluation that is at a node, or at a value for what waits on top
+pub at-evaluate : (w : World) → Falls w.code.arena.nodes → (first : Operand) (d : Doing) (fs : List Frame) (i : ℕ) → ((s : List Answer) → first s ≡ rest_of w d fs s) → d ≡ doing.Evaluate i
+    → (s : List Answer) → first s ≡ behind_step w (entered_step w i fs) s
+at-evaluate w falls first d fs i same e s = same s ∙ ap (λ (x : Doing). rest_of w x fs s) e ∙ entered-behind w falls i fs s
 
-pub leaf-sure : (w : World) → Falls w.code.arena.nodes → (i : ℕ) (n m : Node) (fs : List Frame) → Some n ≡ slice_get w.code.arena.nodes i → plan.Leaf m ≡ plan_of n
-    → IsSure (and_then (value_at w i []) (left_of w fs)) → IsSome (leaf w.code w.context m)
-leaf-sure w falls i n m fs e q h =
-    made-sure (leaf w.code w.context m) (left_of w fs) []
-    (sure-along (and_then (value_at w i []) (left_of w fs)) (and_then (made_on (leaf w.code w.context m) []) (left_of w fs)) (enter-plan w falls i n (plan.Leaf m) fs [] e q) h)
+pub at-give : (w : World) (first : Operand) (d : Doing) (fs gs : List Frame) (f : Frame) (v : Value) → ((s : List Answer) → first s ≡ rest_of w d fs s) → d ≡ doing.Give v → fs ≡ f ∷ gs
+    → (s : List Answer) → first s ≡ behind_step w (given_step w.code w.stored f v gs) s
+at-give w first d fs gs f v same e q s =
+    same s ∙ ap (λ (x : Doing). rest_of w x fs s) e ∙ ap (λ (l : List Frame). left_of w l v s) q ∙ given-behind w f v gs s
 
+-- what isn't stuck has a step
+pub step-sure : (w : World) (o : Option Step) (x : Out (List Answer) Value) (s : List Answer) → x ≡ behind_step w o s → IsSure x → IsSome o
+step-sure w (Some next) x s e h = refl
+step-sure w None x s e h = absurd (sure-along x Stuck e h)
+
+-- a node without parts that has a step has a value
+pub leaf-some : (w : World) (i : ℕ) (n m : Node) (fs : List Frame) → Some n ≡ slice_get w.code.arena.nodes i → plan.Leaf m ≡ plan_of n → IsSome (entered_step w i fs)
+    → IsSome (leaf w.code w.context m)
+leaf-some w i n m fs e q h =
+    let P : Option Node → Type 0 = λ o. IsSome (option_and_then (λ k. planned_step w (plan_of k) fs) o) in
+    let Q : Plan → Type 0 = λ p. IsSome (planned_step w p fs) in
+    some-before given_if (leaf w.code w.context m) (some-before (stay fs) (given_due (leaf w.code w.context m)) (subst Q (sym q) (subst P (sym e) h)))
+
+-- the rest of an evaluation that a step has come to
+pub stepped : (w : World) (o : Option Step) (x : Out (List Answer) Value) (next : Doing) (new : List Frame) (s : List Answer) → x ≡ behind_step w o s → o ≡ Some (step next new)
+    → x ≡ rest_of w next new s
+stepped w o x next new s e h = e ∙ ap (λ (p : Option Step). behind_step w p s) h
+
+-- weights
+abbrev pub LessBehind : ℕ → Option Step → Type 0
+LessBehind n None = Unit {0}
+LessBehind n (Some next) = weight next.next next.waiting < n
+
+pub less-behind : (n : ℕ) (o : Option Step) (next : Doing) (new : List Frame) → LessBehind n o → o ≡ Some (step next new) → weight next new < n
+less-behind n o next new h e = subst (λ (p : Option Step). LessBehind n p) e h
+
+made-less : (n : ℕ) (fs : List Frame) (o : Option (Option Value)) → frames_weight fs < n → LessBehind n (option_map (stay fs) (given_due o))
+made-less n fs None h = tt
+made-less n fs (Some None) h = omega (arith, h)
+made-less n fs (Some (Some v)) h = omega (arith, h)
+
+called-less : (n : ℕ) (stored : List Stored) (k : ℕ) (given : List Value) (rest : Arguments) (fs : List Frame) → arguments_weight rest + frames_weight fs < n
+    → LessBehind n (called_step stored k given rest fs)
+called-less n stored k given Zero fs h = made-less n fs (applied stored k given) (omega (arith, h))
+called-less n stored k given (One x) fs h = omega (arith, h)
+called-less n stored k given (Two x y) fs h = omega (arith, h)
+called-less n stored k given (Three x y z) fs h = omega (arith, h)
+called-less n stored k given More fs h = tt
+
+chosen-less : (decided : Bool) (x : ℕ) (decides : Bool) (fs : List Frame)
+    → LessBehind (frames_weight (frame.Decide decided x ∷ fs)) (if decides then Some (step (doing.Give (value.Bool decided)) fs) else Some (step (doing.Evaluate x) (frame.One unary.Truth ∷ fs)))
+chosen-less decided x true fs = omega arith
+chosen-less decided x false fs = omega arith
+
+decided-less : (decided : Bool) (x : ℕ) (left : Option Bool) (fs : List Frame) → LessBehind (frames_weight (frame.Decide decided x ∷ fs)) (decided_step decided x left fs)
+decided-less decided x None fs = tt
+decided-less decided x (Some left) fs = chosen-less decided x (beq left decided) fs
+
+purged-less : (soft : Bool) (keys : Option (List ℕ)) (fs : List Frame) → LessBehind (frames_weight (frame.Purge soft ∷ fs)) (Some (step (purge_due soft keys) fs))
+purged-less soft None fs = omega arith
+purged-less soft (Some keys) fs = omega arith
+
+pub given-less : (code : Code) (stored : List Stored) (f : Frame) (v : Value) (fs : List Frame) → LessBehind (frames_weight (f ∷ fs)) (given_step code stored f v fs)
+given-less code stored (frame.One what) v fs = made-less (frames_weight (frame.One what ∷ fs)) fs (changed code what v) (omega arith)
+given-less code stored (frame.Left what x) v fs = omega arith
+given-less code stored (frame.Right what u) v fs = made-less (frames_weight (frame.Right what u ∷ fs)) fs (combined code what u v) (omega arith)
+given-less code stored (frame.Decide decided x) v fs = decided-less decided x (truth_of v) fs
+given-less code stored (frame.Purge soft) v fs = purged-less soft (as_text v) fs
+given-less code stored (frame.Apply k given rest) v fs = called-less (frames_weight (frame.Apply k given rest ∷ fs)) stored k (given ++ v ∷ []) rest fs (omega arith)
+
+planned-less : (w : World) (p : Plan) (fs : List Frame) (n : ℕ) → plan_weight p < n → LessBehind (n + frames_weight fs) (planned_step w p fs)
+planned-less w (plan.First x f) fs n h = omega (arith, h)
+planned-less w (plan.Calls k arguments) fs n h = called-less (n + frames_weight fs) w.stored k [] arguments fs (omega (arith, h))
+planned-less w (plan.Leaf m) fs n h = made-less (n + frames_weight fs) fs (leaf w.code w.context m) (omega (arith, h))
+
+pub entered-less : (w : World) → Falls w.code.arena.nodes → (i : ℕ) (fs : List Frame) → LessBehind (weight (doing.Evaluate i) fs) (entered_step w i fs)
+entered-less w falls i fs = by-node (slice_get w.code.arena.nodes i) refl
+  where
+    by-node : (o : Option Node) → slice_get w.code.arena.nodes i ≡ o → LessBehind (weight (doing.Evaluate i) fs) (option_and_then (λ n. planned_step w (plan_of n) fs) o)
+    by-node None e = tt
+    by-node (Some n) e = planned-less w (plan_of n) fs (power i) (plan-light i n (falls i n e))
+
+pub give-less : (n : ℕ) (d : Doing) (fs gs : List Frame) (f : Frame) (v : Value) → d ≡ doing.Give v → fs ≡ f ∷ gs → n < frames_weight (f ∷ gs) → n < weight d fs
+give-less n d fs gs f v e q h = rw (e, q) (omega (arith, h))
+
+pub evaluate-less : (n i : ℕ) (d : Doing) (fs : List Frame) → d ≡ doing.Evaluate i → n < weight (doing.Evaluate i) fs → n < weight d fs
+evaluate-less n i d fs e h = rw e h
+
+-- an expression alone
 pub alone-sure : (w : World) (fs : List Frame) (o : Out (List Answer) Value) → fs ≡ [] → IsSure o → IsSure (and_then o (left_of w fs))
 alone-sure w fs o e h = let P : List Frame → Type 0 = λ l. IsSure (and_then o (left_of w l)) in subst P (sym e) (by-out o h)
   where
@@ -98,133 +183,4 @@ alone-sure w fs o e h = let P : List Frame → Type 0 = λ l. IsSure (and_then o
     by-out (On v s) h = tt
     by-out (Ends word s) h = tt
     by-out (Asks command) h = tt
-    by-out Strays h = absurd h
-
--- what waits is made of the value
-pub one-sure : (w : World) (what : Unary) (v : Value) (f : Frame) (fs : List Frame) → f ≡ frame.One what → ((s : List Answer) → IsSure (left_of w (f ∷ fs) v s)) → IsSome (changed w.code what v)
-one-sure w what v f fs e h =
-    let P : Frame → Type 0 = λ g. IsSure (left_of w (g ∷ fs) v []) in made-sure (changed w.code what v) (left_of w fs) [] (subst P e (h []))
-
-pub right-sure : (w : World) (what : Binary) (u v : Value) (f : Frame) (fs : List Frame) → f ≡ frame.Right what u → ((s : List Answer) → IsSure (left_of w (f ∷ fs) v s))
-    → IsSome (combined w.code what u v)
-right-sure w what u v f fs e h =
-    let P : Frame → Type 0 = λ g. IsSure (left_of w (g ∷ fs) v []) in made-sure (combined w.code what u v) (left_of w fs) [] (subst P e (h []))
-
-pub decide-sure : (w : World) (decided : Bool) (x : ℕ) (v : Value) (f : Frame) (fs : List Frame) → f ≡ frame.Decide decided x → ((s : List Answer) → IsSure (left_of w (f ∷ fs) v s)) → (s : List Answer)
-    → IsSure (left_of w (frame.Decide decided x ∷ fs) v s)
-decide-sure w decided x v f fs e h s = let P : Frame → Type 0 = λ g. IsSure (left_of w (g ∷ fs) v s) in subst P e (h s)
-
-pub undecided : (w : World) (decided : Bool) (x : ℕ) (v : Value) (fs : List Frame) → truth_of v ≡ None → ((s : List Answer) → IsSure (left_of w (frame.Decide decided x ∷ fs) v s)) → ⊥
-undecided w decided x v fs e h =
-    sure-not (left_of w (frame.Decide decided x ∷ fs) v []) (ap (λ (o : Option Bool). and_then (decided_by decided (value_at w x) o []) (left_of w fs)) e) (h [])
-
-pub apply-sure : (w : World) (k : ℕ) (vs us : List Value) (v : Value) (rest : Arguments) (f : Frame) (fs : List Frame) → f ≡ frame.Apply k vs rest → us ≡ vs ++ v ∷ []
-    → ((s : List Answer) → IsSure (left_of w (f ∷ fs) v s)) → (s : List Answer) → IsSure (and_then (with_rest w.stored (value_at w) k rest us s) (left_of w fs))
-apply-sure w k vs us v rest f fs e q h s =
-    sure-along (left_of w (f ∷ fs) v s) (and_then (with_rest w.stored (value_at w) k rest us s) (left_of w fs))
-    (ap (λ (g : Frame). left_of w (g ∷ fs) v s) e ∙ ap (λ (l : List Value). and_then (with_rest w.stored (value_at w) k rest l s) (left_of w fs)) (sym q)) (h s)
-
-pub zero-sure : (w : World) (stored : List Stored) (k : ℕ) (vs : List Value) (rest : Arguments) (fs : List Frame) → w.stored ≡ stored → rest ≡ Zero
-    → ((s : List Answer) → IsSure (and_then (with_rest w.stored (value_at w) k rest vs s) (left_of w fs))) → IsSome (applied stored k vs)
-zero-sure w stored k vs rest fs e q h =
-    let P : Arguments → Type 0 = λ r. IsSure (and_then (with_rest w.stored (value_at w) k r vs []) (left_of w fs)) in
-    subst (λ (l : List Stored). IsSome (applied l k vs)) e (made-sure (applied w.stored k vs) (left_of w fs) [] (subst P q (h [])))
-
-pub more-strays : (w : World) (k : ℕ) (vs : List Value) (rest : Arguments) (fs : List Frame) → rest ≡ More
-    → ((s : List Answer) → IsSure (and_then (with_rest w.stored (value_at w) k rest vs s) (left_of w fs))) → ⊥
-more-strays w k vs rest fs q h = let P : Arguments → Type 0 = λ r. IsSure (and_then (with_rest w.stored (value_at w) k r vs []) (left_of w fs)) in subst P q (h [])
-
--- a step of the loop
-pub enter-sure : (w : World) (first : Operand) (d : Doing) (i : ℕ) (fs : List Frame) → ((s : List Answer) → first s ≡ rest_of w d fs s) → d ≡ doing.Evaluate i → ((s : List Answer) → IsSure (first s))
-    → (s : List Answer) → IsSure (rest_of w (doing.Evaluate i) fs s)
-enter-sure w first d i fs same e h s = sure-along (first s) (rest_of w (doing.Evaluate i) fs s) (same s ∙ ap (λ (x : Doing). rest_of w x fs s) e) (h s)
-
-pub give-sure : (w : World) (first : Operand) (d : Doing) (v : Value) (f : Frame) (fs gs : List Frame) → ((s : List Answer) → first s ≡ rest_of w d fs s) → d ≡ doing.Give v → fs ≡ f ∷ gs
-    → ((s : List Answer) → IsSure (first s)) → (s : List Answer) → IsSure (left_of w (f ∷ gs) v s)
-give-sure w first d v f fs gs same e q h s =
-    sure-along (first s) (left_of w (f ∷ gs) v s) (same s ∙ ap (λ (x : Doing). rest_of w x fs s) e ∙ ap (λ (l : List Frame). left_of w l v s) q) (h s)
-
--- weights
-plan-weighs : (i : ℕ) (n : Node) (p : Plan) → reach n ≤ i → p ≡ plan_of n → plan_weight p < power i
-plan-weighs i n p h q = let P : Plan → Type 0 = λ x. plan_weight x < power i in subst P (sym q) (plan-light i n h)
-
-pub first-weighs : {E : Type 0} (i : ℕ) (n : Node) (x : ℕ) (f : Frame) (old new : List Frame) (r : Result Doing E) → reach n ≤ i → plan.First x f ≡ plan_of n
-    → IfOk r (λ next. (next ≡ doing.Evaluate x) × (new ≡ f ∷ old)) → IfOk r (λ next. weight next new < weight (doing.Evaluate i) old)
-first-weighs i n x f old new (Ok next) h q k = let light : power x + frame_weight f < power i = plan-weighs i n (plan.First x f) h q in rw (k.0, k.1) (omega arith)
-first-weighs i n x f old new (Err z) h q k = tt
-
-pub calls-weighs : {E : Type 0} (i : ℕ) (n : Node) (k : ℕ) (rest : Arguments) (old new : List Frame) (r : Result Doing E) → reach n ≤ i → plan.Calls k rest ≡ plan_of n
-    → IfOk r (λ next. weight next new ≤ arguments_weight rest + frames_weight old) → IfOk r (λ next. weight next new < weight (doing.Evaluate i) old)
-calls-weighs i n k rest old new (Ok next) h q le = let light : arguments_weight rest < power i = plan-weighs i n (plan.Calls k rest) h q in omega arith
-calls-weighs i n k rest old new (Err z) h q le = tt
-
-pub leaf-weighs : (i : ℕ) (o : Option Value) (next : Doing) (fs : List Frame) → next ≡ given_if o → weight next fs < weight (doing.Evaluate i) fs
-leaf-weighs i (Some v) next fs e = rw e (omega (arith, none-light i))
-leaf-weighs i None next fs e = rw e (omega (arith, none-light i))
-
--- a value for what waits, by which it is
-pub decide-given : {E : Type 0} (w : World) (v : Value) (decided : Bool) (x : ℕ) (f : Frame) (old new : List Frame) (r : Result Doing E) → f ≡ frame.Decide decided x
-    → IfOk r (λ next. (s : List Answer) → left_of w (frame.Decide decided x ∷ old) v s ≡ rest_of w next new s) → IfOk r (λ next. (s : List Answer) → left_of w (f ∷ old) v s ≡ rest_of w next new s)
-decide-given w v decided x f old new (Ok next) e h = λ s. ap (λ (g : Frame). left_of w (g ∷ old) v s) e ∙ h s
-decide-given w v decided x f old new (Err z) e h = tt
-
-pub apply-given : {E : Type 0} (w : World) (k : ℕ) (vs us : List Value) (v : Value) (rest : Arguments) (f : Frame) (old new : List Frame) (r : Result Doing E)
-    → f ≡ frame.Apply k vs rest → us ≡ vs ++ v ∷ []
-    → IfOk r (λ next. (s : List Answer) → and_then (with_rest w.stored (value_at w) k rest us s) (left_of w old) ≡ rest_of w next new s)
-    → IfOk r (λ next. (s : List Answer) → left_of w (f ∷ old) v s ≡ rest_of w next new s)
-apply-given w k vs us v rest f old new (Ok next) e q h =
-    λ s. ap (λ (g : Frame). left_of w (g ∷ old) v s) e ∙ ap (λ (l : List Value). and_then (with_rest w.stored (value_at w) k rest l s) (left_of w old)) (sym q) ∙ h s
-apply-given w k vs us v rest f old new (Err z) e q h = tt
-
--- a step of the loop that gives a value to what waits on top
-pub give-preserved : (w : World) (lhs : Operand) (d : Doing) (fs gs : List Frame) (f : Frame) (v : Value) (next : Doing) (new : List Frame)
-    → ((s : List Answer) → lhs s ≡ rest_of w d fs s) → d ≡ doing.Give v → fs ≡ f ∷ gs → ((s : List Answer) → left_of w (f ∷ gs) v s ≡ rest_of w next new s)
-    → (s : List Answer) → lhs s ≡ rest_of w next new s
-give-preserved w lhs d fs gs f v next new h e q k s =
-    h s ∙ ap (λ (x : Doing). rest_of w x fs s) e ∙ ap (λ (l : List Frame). left_of w l v s) q ∙ k s
-
-pub give-smaller : (n : ℕ) (d : Doing) (fs gs : List Frame) (f : Frame) (v : Value) → d ≡ doing.Give v → fs ≡ f ∷ gs → n < frames_weight (f ∷ gs) → n < weight d fs
-give-smaller n d fs gs f v e q h = rw (e, q) (omega arith)
-
--- how much is left, and one more where a purge is wanted
-abbrev pub reached_weight : Doing → List Frame → ℕ
-reached_weight (doing.Need keys soft) fs = suc (frames_weight fs)
-reached_weight next fs = weight next fs
-
--- weights that fall from the first step on
-pub reached-first : (d : Doing) (fs : List Frame) → IsBegun d → reached_weight d fs ≤ weight d fs
-reached-first (doing.Evaluate i) fs h = le_refl (weight (doing.Evaluate i) fs)
-reached-first (doing.Give v) fs h = le_refl (weight (doing.Give v) fs)
-reached-first (doing.Need keys soft) fs h = absurd h
-reached-first doing.Fail fs h = le_refl (weight doing.Fail fs)
-
-below-reached : (d : Doing) (fs : List Frame) → weight d fs ≤ reached_weight d fs
-below-reached (doing.Evaluate i) fs = le_refl (weight (doing.Evaluate i) fs)
-below-reached (doing.Give v) fs = le_refl (weight (doing.Give v) fs)
-below-reached (doing.Need keys soft) fs = omega arith
-below-reached doing.Fail fs = le_refl (weight doing.Fail fs)
-
-reached-step : (d : Doing) (fs : List Frame) (n : ℕ) → weight d fs < n → reached_weight d fs ≤ n
-reached-step (doing.Evaluate i) fs n h = omega arith
-reached-step (doing.Give v) fs n h = omega arith
-reached-step (doing.Need keys soft) fs n h = omega arith
-reached-step doing.Fail fs n h = omega arith
-
-pub reached-next : (d e : Doing) (fs gs : List Frame) (n : ℕ) → weight e gs < weight d fs → reached_weight d fs ≤ n → reached_weight e gs ≤ n
-reached-next d e fs gs n h k = reached-step e gs n (omega (arith, below-reached d fs))
-
--- a purge that is wanted
-pub need-less : (d : Doing) (keys : List ℕ) (soft : Bool) (fs : List Frame) (n : ℕ) → d ≡ doing.Need keys soft → reached_weight d fs ≤ n → frames_weight fs < n
-need-less d keys soft fs n e h = let P : Doing → Type 0 = λ x. reached_weight x fs ≤ n in let low : suc (frames_weight fs) ≤ n = subst P e h in omega arith
-
-pub leaves-more : (m n : ℕ) (o : Outcome) (fs : List Frame) → m ≤ n → LeavesLess m o fs → LeavesLess n o fs
-leaves-more m n (outcome.Value v) fs h p = tt
-leaves-more m n (outcome.Purge keys soft) fs h p = omega arith
-leaves-more m n outcome.Fail fs h p = tt
-
-pub less-more : {E : Type 0} (m n : ℕ) (r : Result Outcome E) (fs : List Frame) → m ≤ n → IfOk r (λ o. LeavesLess m o fs) → IfOk r (λ o. LeavesLess n o fs)
-less-more m n (Ok o) fs h p = leaves-more m n o fs h p
-less-more m n (Err z) fs h p = tt
-
-pub first-light : (i n : ℕ) (fs : List Frame) → fs ≡ [] → i < n → weight (doing.Evaluate i) fs ≤ power n
-first-light i n fs e h = let P : List Frame → Type 0 = λ l. weight (doing.Evaluate i) l ≤ power n in subst P (sym e) (omega (arith, power-below i n h))
+    by-out Stuck h = absurd h

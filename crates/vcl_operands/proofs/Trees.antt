@@ -16,7 +16,7 @@ use Rattle.vcl_code.specs.Arenas.{Numbered, with_node, with_text, with_pattern, 
 use Rattle.vcl_code.specs.Names.{Known, Plain, Field, NoTarget, Read, OfTarget, Truth, Backend, NoRead, read_of, acl_of, callee_of}
 use Rattle.vcl_code.specs.Expressions.{text_node, numbered, numbered_arguments, absent, read_node, in_acl, searched, matched, ordered_as, asks_match, compared_with, Given, with_argument, second_string, substitution, xkey, director, called}
 use Rattle.vcl_context.specs.declared.turn.Answer.{Answer}
-use Rattle.vcl_operands.specs.Outs.{On, Strays, and_then, known_on, made_on}
+use Rattle.vcl_operands.specs.Outs.{On, Stuck, and_then, known_on, made_on}
 use Rattle.vcl_operands.specs.Falls.{Falls}
 use Rattle.vcl_operands.specs.Later.{Later}
 use Rattle.vcl_operands.specs.Meaning.{Scene, scene, Operand, named_value, decides, sought_in, matched_in, comparison, values_of, all_values, value_of, operands_of}
@@ -39,7 +39,7 @@ scene_of w = scene w.code w.stored w.context
 pub node-is : (w : World) → Falls w.code.arena.nodes → (n : Made) (a : Arena) → Later (with_node n a).arena w.code.arena → value_at w (length a.nodes) ≡ node_value w (value_at w) n
 node-is w falls n a later = fun_ext (at-node w falls (length a.nodes) n (get-pushed a.nodes w.code.arena.nodes n later.nodes))
 
-absent-is : (w : World) → Falls w.code.arena.nodes → (a : Arena) → Later (absent a).arena w.code.arena → value_at w (length a.nodes) ≡ (λ s. Strays)
+absent-is : (w : World) → Falls w.code.arena.nodes → (a : Arena) → Later (absent a).arena w.code.arena → value_at w (length a.nodes) ≡ (λ s. Stuck)
 absent-is w falls a later = node-is w falls node.Absent a later
 
 -- a node of one part, and of two
@@ -148,22 +148,22 @@ rest-is w k (Three x y z) ops s h =
     ∙ values-cons (value_at w x) (value_at w y ∷ value_at w z ∷ []) (λ values. made_on (applied w.stored k values)) s
     ∙ and-then-same (value_at w x s) (λ v t. values-cons (value_at w y) (value_at w z ∷ []) (λ values. made_on (applied w.stored k (v ∷ values))) t
     ∙ and-then-same (value_at w y t) (λ u r. values-cons (value_at w z) [] (λ values. made_on (applied w.stored k (v ∷ u ∷ values))) r)))
-rest-is w k TooMany ops s h = sym (ap (λ (b : Bool). and_then (if b then Strays else values_of ops s) (λ values. made_on (applied w.stored k values))) (lt-test 3 (length ops) h))
+rest-is w k TooMany ops s h = sym (ap (λ (b : Bool). and_then (if b then Stuck else values_of ops s) (λ values. made_on (applied w.stored k values))) (lt-test 3 (length ops) h))
 
 -- more arguments than any function takes
-many-substituted : (sc : Scene) (all : Bool) (source : List ℕ) (ops : List Operand) → 3 < length ops → call_value sc (callee.Builtin (builtin.Substitute all)) (Some source) ops ≡ (λ s. Strays)
+many-substituted : (sc : Scene) (all : Bool) (source : List ℕ) (ops : List Operand) → 3 < length ops → call_value sc (callee.Builtin (builtin.Substitute all)) (Some source) ops ≡ (λ s. Stuck)
 many-substituted sc all source [] h = absurd (omega arith)
 many-substituted sc all source (a ∷ []) h = absurd (omega arith)
 many-substituted sc all source (a ∷ b ∷ []) h = absurd (omega arith)
 many-substituted sc all source (a ∷ b ∷ c ∷ []) h = absurd (omega arith)
 many-substituted sc all source (a ∷ b ∷ c ∷ d ∷ rest) h = refl
 
-many-purged : (sc : Scene) (soft : Bool) (second : Option (List ℕ)) (ops : List Operand) → 3 < length ops → call_value sc (callee.Builtin (builtin.Xkey soft)) second ops ≡ (λ s. Strays)
+many-purged : (sc : Scene) (soft : Bool) (second : Option (List ℕ)) (ops : List Operand) → 3 < length ops → call_value sc (callee.Builtin (builtin.Xkey soft)) second ops ≡ (λ s. Stuck)
 many-purged sc soft second [] h = absurd (omega arith)
 many-purged sc soft second (a ∷ []) h = absurd (omega arith)
 many-purged sc soft second (a ∷ b ∷ rest) h = refl
 
-many-directed : (sc : Scene) (k : ℕ) (second : Option (List ℕ)) (ops : List Operand) → 3 < length ops → call_value sc (callee.Director k) second ops ≡ (λ s. Strays)
+many-directed : (sc : Scene) (k : ℕ) (second : Option (List ℕ)) (ops : List Operand) → 3 < length ops → call_value sc (callee.Director k) second ops ≡ (λ s. Stuck)
 many-directed sc k second [] h = absurd (omega arith)
 many-directed sc k second (a ∷ []) h = absurd (omega arith)
 many-directed sc k second (a ∷ b ∷ rest) h = refl

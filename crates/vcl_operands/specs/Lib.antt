@@ -5,5 +5,6 @@ pub mod Meaning
 pub mod Nodes
 pub mod Outs
 pub mod Stacks
+pub mod Steps
 pub mod Values
 pub mod Weights

@@ -1,5 +1,5 @@
 -- What expressions of VCL are worth (the Varnish Reference Manual, VCL; docs/VCL.md), with the answers that the run is given. Names
--- stand for what they are declared as; what has no meaning strays, and no sound text has it.
+-- stand for what they are declared as; what has no meaning is stuck, and no sound text has it.
 use Rattle.std.specs.Prelude.{ℕ, Bool, true, false, nat_lt, List, [], ◌∷◌, ◌++◌, length, Option, Some, None, option_and_then, slice_get, if◌then◌else◌}
 use Rattle.std.specs.Bool.{beq}
 use Rattle.vcl_tree.specs.Phrase.{Phrase, Node, String, Integer, Duration, Named, More, Either, Both, Not, Group, Compared, Added, Subtracted, Called}
@@ -23,7 +23,7 @@ use Rattle.vcl_program.specs.declared.code.Code.{Code}
 use Rattle.vcl_program.specs.declared.code.Director.{Director}
 use Rattle.vcl_context.specs.declared.turn.Answer.{Answer}
 use Rattle.vcl_context.specs.declared.turn.Command.TheVariants.{Xkey}
-use Rattle.vcl_operands.specs.Outs.{Out, On, Strays, and_then, known_on, made_on, ask, number_of}
+use Rattle.vcl_operands.specs.Outs.{Out, On, Stuck, and_then, known_on, made_on, ask, number_of}
 use Rattle.vcl_operands.specs.Values.{ok_of, as_text, truth_value, opposite, matched, sought, ordered, summed, lessened, substituted, default_backend, backend_at, director_at, asked, applied}
 
 -- what a text declares, in its order, and its default backend, the stored functions, and the values of variables
@@ -60,7 +60,7 @@ named_value scene NoRead = None
 
 -- of `||` (decided by true) and `&&` (decided by false) the right side isn't evaluated where the left one decides
 abbrev pub decided_by : Bool → Operand → Option Bool → Operand
-decided_by decided right None s = Strays
+decided_by decided right None s = Stuck
 decided_by decided right (Some left) s =
     if beq left decided then On (value.Bool decided) s else and_then (right s) (λ w. made_on (truth_value w))
 
@@ -69,13 +69,13 @@ decides decided right v s = decided_by decided right (truth_of v) s
 
 -- `~` and `!~` with a pattern or an ACL
 abbrev pub sought_in : Scene → Bool → Operand → Option ℕ → Operand
-sought_in scene wanted left None s = Strays
+sought_in scene wanted left None s = Stuck
 sought_in scene wanted left (Some k) s = and_then (left s) (λ v. made_on (option_and_then (λ entries. sought entries wanted v) (slice_get scene.acls k)))
 
 abbrev pub matched_in : Known → Scene → Bool → Operand → Phrase → Operand
 matched_in known scene wanted left (String place pattern) s = and_then (left s) (λ v. known_on (matched pattern wanted v))
 matched_in known scene wanted left (Named place name) s = sought_in scene wanted left (acl_of known name) s
-matched_in known scene wanted left _ s = Strays
+matched_in known scene wanted left _ s = Stuck
 
 abbrev pub comparison : Known → Scene → Bool → Option Comparison → Operand → Phrase → Operand → Operand
 comparison known scene wanted (Some how) left right second s = and_then (left s) (λ v s. and_then (second s) (λ w. made_on (ordered how v w)))
@@ -91,7 +91,7 @@ values_of [] s = On [] s
 values_of (operand ∷ operands) s = and_then (operand s) (λ v s. and_then (values_of operands s) (λ vs. On (v ∷ vs)))
 
 abbrev pub all_values : List Operand → List Answer → Out (List Answer) (List Value)
-all_values operands s = if nat_lt 3 (length operands) then Strays else values_of operands s
+all_values operands s = if nat_lt 3 (length operands) then Stuck else values_of operands s
 
 -- a function of these arguments; the pattern of a substitution is the second one
 abbrev pub called : Scene → Callee → Option (List ℕ) → List Operand → Operand
@@ -100,7 +100,7 @@ called scene (callee.Builtin (builtin.Xkey soft)) second (x ∷ []) s = and_then
 called scene (callee.Stored k) second operands s = and_then (all_values operands s) (λ values. made_on (applied scene.stored k values))
 called scene (callee.Director k) second [] s = made_on (director_at scene.directors k) s
 called scene (callee.Director k) second (x ∷ []) s = and_then (x s) (λ v. made_on (asked scene.directors k v))
-called scene _ second operands s = Strays
+called scene _ second operands s = Stuck
 
 unfoldable mutual
   pub value_of : Known → Scene → Phrase → Operand
@@ -118,7 +118,7 @@ unfoldable mutual
   value_of known scene (Node Subtracted left right) s =
       and_then (value_of known scene left s) (λ v s. and_then (value_of known scene right s) (λ w. made_on (lessened v w)))
   value_of known scene (Node Called (Named place name) arguments) s = called scene (callee_of known name) (second_string arguments) (operands_of known scene arguments) s
-  value_of known scene _ s = Strays
+  value_of known scene _ s = Stuck
 
   -- arguments, from the first on
   pub operands_of : Known → Scene → Phrase → List Operand

@@ -24,7 +24,7 @@ use Rattle.vcl_operands.specs.declared.evaluation.Outcome.{Outcome}
 use Rattle.vcl_operands.specs.declared.evaluation.Outcome.TheVariants as outcome
 use Rattle.vcl_context.specs.declared.turn.Answer.{Answer}
 use Rattle.vcl_context.specs.declared.turn.Command.TheVariants.{Xkey}
-use Rattle.vcl_operands.specs.Outs.{On, Strays, and_then, fail, made_on, ask, number_of}
+use Rattle.vcl_operands.specs.Outs.{On, Stuck, and_then, fail, made_on, ask, number_of}
 use Rattle.vcl_operands.specs.Meaning.{Operand, decides, purged}
 use Rattle.vcl_operands.specs.Values.{literal, named_field, truth_value, opposite, matched, sought, ordered, summed, lessened, substituted, default_backend, backend_at, director_at, asked, applied}
 
@@ -60,7 +60,7 @@ with_rest stored at k Zero given s = with_none stored k given s
 with_rest stored at k (One x) given s = with_one stored at k x given s
 with_rest stored at k (Two x y) given s = with_two stored at k x y given s
 with_rest stored at k (Three x y z) given s = with_three stored at k x y z given s
-with_rest stored at k More given s = Strays
+with_rest stored at k More given s = Stuck
 
 -- a text in numbers, the stored functions, and the values of variables
 pub record World : Type 0 where
@@ -118,11 +118,11 @@ node_value w at n s = planned w at (plan_of n) s
 
 -- a number by its node, where parts lie at most so deep
 abbrev pub known_value : World → (ℕ → Operand) → Option Node → Operand
-known_value w at None s = Strays
+known_value w at None s = Stuck
 known_value w at (Some n) s = node_value w at n s
 
 unfoldable pub value_within : ℕ → World → ℕ → Operand
-value_within zero w i s = Strays
+value_within zero w i s = Stuck
 value_within (suc depth) w i s = known_value w (value_within depth w) (slice_get w.code.arena.nodes i) s
 
 -- what the node of this number is worth: parts have smaller numbers

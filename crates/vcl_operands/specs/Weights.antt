@@ -1,5 +1,5 @@
 -- How much is left to do of an evaluation, as a number that falls with each step.
-use Rattle.std.specs.Prelude.{ℕ, zero, suc, ◌+◌, ◌*◌, ◌<◌, List, [], ◌∷◌}
+use Rattle.std.specs.Prelude.{ℕ, zero, suc, ◌+◌, ◌*◌, List, [], ◌∷◌}
 use Rattle.vcl_code.specs.declared.node.Arguments.{Arguments}
 use Rattle.vcl_code.specs.declared.node.Arguments.TheVariants.{Zero, One, Two, Three, More}
 use Rattle.vcl_operands.specs.declared.frame.Doing.{Doing}
@@ -8,8 +8,6 @@ use Rattle.vcl_operands.specs.declared.frame.Frame.{Frame}
 use Rattle.vcl_operands.specs.declared.frame.Frame.TheVariants as frame
 use Rattle.vcl_operands.specs.declared.frame.Plan.{Plan}
 use Rattle.vcl_operands.specs.declared.frame.Plan.TheVariants as plan
-use Rattle.vcl_operands.specs.declared.evaluation.Outcome.{Outcome}
-use Rattle.vcl_operands.specs.declared.evaluation.Outcome.TheVariants as outcome
 
 -- a node weighs more than any three of smaller numbers
 unfoldable pub power : ℕ → ℕ
@@ -46,13 +44,3 @@ abbrev pub plan_weight : Plan → ℕ
 plan_weight (plan.First x waiting) = power x + frame_weight waiting
 plan_weight (plan.Calls k arguments) = arguments_weight arguments
 plan_weight (plan.Leaf n) = 0
-
--- what waits behind a purge that is wanted weighs less than this
-abbrev pub LeavesLess : ℕ → Outcome → List Frame → Type 0
-LeavesLess before (outcome.Purge keys soft) fs = frames_weight fs < before
-LeavesLess before _ fs = Unit {0}
-
--- no purge is wanted yet
-abbrev pub IsBegun : Doing → Type 0
-IsBegun (doing.Need keys soft) = ⊥
-IsBegun _ = Unit {0}

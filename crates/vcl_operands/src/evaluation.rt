@@ -1,13 +1,14 @@
 // The evaluation of an expression, which stops where a purge by keys is wanted.
-ghost use Rattle.std.specs.Prelude.{◌≡◌, ◌<◌, ◌≤◌, ◌+◌, ◌∷◌, [], List, IfOk, length, slice_get};
+ghost use Rattle.std.specs.Prelude.{◌≡◌, ◌∷◌, ◌++◌, [], List, IfOk, IsSome, Some, slice_get};
+ghost use Rattle.vcl_values.specs.Values.{truth_of};
 ghost use Rattle.vcl_context.specs.declared.turn.Answer.{Answer};
-ghost use Rattle.vcl_operands.specs.Outs.{and_then, IsSure};
-ghost use Rattle.vcl_operands.specs.Nodes.{World, world, value_at, left_of, rest_of, came_to, given_number, given_if, with_rest};
-ghost use Rattle.vcl_operands.specs.Weights.{power, weight, frames_weight, arguments_weight, LeavesLess, IsBegun};
-ghost use Rattle.vcl_context.specs.declared.context.Context.{Context as ContextHere};
+ghost use Rattle.vcl_operands.specs.Outs.{IsSure};
+ghost use Rattle.vcl_operands.specs.Nodes.{world, value_at, rest_of, came_to, given_number, given_if, changed, combined};
+ghost use Rattle.vcl_operands.specs.Values.{as_text};
+ghost use Rattle.vcl_operands.specs.Steps.{step, given_due, purge_due, called_step, decided_step, given_step, entered_step};
 
 use crate::calls::applied;
-use crate::frame::{Doing, Frame, Plan, Unary, plan_of};
+use crate::frame::{Binary, Doing, Frame, Plan, Unary, plan_of};
 use crate::laws::compiled_falls;
 use crate::leaves::leaf;
 use crate::operators::{changed, combined, short_text};
@@ -56,7 +57,7 @@ impl Evaluation {
         }
     }
 
-    /// Evaluates a node that doesn't stray. What waits behind a purge that is wanted weighs less than any node.
+    /// Evaluates a node that isn't stuck.
     pub fn evaluate(
         &mut self,
         alloc: Global,
@@ -67,14 +68,13 @@ impl Evaluation {
     ) -> Result<Outcome, AllocError>
         requires fresh { self.old ≡ [] }
         requires sure { (s : List Answer) → IsSure (value_at (world program.now.code functions.now.stored context.now) number s) }
-        ensures value { IfOk result (λ outcome. (s : List Answer) → value_at (world program.now.code functions.now.stored context.now) number s
+        ensures { IfOk result (λ outcome. (s : List Answer) → value_at (world program.now.code functions.now.stored context.now) number s
             ≡ came_to (world program.now.code functions.now.stored context.now) outcome self.new s) }
-        ensures less { IfOk result (λ outcome. LeavesLess (power (length program.now.code.arena.nodes)) outcome self.new) }
     {
         self.run(alloc, program, functions, context, Doing::Evaluate(number))
     }
 
-    /// Goes on with the count of a purge. What waits behind a further one weighs less than what waited behind this.
+    /// Goes on with the count of a purge.
     pub fn answer(
         &mut self,
         alloc: Global,
@@ -84,9 +84,8 @@ impl Evaluation {
         count: i64,
     ) -> Result<Outcome, AllocError>
         requires { (s : List Answer) → IsSure (given_number (world program.now.code functions.now.stored context.now) self.old (Answer.Number count) s) }
-        ensures value { IfOk result (λ outcome. (s : List Answer) → given_number (world program.now.code functions.now.stored context.now) self.old (Answer.Number count) s
+        ensures { IfOk result (λ outcome. (s : List Answer) → given_number (world program.now.code functions.now.stored context.now) self.old (Answer.Number count) s
             ≡ came_to (world program.now.code functions.now.stored context.now) outcome self.new s) }
-        ensures less { IfOk result (λ outcome. LeavesLess (frames_weight self.old) outcome self.new) }
     {
         self.run(
             alloc,
@@ -106,10 +105,10 @@ impl Evaluation {
         first: Doing,
     ) -> Result<Outcome, AllocError>
         requires { (s : List Answer) → IsSure (rest_of (world program.now.code functions.now.stored context.now) first self.old s) }
-        ensures value { IfOk result (λ outcome. (s : List Answer) → rest_of (world program.now.code functions.now.stored context.now) first self.old s
+        ensures { IfOk result (λ outcome. (s : List Answer) → rest_of (world program.now.code functions.now.stored context.now) first self.old s
             ≡ came_to (world program.now.code functions.now.stored context.now) outcome self.new s) }
-        ensures less { IsBegun first → IfOk result (λ outcome. LeavesLess (weight first self.old) outcome self.new) }
     {
+        compiled_falls(program);
         let mut doing = first;
         'steps: loop {
             doing = match doing {
@@ -135,12 +134,9 @@ impl Evaluation {
         context: &Context,
         number: usize,
     ) -> Result<Doing, AllocError>
-        requires { (s : List Answer) → IsSure (rest_of (world program.now.code functions.now.stored context.now) (Doing.Evaluate number) self.old s) }
-        ensures value { IfOk result (λ next. (s : List Answer) → rest_of (world program.now.code functions.now.stored context.now) (Doing.Evaluate number) self.old s
-            ≡ rest_of (world program.now.code functions.now.stored context.now) next self.new s) }
-        ensures smaller { IfOk result (λ next. weight next self.new < weight (Doing.Evaluate number) self.old) }
+        requires { IsSome (entered_step (world program.now.code functions.now.stored context.now) number self.old) }
+        ensures { IfOk result (λ next. entered_step (world program.now.code functions.now.stored context.now) number self.old ≡ Some (step next self.new)) }
     {
-        compiled_falls(program);
         let Some(node) = node_at(program.code.arena.nodes.as_slice(), number) else {
             unreachable!();
         };
@@ -170,34 +166,25 @@ impl Evaluation {
         frame: Frame,
         value: Value,
     ) -> Result<Doing, AllocError>
-        requires { (context : ContextHere) × ((s : List Answer) → IsSure (left_of (world program.now.code functions.now.stored context) (frame ∷ self.old) value s)) }
-        ensures value { (context : ContextHere) → IfOk result (λ next. (s : List Answer) → left_of (world program.now.code functions.now.stored context) (frame ∷ self.old) value s
-            ≡ rest_of (world program.now.code functions.now.stored context) next self.new s) }
-        ensures smaller { IfOk result (λ next. weight next self.new < frames_weight (frame ∷ self.old)) }
+        requires { IsSome (given_step program.now.code functions.now.stored frame value self.old) }
+        ensures { IfOk result (λ next. given_step program.now.code functions.now.stored frame value self.old ≡ Some (step next self.new)) }
     {
         match frame {
-            Frame::One(what) => Ok(given_if(changed(alloc, program, what, &value)?)),
+            Frame::One(what) => given_changed(alloc, program, what, &value),
             Frame::Left(what, right) => self.first(right, Frame::Right(what, value)),
-            Frame::Right(what, left) => {
-                Ok(given_if(combined(alloc, program, what, &left, &value)?))
-            }
+            Frame::Right(what, left) => given_combined(alloc, program, what, &left, &value),
             Frame::Decide(decided, right) => self.decided(decided, right, &value),
-            Frame::Purge(soft) => match short_text(alloc, &value)? {
-                Some(keys) => Ok(Doing::Need(keys, soft)),
-                None => Ok(Doing::Fail),
-            },
-            Frame::Apply(function, mut values, rest) => {
-                values.push(value)?;
-                self.called(alloc, functions, function, values, rest)
+            Frame::Purge(soft) => purge_due(alloc, soft, &value),
+            Frame::Apply(function, values, rest) => {
+                self.argument(alloc, functions, function, values, value, rest)
             }
         }
     }
 
     // The right side, unless the left one decides.
     fn decided(&mut self, decided: bool, right: usize, left: &Value) -> Result<Doing, AllocError>
-        requires { (w : World) × ((s : List Answer) → IsSure (left_of w (Frame.Decide decided right ∷ self.old) left.now s)) }
-        ensures value { (w : World) → IfOk result (λ next. (s : List Answer) → left_of w (Frame.Decide decided right ∷ self.old) left.now s ≡ rest_of w next self.new s) }
-        ensures smaller { IfOk result (λ next. weight next self.new < frames_weight (Frame.Decide decided right ∷ self.old)) }
+        requires { IsSome (decided_step decided right (truth_of left.now) self.old) }
+        ensures { IfOk result (λ next. decided_step decided right (truth_of left.now) self.old ≡ Some (step next self.new)) }
     {
         match left.truth() {
             None => unreachable!(),
@@ -211,6 +198,23 @@ impl Evaluation {
         }
     }
 
+    // A stored function with one more of its arguments.
+    fn argument(
+        &mut self,
+        alloc: Global,
+        functions: &VmodTable,
+        function: usize,
+        mut values: Sequence<Value>,
+        value: Value,
+        rest: Arguments,
+    ) -> Result<Doing, AllocError>
+        requires { IsSome (called_step functions.now.stored function (values ++ value ∷ []) rest self.old) }
+        ensures { IfOk result (λ next. called_step functions.now.stored function (values ++ value ∷ []) rest self.old ≡ Some (step next self.new)) }
+    {
+        values.push(value)?;
+        self.called(alloc, functions, function, values, rest)
+    }
+
     // A stored function with some of its arguments: the next one, or its value.
     fn called(
         &mut self,
@@ -220,10 +224,8 @@ impl Evaluation {
         values: Sequence<Value>,
         rest: Arguments,
     ) -> Result<Doing, AllocError>
-        requires { (w : World) × (w.stored ≡ functions.now.stored) × ((s : List Answer) → IsSure (and_then (with_rest w.stored (value_at w) function rest values s) (left_of w self.old))) }
-        ensures value { (w : World) → w.stored ≡ functions.now.stored
-            → IfOk result (λ next. (s : List Answer) → and_then (with_rest w.stored (value_at w) function rest values s) (left_of w self.old) ≡ rest_of w next self.new s) }
-        ensures smaller { IfOk result (λ next. weight next self.new ≤ arguments_weight rest + frames_weight self.old) }
+        requires { IsSome (called_step functions.now.stored function values rest self.old) }
+        ensures { IfOk result (λ next. called_step functions.now.stored function values rest self.old ≡ Some (step next self.new)) }
     {
         match rest {
             Arguments::Zero => Ok(given_if(applied(
@@ -251,6 +253,42 @@ fn given_if(value: Option<Value>) -> Doing
     match value {
         Some(value) => Doing::Give(value),
         None => Doing::Fail,
+    }
+}
+
+// What is made of one value.
+fn given_changed(
+    alloc: Global,
+    program: &Compiled,
+    what: Unary,
+    value: &Value,
+) -> Result<Doing, AllocError>
+    requires { IsSome (given_due (changed program.now.code what value.now)) }
+    ensures { IfOk result (λ next. given_due (changed program.now.code what value.now) ≡ Some next) }
+{
+    Ok(given_if(changed(alloc, program, what, value)?))
+}
+
+// What is made of two values.
+fn given_combined(
+    alloc: Global,
+    program: &Compiled,
+    what: Binary,
+    left: &Value,
+    right: &Value,
+) -> Result<Doing, AllocError>
+    requires { IsSome (given_due (combined program.now.code what left.now right.now)) }
+    ensures { IfOk result (λ next. given_due (combined program.now.code what left.now right.now) ≡ Some next) }
+{
+    Ok(given_if(combined(alloc, program, what, left, right)?))
+}
+
+fn purge_due(alloc: Global, soft: bool, keys: &Value) -> Result<Doing, AllocError>
+    ensures { IfOk result (λ next. next ≡ purge_due soft (as_text keys.now)) }
+{
+    match short_text(alloc, keys)? {
+        Some(keys) => Ok(Doing::Need(keys, soft)),
+        None => Ok(Doing::Fail),
     }
 }
 

@@ -9,7 +9,7 @@ use std::alloc::{AllocError, Global};
 use units::Text;
 use vcl_language::Subroutine;
 use vcl_program::Compiled;
-use vcl_soundness::program_never_strays;
+use vcl_soundness::program_never_stuck;
 use vcl_store::program_of;
 use vmod_host::VmodTable;
 
@@ -93,7 +93,7 @@ pub fn program_in(
 {
     match program_of(alloc, text, functions) {
         Ok(program) => {
-            program_never_strays(&program);
+            program_never_stuck(&program);
             Ok(Some(Box::new(alloc, program)?))
         }
         Err(_) => Ok(None),

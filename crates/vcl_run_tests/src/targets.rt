@@ -8,7 +8,7 @@ use units::{Shared, Text};
 use vcl_library::backend_of;
 use vcl_runner::{Executable, Run};
 use vcl_runs::Runner;
-use vcl_soundness::{backends_are_there, program_never_strays};
+use vcl_soundness::{backends_are_there, program_never_stuck};
 use vcl_store::program_of;
 use vcl_values::Backend;
 use vmod_host::VmodTable;
@@ -100,7 +100,7 @@ fn program(
     let table = functions.copy()?;
     match program_of(alloc, &text_of(alloc, declarations)?, functions) {
         Ok(compiled) => {
-            program_never_strays(&compiled);
+            program_never_stuck(&compiled);
             backends_are_there(&compiled);
             Ok(Some(Box::new(alloc, Executable::of(compiled, table))?))
         }

@@ -13,14 +13,14 @@ use Rattle.vcl_context.specs.declared.turn.Answer.TheVariants as answer
 use Rattle.vcl_context.specs.declared.turn.Command.TheVariants as command
 use Rattle.vcl_context.specs.declared.turn.Turn.{Turn}
 use Rattle.vcl_context.specs.declared.turn.Turn.TheVariants as turn
-use Rattle.vcl_operands.specs.Outs.{Out, On, Ends, Asks, Strays, IsSure}
+use Rattle.vcl_operands.specs.Outs.{Out, On, Ends, Asks, Stuck, IsSure}
 use Rattle.vcl_eval.specs.declared.machine.Machine.{Machine}
 use Rattle.vcl_eval.specs.declared.machine.Waiting.{Waiting}
 use Rattle.vcl_eval.specs.Runs.{run_at}
 use Rattle.vcl_eval.specs.States.{State}
 use Rattle.vcl_eval.specs.Turns.{Left, WaitsAt, IsAt, SureWaiting, EndsAs, IsTurn, behind_answer, Suits, SuitsBehind}
 use Rattle.vcl_eval.proofs.Sure.{at-sure}
-use Rattle.vcl_eval.specs.Weights.{IsTidyAt, TidyWaiting, left_in, Lessens}
+use Rattle.vcl_eval.specs.Weights.{left_in, Lessens}
 use Rattle.vcl_meaning.specs.Meaning.{run_of}
 use Rattle.vcl_runs.specs.Runs.{Ran, begun, answered, Awaits, LeavesLess}
 use Rattle.vcl_runner.specs.Standing.{left_after, ComesTo, IsTurnOf, StandsWaiting, StandsAt}
@@ -44,13 +44,13 @@ at-stands code table left (Some w) h = h
 -- a run from its beginning, by the code that a program keeps, which does what the text says
 pub begun-stands : (code : Code) (items : List Item) (stored table : List Stored) (subroutine : Subroutine) (c : Context) (m : Machine)
     → ((answers : List Answer) → run_of items stored subroutine c answers ≡ run_at code stored subroutine c answers) → table ≡ stored → IsAt code table (run_at code table subroutine c) m
-    → IsTidyAt code m → ((answers : List Answer) → IsSure (run_of items stored subroutine c answers)) → StandsAt code table (left_after items stored (begun subroutine c)) m
-begun-stands code items stored table subroutine c m same f at tidy sure =
+    → ((answers : List Answer) → IsSure (run_of items stored subroutine c answers)) → StandsAt code table (left_after items stored (begun subroutine c)) m
+begun-stands code items stored table subroutine c m same f at sure =
     let here : IsAt code table (run_at code stored subroutine c) m = subst (λ (s : List Stored). IsAt code table (run_at code s subroutine c) m) f at in
     let there : IsAt code table (run_of items stored subroutine c) m = subst (λ (l : Left). IsAt code table l m) (sym (fun_ext same)) here in
-    (at-stands code table (run_of items stored subroutine c) m.waiting there, tidy, sure)
+    (at-stands code table (run_of items stored subroutine c) m.waiting there, sure)
 
--- what is left behind an answer doesn't stray
+-- what is left behind an answer isn't stuck
 sure-behind : (a : Answer) (left : Left) → ((answers : List Answer) → IsSure (left answers)) → (answers : List Answer) → IsSure (behind_answer a left answers)
 sure-behind answer.Begin left h answers = h answers
 sure-behind answer.Done left h answers = h (answer.Done ∷ answers)
@@ -70,16 +70,16 @@ ends-comes : (o : Out State (Unit {0})) (t : Turn) → EndsAs o t → ComesTo o 
 ends-comes (Ends word s) t h = h
 ends-comes (On done s) t h = absurd h
 ends-comes (Asks wanted) t h = absurd h
-ends-comes Strays t h = absurd h
+ends-comes Stuck t h = absurd h
 
 turn-comes : (code : Code) (table : List Stored) (left : Left) (t : Turn) (m : Machine) → IsTurn code table left t m → ComesTo (left []) t
 turn-comes code table left (turn.Need wanted) m h = subst (λ (o : Out State (Unit {0})). ComesTo o (turn.Need wanted)) (sym h.0) refl
 turn-comes code table left (turn.End word c) m h = ends-comes (left []) (turn.End word c) (h [])
 
-pub turn-stands : (code : Code) (table : List Stored) (left : Left) (before : ℕ) (t : Turn) (m : Machine) → IsTurn code table left t m → SuitsBehind t m → Lessens code before t m → ((answers : List Answer) → IsSure (left answers)) → StandsAt code table left m
-turn-stands code table left before (turn.Need wanted) m h s l sure = (at-stands code table left m.waiting h.1, l.1, sure)
-turn-stands code table left before (turn.End word c) m h s l sure =
-    let P : Option Waiting → Type 0 = λ o. StandsWaiting code table left o × TidyWaiting code o × ((answers : List Answer) → IsSure (left answers)) in subst P (sym s) (tt, tt, sure)
+pub turn-stands : (code : Code) (table : List Stored) (left : Left) (t : Turn) (m : Machine) → IsTurn code table left t m → SuitsBehind t m → ((answers : List Answer) → IsSure (left answers)) → StandsAt code table left m
+turn-stands code table left (turn.Need wanted) m h s sure = (at-stands code table left m.waiting h.1, sure)
+turn-stands code table left (turn.End word c) m h s sure =
+    let P : Option Waiting → Type 0 = λ o. StandsWaiting code table left o × ((answers : List Answer) → IsSure (left answers)) in subst P (sym s) (tt, sure)
 
 pub turn-awaits : (t : Turn) (m : Machine) → SuitsBehind t m → Awaits (λ a. Suits a m) t
 turn-awaits (turn.Need (command.Ban text)) m h = h
@@ -87,19 +87,19 @@ turn-awaits (turn.Need (command.Xkey keys soft)) m h = λ n low. h (pos n)
 turn-awaits (turn.End word c) m h = tt
 
 pub turn-less : (code : Code) (before : ℕ) (t : Turn) (m : Machine) → Lessens code before t m → LeavesLess before (left_in code m) t
-turn-less code before (turn.Need wanted) m h = h.0
+turn-less code before (turn.Need (command.Ban text)) m h = h
+turn-less code before (turn.Need (command.Xkey keys soft)) m h = tt
 turn-less code before (turn.End word c) m h = tt
 
 -- an answer
 pub resumed-stands : {E : Type 0} (code : Code) (items : List Item) (stored table : List Stored) (a : Answer) (old new : Machine) (r : Result Turn E)
     → ((left : Left) → IsAt code table left old → IfOk r (λ t. IsTurn code table (behind_answer a left) t new)) → IfOk r (λ t. SuitsBehind t new) → OnOk r (IsSome old.waiting)
-    → (IsTidyAt code old → IfOk r (λ t. Lessens code (left_in code old) t new))
     → OnOk r ((ran : Ran) → StandsAt code table (left_after items stored ran) old → StandsAt code table (left_after items stored (answered a ran)) new)
-resumed-stands code items stored table a old new (Ok t) turns suits alive less =
+resumed-stands code items stored table a old new (Ok t) turns suits alive =
     λ ran s. subst (λ (l : Left). StandsAt code table l new) (sym (left-behind items stored ran a))
-    (turn-stands code table (behind_answer a (left_after items stored ran)) (left_in code old) t new
-    (turns (left_after items stored ran) (stands-at code table (left_after items stored ran) old.waiting alive s.0)) suits (less s.1) (sure-behind a (left_after items stored ran) s.2))
-resumed-stands code items stored table a old new (Err e) turns suits alive less = tt
+    (turn-stands code table (behind_answer a (left_after items stored ran)) t new
+    (turns (left_after items stored ran) (stands-at code table (left_after items stored ran) old.waiting alive s.0)) suits (sure-behind a (left_after items stored ran) s.1))
+resumed-stands code items stored table a old new (Err e) turns suits alive = tt
 
 none-behind : (items : List Item) (stored : List Stored) (ran : Ran) → left_after items stored ran [] ≡ run_of items stored ran.subroutine ran.context ran.answers
 none-behind items stored ran = ap (λ (l : List Answer). run_of items stored ran.subroutine ran.context l) (append-nil ran.answers)

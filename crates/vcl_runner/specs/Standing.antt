@@ -7,12 +7,11 @@ use Rattle.vcl_program.specs.declared.code.Code.{Code}
 use Rattle.vcl_context.specs.declared.turn.Answer.{Answer}
 use Rattle.vcl_context.specs.declared.turn.Turn.{Turn}
 use Rattle.vcl_context.specs.declared.turn.Turn.TheVariants as turn
-use Rattle.vcl_operands.specs.Outs.{Out, On, Ends, Asks, Strays, IsSure}
+use Rattle.vcl_operands.specs.Outs.{Out, On, Ends, Asks, Stuck, IsSure}
 use Rattle.vcl_eval.specs.declared.machine.Machine.{Machine}
 use Rattle.vcl_eval.specs.declared.machine.Waiting.{Waiting}
 use Rattle.vcl_eval.specs.States.{State}
 use Rattle.vcl_eval.specs.Turns.{Left, WaitsAt, closed}
-use Rattle.vcl_eval.specs.Weights.{IsTidyAt}
 use Rattle.vcl_meaning.specs.Meaning.{run_of}
 use Rattle.vcl_runs.specs.Runs.{Ran}
 
@@ -25,7 +24,7 @@ abbrev pub ComesTo : Out State (Unit {0}) → Turn → Type 0
 ComesTo (Asks wanted) t = t ≡ turn.Need wanted
 ComesTo (Ends word s) t = t ≡ turn.End word (closed s)
 ComesTo (On done s) t = ⊥
-ComesTo Strays t = ⊥
+ComesTo Stuck t = ⊥
 
 abbrev pub IsTurnOf : List Item → List Stored → Ran → Turn → Type 0
 IsTurnOf items stored ran t = ComesTo (run_of items stored ran.subroutine ran.context ran.answers) t
@@ -35,12 +34,12 @@ pub one_turn : (o : Out State (Unit {0})) (t u : Turn) → ComesTo o t → Comes
 one_turn (Asks wanted) t u h k = k ∙ sym h
 one_turn (Ends word s) t u h k = k ∙ sym h
 one_turn (On done s) t u h k = absurd h
-one_turn Strays t u h k = absurd h
+one_turn Stuck t u h k = absurd h
 
--- a machine that waits has this left, which doesn't stray; one that has ended stands everywhere
+-- a machine that waits has this left, which isn't stuck; one that has ended stands everywhere
 abbrev pub StandsWaiting : Code → List Stored → Left → Option Waiting → Type 0
 StandsWaiting code stored left None = Unit {0}
 StandsWaiting code stored left (Some w) = WaitsAt code stored left (Some w)
 
 abbrev pub StandsAt : Code → List Stored → Left → Machine → Type 0
-StandsAt code stored left machine = StandsWaiting code stored left machine.waiting × IsTidyAt code machine × ((answers : List Answer) → IsSure (left answers))
+StandsAt code stored left machine = StandsWaiting code stored left machine.waiting × ((answers : List Answer) → IsSure (left answers))

@@ -28,7 +28,8 @@ Awaits fits (Need (Ban text)) = fits answer.Done
 Awaits fits (Need (Xkey keys soft)) = (n : ℕ) → n < 2 ^ 63 → fits (answer.Number (pos n))
 Awaits fits (End word context) = ⊤
 
--- a turn that wants something leaves less to do
+-- a turn that wants a ban leaves less to do: whoever asks nothing of a ban goes on at once, and comes to an end
 abbrev pub LeavesLess : ℕ → ℕ → Turn → Type 0
-LeavesLess before after (Need command) = after < before
+LeavesLess before after (Need (Ban text)) = after < before
+LeavesLess before after (Need (Xkey keys soft)) = ⊤
 LeavesLess before after (End word context) = ⊤

@@ -34,7 +34,7 @@ pub trait Runner: Drop + Sized {
     /// It may be answered so.
     ghost fits: { Self → Told → Type 0 };
 
-    /// How much is left to do on this program, at most.
+    /// How many bans may be wanted on this program before a purge or the end, at most.
     ghost left: { Self → Self.Program → ℕ };
 
     /// A run that may be answered `Begin`. No run is one of vcl_init.

@@ -1,4 +1,4 @@
--- By the grammar, an expression without a fault comes to a value of its type, and doesn't stray.
+-- By the grammar, an expression without a fault comes to a value of its type, and isn't stuck.
 use Rattle.std.proofs.Common.{◌≡◌, ℕ, Bool, true, not, ◌||◌, List, [], ◌∷◌, refl, sym, ap, ◌∙◌, subst, Option, Some, None, slice_get, ◌<◌, length, slice_index_or}
 use Rattle.std.specs.List.{list_all}
 use Rattle.std.specs.Prelude.{Contains}

@@ -1,4 +1,4 @@
--- What goes on is as it is due, and nothing strays.
+-- What goes on is as it is due, and nothing is stuck.
 use Rattle.std.proofs.Common.{◌≡◌, refl, subst, List, Option, Some, None, option_map, Result, Ok, Err}
 use Rattle.std.proofs.lemmas.Option.{none-some, same_Some}
 use Rattle.vcl_values.specs.declared.sums.ValueError.{ValueError}
@@ -9,7 +9,7 @@ use Rattle.vcl_values.specs.Values.{kind_of}
 use Rattle.vcl_context.specs.declared.context.Context.{Context}
 use Rattle.vcl_context.specs.declared.turn.Answer.{Answer}
 use Rattle.vcl_context.specs.declared.turn.Return.{Return}
-use Rattle.vcl_operands.specs.Outs.{Out, On, Ends, Asks, Strays, and_then, known_on, made_on, IsSure}
+use Rattle.vcl_operands.specs.Outs.{Out, On, Ends, Asks, Stuck, and_then, known_on, made_on, IsSure}
 use Rattle.vcl_operands.specs.Meaning.{Operand}
 use Rattle.vcl_operands.specs.Values.{in_range}
 use Rattle.vcl_eval.specs.States.{State, Doing, in_state, set_on, set_due, ends_on, ends_due}
@@ -19,13 +19,13 @@ abbrev pub Holds : {S A : Type 0} → (A → Type 0) → Out S A → Type 0
 Holds P (On a s) = P a
 Holds P (Ends word s) = Unit {0}
 Holds P (Asks command) = Unit {0}
-Holds P Strays = ⊥
+Holds P Stuck = ⊥
 
 pub holds-sure : {S A : Type 0} (P : A → Type 0) (x : Out S A) → Holds P x → IsSure x
 holds-sure P (On a s) h = tt
 holds-sure P (Ends word s) h = tt
 holds-sure P (Asks command) h = tt
-holds-sure P Strays h = h
+holds-sure P Stuck h = h
 
 -- of this type
 abbrev pub IsOf : Kind → Value → Type 0
@@ -36,7 +36,7 @@ pub bind-holds : {S A B : Type 0} (P : A → Type 0) (Q : B → Type 0) (x : Out
 bind-holds P Q (On a s) f h k = k a h s
 bind-holds P Q (Ends word s) f h k = tt
 bind-holds P Q (Asks command) f h k = tt
-bind-holds P Q Strays f h k = h
+bind-holds P Q Stuck f h k = h
 
 -- what is made of values
 abbrev pub Makes : {A : Type 0} → (A → Type 0) → Option (Option A) → Type 0
@@ -75,7 +75,7 @@ pub state-holds : {A : Type 0} (P : A → Type 0) (s : State) (x : Out (List Ans
 state-holds P s (On a answers) h = h
 state-holds P s (Ends word answers) h = tt
 state-holds P s (Asks command) h = tt
-state-holds P s Strays h = h
+state-holds P s Stuck h = h
 
 -- statements ask nothing of what they end with
 abbrev pub Done : Unit {0} → Type 0

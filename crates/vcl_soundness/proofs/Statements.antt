@@ -1,4 +1,4 @@
--- By the grammar, a statement without a fault of a subroutine that traffic reaches doesn't stray.
+-- By the grammar, a statement without a fault of a subroutine that traffic reaches isn't stuck.
 use Rattle.std.proofs.Common.{◌≡◌, ℕ, ◌+◌, nat_lt, Bool, true, false, not, ◌&&◌, List, [], ◌∷◌, refl, sym, ◌∙◌, subst, Option, Some, None, if◌then◌else◌}
 use Rattle.std.specs.List.{list_all, list_any}
 use Rattle.std.specs.Prelude.{Contains}

@@ -1,4 +1,4 @@
--- What an expression of operands of known types comes to: a value of its type, and it doesn't stray.
+-- What an expression of operands of known types comes to: a value of its type, and it isn't stuck.
 use Rattle.std.proofs.Common.{◌≡◌, refl, sym, ap, ◌∙◌, subst, ℕ, ◌≤◌, nat_lt, length, List, [], ◌∷◌, map, Bool, true, false, Option, Some, None, option_map, option_and_then, slice_get, if◌then◌else◌, arith}
 use Rattle.std.proofs.lemmas.Bool.{le-ltb}
 use Rattle.std.proofs.lemmas.Option.{none-some, same_Some}
@@ -25,7 +25,7 @@ use Rattle.vcl_code.specs.Expressions.{second_string}
 use Rattle.vcl_program.specs.declared.code.Director.{Director}
 use Rattle.vcl_context.specs.declared.turn.Answer.{Answer}
 use Rattle.vcl_context.specs.declared.turn.Command.TheVariants.{Xkey}
-use Rattle.vcl_operands.specs.Outs.{On, Strays, and_then, known_on, made_on, ask, number_of}
+use Rattle.vcl_operands.specs.Outs.{On, Stuck, and_then, known_on, made_on, ask, number_of}
 use Rattle.vcl_operands.specs.Meaning.{Scene, Operand, named_value, purged, values_of, all_values, called, decides, sought_in, matched_in, value_of, operands_of}
 use Rattle.vcl_operands.specs.Values.{ok_of, as_text, opposite, matched, sought, ordered, summed, lessened, substituted, director_value, director_at, asked_with, asked, fitted, joined, all_fitted, meant, answered, applied}
 use Rattle.vcl_store.proofs.Rows.{false-true}
@@ -79,7 +79,7 @@ few n ks e h = le-ltb 3 n (omega (arith, e, h))
 all-values-hold : (ks : List Kind) (xs : List Operand) → length ks ≤ 3 → AllGiven ks xs → (s : List Answer) → Holds (AllTaken ks) (all_values xs s)
 all-values-hold ks xs low h s = by-count (nat_lt 3 (length xs)) (few (length xs) ks (given-count ks xs h) low)
   where
-    by-count : (b : Bool) → b ≡ false → Holds (AllTaken ks) (if b then Strays else values_of xs s)
+    by-count : (b : Bool) → b ≡ false → Holds (AllTaken ks) (if b then Stuck else values_of xs s)
     by-count false e = values-hold ks xs h s
     by-count true e = absurd (false-true (sym e))
 

@@ -1,4 +1,4 @@
--- A run of a sound text doesn't stray.
+-- A run of a sound text isn't stuck.
 use Rattle.std.proofs.Common.{◌≡◌, inl, inr, ℕ, zero, suc, ◌+◌, ◌<◌, ◌==◌, Bool, true, false, length, map, List, [], ◌∷◌, codes, refl, sym, ap, ◌∙◌, subst, Option, Some, None, slice_get, slice_index_or, if◌then◌else◌, arith}
 use Rattle.std.specs.Prelude.{Contains}
 use Rattle.std.proofs.lemmas.List.Elements.{Contains-append_cases}

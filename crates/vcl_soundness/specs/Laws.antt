@@ -21,7 +21,7 @@ use Rattle.vcl_context.specs.declared.variable.Variable.{Variable}
 use Rattle.vcl_context.specs.declared.variable.Variable.TheVariants as variable
 use Rattle.vcl_check.specs.Texts.{IsSound}
 use Rattle.vcl_store.specs.Joined.{IsJoined}
-use Rattle.vcl_meaning.specs.Meaning.{NeverStrays}
+use Rattle.vcl_meaning.specs.Meaning.{NeverStuck}
 
 -- Each stored function takes three values at most, and has a meaning of the type that it gives on all values of the types that it takes.
 abbrev pub AreMeant : List Stored → Type 0
@@ -48,10 +48,10 @@ IsStandard entry =
 abbrev pub StandardAreMeant : Type 0
 StandardAreMeant = (stored : List Stored) → ((k : ℕ) (entry : Stored) → slice_get stored k ≡ Some entry → IsStandard entry) → AreMeant stored
 
--- No run of a sound text strays, but for one of vcl_init, whose objects are made as the text is numbered.
-abbrev pub NoStray : Type 0
-NoStray =
-    (text : List ℕ) (joined : Tree) (stored : List Stored) → ∥ IsJoined text joined ∥₁ → ∥ IsSound joined.items stored ∥₁ → AreMeant stored → NeverStrays joined.items stored
+-- No run of a sound text gets stuck, but for one of vcl_init, whose objects are made as the text is numbered.
+abbrev pub NoRunStuck : Type 0
+NoRunStuck =
+    (text : List ℕ) (joined : Tree) (stored : List Stored) → ∥ IsJoined text joined ∥₁ → ∥ IsSound joined.items stored ∥₁ → AreMeant stored → NeverStuck joined.items stored
 
 -- what the line of a head can't carry (RFC 9110, RFC 9112)
 abbrev pub is_refused : Variable → Value → Bool

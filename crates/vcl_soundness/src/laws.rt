@@ -1,20 +1,20 @@
 // What runs of sound texts never come to.
 ghost use Rattle.std.specs.Prelude.{ℕ, ◌<◌, All, List, length};
 ghost use Rattle.vcl_store.specs.Joined.{IsJoined};
-ghost use Rattle.vcl_meaning.specs.Meaning.{NeverStrays};
-ghost use Rattle.vcl_soundness.specs.Laws.{AreMeant, NoStray, RefusedAlone, StandardAreMeant};
+ghost use Rattle.vcl_meaning.specs.Meaning.{NeverStuck};
+ghost use Rattle.vcl_soundness.specs.Laws.{AreMeant, NoRunStuck, RefusedAlone, StandardAreMeant};
 
 use vcl_program::Compiled;
 
-/// No run of a sound text strays.
-pub fn no_stray()
-    ensures { NoStray }
+/// No run of a sound text gets stuck.
+pub fn no_run_stuck()
+    ensures { NoRunStuck }
 {}
 
 /// The same of a sound text that is kept in numbers.
-pub fn program_never_strays(program: &Compiled)
+pub fn program_never_stuck(program: &Compiled)
     ensures { (text : List ℕ) → ∥ IsJoined text program.now.program.tree ∥₁ → AreMeant program.now.program.stored
-        → NeverStrays program.now.program.tree.items program.now.program.stored }
+        → NeverStuck program.now.program.tree.items program.now.program.stored }
 {}
 
 /// In the numbered form of a sound text the default backend is there, and so is the backend of each director's member.

@@ -1,7 +1,7 @@
 //! What runs of sound texts of VCL never come to.
 //!
 //! Contract for the layer above: the laws of this crate are contracts of functions that do nothing (`specs/Laws.antt`). No run of
-//! a sound text strays to what no sound text has, so the evaluator has no answer for it; the backends that a text in numbers
+//! a sound text gets stuck to what no sound text has, so the evaluator has no answer for it; the backends that a text in numbers
 //! speaks of are there; `set` is refused for its value alone; the functions of the module `std` are as it is asked of stored
 //! functions.
 #![tactic(auto)]
@@ -9,5 +9,5 @@
 mod laws;
 
 pub use laws::{
-    backends_are_there, no_stray, program_never_strays, refused_alone, standard_are_meant,
+    backends_are_there, no_run_stuck, program_never_stuck, refused_alone, standard_are_meant,
 };

@@ -35,7 +35,8 @@ runs-preserved g c =
     }
 
 pub runs-smaller : goal.runs-smaller
-runs-smaller g c = less-skip _ _ c.in-Ok.turn c.in-Need.command c.in-Need.is c.in-Ok.ensures.less
+runs-smaller g c =
+    less-skip _ _ c.in-Ok.turn c.in-Need.command c.in-Need.is (found-none _ _ c.in-Ok-take_command.found c.in-None.is c.in-Ok-take_command.ensures) c.in-Ok.ensures.less
 
 pub returns-in-Some : goal.returns-in-Some
 returns-in-Some g c =

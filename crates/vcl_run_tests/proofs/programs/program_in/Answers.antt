@@ -10,6 +10,6 @@ returns-in_ok-new-in-Ok g c =
     let stored = c.args.functions.now.stored in
     let there : IsRunnable stored c.in-Ok.program = record {
       functions = c.in-Ok.ensures.stored;
-      sure = c.program_never_strays.ensures c.args.text.now ∣ c.in-Ok.ensures.joined ∣₁ (subst (λ (l : List Stored). AreMeant l) (sym c.in-Ok.ensures.stored) c.requires);
+      sure = c.program_never_stuck.ensures c.args.text.now ∣ c.in-Ok.ensures.joined ∣₁ (subst (λ (l : List Stored). AreMeant l) (sym c.in-Ok.ensures.stored) c.requires);
     } in
     subst (λ (p : Compiled). IsRunnable stored p) (sym c.in_ok-new-in-Ok.ensures.ok) there

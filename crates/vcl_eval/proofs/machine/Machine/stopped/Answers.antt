@@ -1,4 +1,4 @@
-use Rattle.vcl_eval.proofs.Lefts.{ban-lessens}
+use Rattle.vcl_eval.proofs.Turns.{ban-lessens}
 use Rattle.vcl_eval.proofs.machine.Machine.stopped.Goals as goal
 
 pub returns-in-Ban-clause-less : goal.returns-in-Ban-clause-less
