@@ -2,3 +2,4 @@ pub mod Fields
 pub mod Operators
 pub mod Reading
 pub mod Plans
+pub mod Searches

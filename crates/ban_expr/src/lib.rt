@@ -10,11 +10,14 @@ mod error;
 mod laws;
 mod matching;
 mod operators;
+mod patterns;
 mod plans;
+mod prepared;
 mod reading;
 mod subjects;
 
 pub use error::BanError;
 pub use laws::one_ban;
 pub use matching::{object_only, test};
+pub use prepared::{Prepared, prepare};
 pub use reading::{MAX_CONDITIONS, read};

@@ -1,10 +1,12 @@
 // When a ban matches.
-ghost use Rattle.std.specs.Prelude.{◌≡◌, ◌^◌, ◌+ℤ◌, ◌≤ℤ◌, neg_ℤ, pos, is_some, IfOk};
+ghost use Rattle.std.specs.Prelude.{◌≡◌, ◌^◌, ◌+ℤ◌, ◌≤ℤ◌, neg_ℤ, pos, map, IfOk};
+ghost use Rattle.std.specs.List.{list_all};
 ghost use Rattle.std.specs.Option.{option_copied};
 ghost use Rattle.http_heads.specs.Fields.{first_value};
-ghost use Rattle.vcl_values.specs.Readings.{first_found};
 ghost use Rattle.cache_law.specs.Bans.{ban_matches, object_only as looks_at_objects, is_on_object as looks_at_object, holds as condition_holds, passes as operator_passes, text_of, url_in, header_in, status_of as status_in, fields_of, is_argument, has_match, time_of as time_said, compares as comparison_says};
+ghost use Rattle.ban_expr.specs.Searches.{finds, sought, sought_by};
 
+use crate::patterns::patterns_of;
 use cache_law::{Ban, Condition, Object, RequestView, TextField, TextOperator, TimeField};
 use std::alloc::{AllocError, Global};
 use units::{Text, write_number};
@@ -32,8 +34,8 @@ fn is_on_object(condition: &Condition) -> bool
 }
 
 /// Whether the ban, issued at the moment, matches the object with the request. Hand the request unless the ban looks at
-/// objects alone: without one its fields count as absent. A pattern is built anew each time; where that fails the answer
-/// is want of memory.
+/// objects alone: without one its fields count as absent. The patterns are built for this one test; where that fails the
+/// answer is want of memory. Of a ban that is tested more than once, make a `Prepared`.
 #[tactic(auto, unfolding(cache_law::specs::Bans::ban_matches))]
 pub fn test(
     alloc: Global,
@@ -44,8 +46,34 @@ pub fn test(
 ) -> Result<bool, AllocError>
     ensures { IfOk result (λ matched. matched ≡ ban_matches ban.now issued object.now (option_copied request.entry)) }
 {
-    for condition in ban.conditions.as_slice() {
-        if !holds(alloc, condition, issued, object, request)? {
+    let conditions = ban.conditions.as_slice();
+    let patterns = patterns_of(alloc, conditions)?;
+    all_hold(
+        alloc,
+        conditions,
+        patterns.as_slice(),
+        issued,
+        object,
+        request,
+    )
+}
+
+/// Whether the conditions of a ban, issued at the moment, hold of the object and the request. The patterns are those that
+/// they search for.
+pub(crate) fn all_hold(
+    alloc: Global,
+    conditions: &[Condition],
+    patterns: &[Option<Pattern>],
+    issued: u64,
+    object: &Object,
+    request: Option<&RequestView>,
+) -> Result<bool, AllocError>
+    requires { patterns.now ≡ map sought conditions.now }
+    ensures { IfOk result (λ held. held ≡ list_all (condition_holds issued object.now (option_copied request.entry)) conditions.now) }
+{
+    for (place, condition) in conditions.iter().enumerate() {
+        let pattern = patterns[place].as_ref();
+        if !holds(alloc, condition, pattern, issued, object, request)? {
             return Ok(false);
         }
     }
@@ -55,10 +83,12 @@ pub fn test(
 fn holds(
     alloc: Global,
     condition: &Condition,
+    pattern: Option<&Pattern>,
     issued: u64,
     object: &Object,
     request: Option<&RequestView>,
 ) -> Result<bool, AllocError>
+    requires { option_copied pattern ≡ sought condition.now }
     ensures { IfOk result (λ held. held ≡ condition_holds issued object.now (option_copied request.entry) condition.now) }
 {
     match condition {
@@ -66,7 +96,14 @@ fn holds(
             field,
             operator,
             argument,
-        } => text_holds(alloc, field, *operator, argument, object, request),
+        } => {
+            let wanted = Wanted {
+                operator: *operator,
+                argument,
+                pattern,
+            };
+            text_holds(alloc, field, &wanted, object, request)
+        }
         Condition::OnTime {
             field,
             comparison,
@@ -79,28 +116,32 @@ fn holds(
     }
 }
 
+// What a condition wants of a text. The pattern is that of the argument where the operator searches.
+#[derive(Clone, Copy)]
+struct Wanted<'a> {
+    operator: TextOperator,
+    argument: &'a Text,
+    pattern: Option<&'a Pattern>,
+}
+
 fn text_holds(
     alloc: Global,
     field: &TextField,
-    operator: TextOperator,
-    argument: &Text,
+    wanted: &Wanted<'_>,
     object: &Object,
     request: Option<&RequestView>,
 ) -> Result<bool, AllocError>
-    ensures { IfOk result (λ held. held ≡ operator_passes operator argument.now (text_of object.now (option_copied request.entry) field.now)) }
+    requires { option_copied wanted.now.pattern ≡ sought_by wanted.now.operator wanted.now.argument.now }
+    ensures { IfOk result (λ held. held ≡ operator_passes wanted.now.operator wanted.now.argument.now (text_of object.now (option_copied request.entry) field.now)) }
 {
     match field {
-        TextField::RequestUrl => passes(alloc, operator, argument, url_of(request)),
-        TextField::RequestHeader(name) => {
-            passes(alloc, operator, argument, header_of(request, name))
-        }
+        TextField::RequestUrl => passes(alloc, wanted, url_of(request)),
+        TextField::RequestHeader(name) => passes(alloc, wanted, header_of(request, name)),
         TextField::ObjectStatus => {
             let digits = write_number(alloc, u64::from(status_of(object)))?;
-            passes(alloc, operator, argument, Some(&digits))
+            passes(alloc, wanted, Some(&digits))
         }
-        TextField::ObjectHeader(name) => {
-            passes(alloc, operator, argument, header_of_object(object, name))
-        }
+        TextField::ObjectHeader(name) => passes(alloc, wanted, header_of_object(object, name)),
     }
 }
 
@@ -141,19 +182,15 @@ fn header_of_object<'a>(object: &'a Object, name: &Text) -> Option<&'a Text>
 }
 
 // What the operator says of a text, which may be absent.
-fn passes(
-    alloc: Global,
-    operator: TextOperator,
-    argument: &Text,
-    found: Option<&Text>,
-) -> Result<bool, AllocError>
-    ensures { IfOk result (λ passed. passed ≡ operator_passes operator argument.now (option_copied found.entry)) }
+fn passes(alloc: Global, wanted: &Wanted<'_>, found: Option<&Text>) -> Result<bool, AllocError>
+    requires { option_copied wanted.now.pattern ≡ sought_by wanted.now.operator wanted.now.argument.now }
+    ensures { IfOk result (λ passed. passed ≡ operator_passes wanted.now.operator wanted.now.argument.now (option_copied found.entry)) }
 {
-    match operator {
-        TextOperator::Equal => Ok(is_equal(argument, found)),
-        TextOperator::NotEqual => Ok(!is_equal(argument, found)),
-        TextOperator::Matches => is_match(alloc, argument, found),
-        TextOperator::MatchesNot => Ok(!is_match(alloc, argument, found)?),
+    match wanted.operator {
+        TextOperator::Equal => Ok(is_equal(wanted.argument, found)),
+        TextOperator::NotEqual => Ok(!is_equal(wanted.argument, found)),
+        TextOperator::Matches => is_match(alloc, wanted.pattern, found),
+        TextOperator::MatchesNot => Ok(!is_match(alloc, wanted.pattern, found)?),
     }
 }
 
@@ -166,22 +203,25 @@ fn is_equal(argument: &Text, found: Option<&Text>) -> bool
     }
 }
 
-fn is_match(alloc: Global, argument: &Text, found: Option<&Text>) -> Result<bool, AllocError>
-    ensures { IfOk result (λ matched. matched ≡ has_match argument.now (option_copied found.entry)) }
+fn is_match(
+    alloc: Global,
+    pattern: Option<&Pattern>,
+    found: Option<&Text>,
+) -> Result<bool, AllocError>
+    ensures { IfOk result (λ matched. matched ≡ finds (option_copied pattern.entry) (option_copied found.entry)) }
 {
-    match found {
-        Some(text) => has_pattern(alloc, argument, text),
+    match pattern {
+        Some(pattern) => has_pattern(alloc, pattern, found),
         None => Ok(false),
     }
 }
 
-// A pattern that was read before is refused at no second building but for want of memory.
-fn has_pattern(alloc: Global, argument: &Text, text: &Text) -> Result<bool, AllocError>
-    ensures { IfOk result (λ matched. matched ≡ is_some (first_found argument.now text.now)) }
+fn has_pattern(alloc: Global, pattern: &Pattern, found: Option<&Text>) -> Result<bool, AllocError>
+    ensures { IfOk result (λ matched. matched ≡ has_match pattern.now (option_copied found.entry)) }
 {
-    match Pattern::of(alloc, argument) {
-        Ok(pattern) => pattern.is_match(alloc, text),
-        Err(_) => Err(AllocError),
+    match found {
+        Some(text) => pattern.is_match(alloc, text),
+        None => Ok(false),
     }
 }
 

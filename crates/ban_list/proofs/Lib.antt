@@ -1,0 +1,5 @@
+pub mod KeyLemmas
+pub mod LineLemmas
+pub mod CountLemmas
+pub mod IssueLemmas
+pub mod CutLemmas

@@ -1,0 +1,3 @@
+pub mod Bans
+pub mod Keys
+pub mod Kept
