@@ -1,0 +1,1 @@
+// The least recently used, as many as have to go.
