@@ -1,5 +1,5 @@
 -- Members by their ends, as the set of ends has them.
-use Rattle.std.proofs.Common.{◌≡◌, ◌<ℤ◌, ◌≤ℤ◌, ℕ, ℤ, pos, Bool, true, false, not, ◌&&◌, ◌||◌, cond, List, [], ◌∷◌, ◌++◌, length, Option, None, Some, refl, sym, ◌∙◌, ap, subst, arith, IsTrue, IsSome, ◌↔◌, ◌<◌, ◌≤◌}
+use Rattle.std.proofs.Common.{◌≡◌, ◌<ℤ◌, ◌≤ℤ◌, ℕ, pos, Bool, true, false, ◌&&◌, ◌||◌, cond, List, [], ◌∷◌, ◌++◌, length, Some, refl, sym, ◌∙◌, ap, subst, arith, IsTrue, ◌<◌}
 use Rattle.std.specs.Prelude.{nat_eq}
 use Rattle.std.specs.declared.cmp.Ordering.{Ordering}
 use Rattle.std.specs.declared.cmp.Ordering.TheVariants.{Less, Equal, Greater}
@@ -8,9 +8,9 @@ use Rattle.std.specs.List.{list_any, AllByRecursion}
 use Rattle.std.specs.Map.{lookup, remove_entry}
 use Rattle.std.specs.BTreeMap.{is_at}
 use Rattle.std.specs.BTreeSet.{BTreeSet, contains}
-use Rattle.std.specs.Cmp.{both_tied, int_eq_equiv, nat_eq_equiv, tied_then}
+use Rattle.std.specs.Cmp.{int_eq_equiv, nat_eq_equiv, tied_then}
 use Rattle.std.proofs.lemmas.Bool.{and_parts, or_parts, or_from, or_left, or_right, eqb-true}
-use Rattle.std.proofs.lemmas.Bool.Decides.{nat_tests, Decides-int_eq}
+use Rattle.std.proofs.lemmas.Bool.Decides.{Decides-int_eq}
 use Rattle.std.proofs.lemmas.Int.{ints}
 use Rattle.std.proofs.lemmas.List.Folds.{list_any-append}
 use Rattle.room_lru.specs.declared.member.Member.{Member}
@@ -107,7 +107,7 @@ stands_step false test used member end m ms e rest free found =
           subst (λ one. has_end one m ≡ false) (sym (is_end end (used, member) h))
           (has_other (used, member) m ∙ not_found (λ x. has_end (end_of m) (used, x)) test member ms behind free)
 
-stands_less : (test : ℕ → Bool) (used : ℕ) (member : Member) (end : End) (members : List Used) → AreApart members → lookup test members ≡ Some member
+pub stands_less : (test : ℕ → Bool) (used : ℕ) (member : Member) (end : End) (members : List Used) → AreApart members → lookup test members ≡ Some member
     → list_any (has_end end) (remove_entry test members) ≡ cond (has_end end (used, member)) false (list_any (has_end end) members)
 stands_less test used member end [] apart found = cc
 stands_less test used member end (m ∷ ms) apart found =

@@ -1,12 +1,12 @@
 -- The map, the set and the sum when one member comes or goes.
-use Rattle.std.proofs.Common.{◌≡◌, ◌+◌, ◌-◌, ◌≤◌, ℕ, true, false, cond, [], ◌∷◌, ◌++◌, Some, sym, ◌∙◌, ap, subst, arith}
+use Rattle.std.proofs.Common.{◌≡◌, ◌+◌, ◌-◌, ℕ, true, false, cond, [], ◌∷◌, ◌++◌, Some, sym, ◌∙◌, ap, subst, arith}
 use Rattle.std.specs.Ordering.{nat_cmp}
 use Rattle.std.specs.Map.{lookup, remove_entry}
 use Rattle.std.specs.BTreeMap as tree
 use Rattle.std.specs.BTreeMap.{BTreeMap, is_at}
 use Rattle.std.specs.BTreeSet.{BTreeSet, contains}
 use Rattle.room_lru.specs.declared.member.Member.{Member}
-use Rattle.room_lru.specs.Members.{Used, total_of, IsLatest}
+use Rattle.room_lru.specs.Members.{total_of}
 use Rattle.room_lru.specs.Ends.{End, by_end, IsFree}
 use Rattle.room_lru.specs.Kept.{IsIndexOf, AreApart, AreKept}
 use Rattle.room_lru.proofs.MemberLemmas.{total_more, total_less}

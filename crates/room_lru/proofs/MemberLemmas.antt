@@ -1,10 +1,12 @@
 -- The list of members, as the map by last use has it.
-use Rattle.std.proofs.Common.{◌≡◌, ◌<◌, ◌≤◌, ◌+◌, ◌-◌, ℕ, Bool, true, false, not, List, [], ◌∷◌, ◌++◌, length, map, filter, sum, cond, Option, None, Some, refl, sym, ◌∙◌, ap, subst, arith, Greater, IsTrue, ◌↔◌, Result, Ok, Err, OnOk, OnErr}
+use Rattle.std.proofs.Common.{◌≡◌, ◌<◌, ◌+◌, ℕ, Bool, true, false, List, [], ◌∷◌, ◌++◌, None, Some, refl, sym, ◌∙◌, ap, arith, Greater, IsTrue, ◌↔◌, Result, Ok, Err, OnOk, OnErr}
 use Rattle.std.specs.Result.{is_err}
 use Rattle.std.specs.Prelude.{nat_eq, nat_lt, unwrap_or}
 use Rattle.std.specs.Option.{option_map}
 use Rattle.std.specs.Ordering.{is_eq, is_lt, nat_cmp}
 use Rattle.std.specs.List.{All, AllByRecursion, sum_by}
+use Rattle.std.specs.List.Sorted.{IsStrictlySortedBy}
+use Rattle.std.specs.Cmp.{nat_cmp_total, eq_by_cmp_equiv}
 use Rattle.std.specs.Map.{keys_of, values_of, lookup, remove_entry}
 use Rattle.std.specs.BTreeMap.{insert_entry, is_at}
 use Rattle.std.proofs.lemmas.Bool.{ltb-true, lt-ltb, eqb-true}
@@ -12,9 +14,11 @@ use Rattle.std.proofs.lemmas.Bool.Decides.{nat_tests}
 use Rattle.std.proofs.lemmas.List.{map-append}
 use Rattle.std.proofs.lemmas.List.Elements.{recursion_from_All}
 use Rattle.std.proofs.lemmas.List.Sums.{sum-map, sum_by_push}
+use Rattle.std.proofs.lemmas.Map.{lookup-remove_entry}
+use Rattle.std.proofs.lemmas.Map.Keys.{IsDistinct-from_sorted}
 use Rattle.std.proofs.lemmas.Map.Entries.{sum_by-remove_entry}
 use Rattle.room_lru.specs.declared.member.Member.{Member}
-use Rattle.room_lru.specs.Members.{Used, sizes_of, total_of, without, at_use, IsLatest}
+use Rattle.room_lru.specs.Members.{Used, total_of, without, IsLatest}
 
 greater : (a b : ℕ) → b < a → nat_cmp a b ≡ Greater
 greater a b h = grind (arith, nat_tests)
@@ -60,7 +64,7 @@ rest-without used [] none = refl
 rest-without used (m ∷ ms) none = rest_step (nat_eq used m.0) used m ms refl (rest-without used ms) none
 
 -- ---- sums
-total_is : (members : List Used) → total_of members ≡ sum_by (λ member. member.size) (values_of members)
+pub total_is : (members : List Used) → total_of members ≡ sum_by (λ member. member.size) (values_of members)
 total_is members = sum-map (λ member. member.size) (values_of members)
 
 pub total_more : (used : ℕ) (member : Member) (members : List Used) → total_of (members ++ (used, member) ∷ []) ≡ total_of members + member.size
@@ -78,6 +82,21 @@ total_less test member members found =
     ∙ sum_by-remove_entry (λ m. m.size) test members
     ∙ sym (total_is members)
 
+-- ---- uses that rise
+pub gone_after : (used : ℕ) (members : List Used) → IsStrictlySortedBy nat_cmp (keys_of members)
+    → lookup (is_at (nat_cmp used)) (remove_entry (is_at (nat_cmp used)) members) ≡ None
+gone_after used members rising =
+    let laws = eq_by_cmp_equiv nat_cmp_total in
+    let gone = lookup-remove_entry laws (is_at (nat_cmp used)) (λ x y same. laws.congr used x y same) used members (IsDistinct-from_sorted nat_cmp (keys_of members) rising) in
+    rw (laws.refl used) at gone
+
+pub total_without : (used : ℕ) (member : Member) (members : List Used) → IsStrictlySortedBy nat_cmp (keys_of members)
+    → lookup (is_at (nat_cmp used)) members ≡ Some member → member.size + total_of (without used members) ≡ total_of members
+total_without used member members rising found =
+    let rest = ap total_of (rest-without used members (gone_after used members rising)) in
+    let sum = total_less (is_at (nat_cmp used)) member members found in
+    omega arith
+
 -- ---- the latest use of all
 not_above : (latest used key : ℕ) → latest < used → is_lt (nat_cmp latest key) ≡ false → key < used
 not_above latest used key later most = grind (arith, nat_tests)
@@ -93,7 +112,7 @@ below_step : (b : Bool) (used latest : ℕ) (member : Member) (m : Used) (ms : L
 below_step true used latest member m ms e here rest found = let same = eqb-true latest m.0 e in omega arith
 below_step false used latest member m ms e here rest found = rest (rw (at_number latest m.0, e) at found)
 
-latest_below : (used latest : ℕ) (member : Member) (members : List Used) → IsLatest used members
+pub latest_below : (used latest : ℕ) (member : Member) (members : List Used) → IsLatest used members
     → lookup (is_at (nat_cmp latest)) members ≡ Some member → latest < used
 latest_below used latest member [] above found = cc
 latest_below used latest member (m ∷ ms) above found =

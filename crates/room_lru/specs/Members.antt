@@ -1,5 +1,5 @@
 -- Members by the number of their last use, the least recently used first.
-use Rattle.std.specs.Prelude.{ℕ, ◌<◌, not, nat_eq, List, [], ◌∷◌, ◌++◌, Option, None, Some, map, filter, sum}
+use Rattle.std.specs.Prelude.{ℕ, ℤ, ◌<◌, not, nat_eq, List, [], ◌∷◌, ◌++◌, Option, None, Some, map, filter, sum, if◌then◌else◌}
 use Rattle.std.specs.List.{AllByRecursion}
 use Rattle.std.specs.Map.{lookup, values_of}
 use Rattle.room_lru.specs.declared.member.Member.{Member}
@@ -34,3 +34,10 @@ at_use used (Some member) = (used, member) ∷ []
 -- the member of the first use has come last, with the later use
 abbrev pub used_again : ℕ → ℕ → List Used → List Used
 used_again used later members = without used members ++ at_use later (lookup (nat_eq used) members)
+
+-- the member of this last use has another end
+abbrev pub ending : ℕ → ℤ → Used → Used
+ending used end member = if nat_eq used member.0 then (member.0, record member.1 { end = end }) else member
+
+abbrev pub with_end : ℕ → ℤ → List Used → List Used
+with_end used end members = map (ending used end) members

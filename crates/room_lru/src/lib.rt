@@ -7,8 +7,10 @@
 #![tactic(auto)]
 
 mod front;
+mod laws;
 mod member;
 mod room;
 
+pub use laws::one_count_makes_room;
 pub use member::Member;
 pub use room::RoomLru;

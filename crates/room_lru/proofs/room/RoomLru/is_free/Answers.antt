@@ -1,4 +1,4 @@
-use Rattle.std.proofs.Common.{not, ◌≡◌, ◌∙◌, sym, ap, ℤ, IsTrue, ◌↔◌}
+use Rattle.std.proofs.Common.{not, ◌≡◌, ◌∙◌, sym, ap, ℤ, IsTrue}
 use Rattle.std.specs.Int.{w128}
 use Rattle.std.specs.BTreeSet.{contains}
 use Rattle.std.proofs.lemmas.Bool.{not-true}
