@@ -14,7 +14,7 @@ use Rattle.std.proofs.lemmas.Bool.Decides.{Decides-int_eq}
 use Rattle.std.proofs.lemmas.Int.{ints}
 use Rattle.std.proofs.lemmas.List.Folds.{list_any-append}
 use Rattle.room_lru.specs.declared.member.Member.{Member}
-use Rattle.room_lru.specs.Members.{Used}
+use Rattle.room_lru.specs.Members.{Used, without}
 use Rattle.room_lru.specs.Ends.{End, by_end, has_end, IsFree, EndsFirst}
 use Rattle.room_lru.specs.Kept.{IsIndexOf, AreApart}
 use Rattle.room_lru.proofs.MemberLemmas.{at_number}
@@ -151,6 +151,18 @@ apart_step false test m ms e apart rest = rw e (free_less (has_end (end_of m)) t
 pub apart_less : (test : ℕ → Bool) (members : List Used) → AreApart members → AreApart (remove_entry test members)
 apart_less test [] apart = tt
 apart_less test (m ∷ ms) apart = apart_step (test m.0) test m ms refl apart (apart_less test ms apart.1)
+
+free_other_step : (b : Bool) (p : Used → Bool) (used : ℕ) (m : Used) (ms : List Used) → nat_eq used m.0 ≡ b → p m ≡ false
+    → list_any p (without used ms) ≡ false → list_any p (without used (m ∷ ms)) ≡ false
+free_other_step true p used m ms e here rest = rw e rest
+free_other_step false p used m ms e here rest = rw e (or_from (p m) (list_any p (without used ms)) here rest)
+
+-- what no member has none of the others has
+pub free_of_others : (end : End) (used : ℕ) (members : List Used) → IsFree end members → IsFree end (without used members)
+free_of_others end used [] free = refl
+free_of_others end used (m ∷ ms) free =
+    let parts = or_parts (has_end end m) (list_any (has_end end) ms) free in
+    free_other_step (nat_eq used m.0) (has_end end) used m ms refl parts.0 (free_of_others end used ms parts.1)
 
 -- ---- the first end
 each_end : (P : End → Type 0) (members : List Used) → ((end : End) → list_any (has_end end) members ≡ true → P end) → AllByRecursion (λ member. P (end_of member)) members

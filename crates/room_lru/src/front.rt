@@ -22,7 +22,9 @@ pub(crate) fn first_out(
 ) -> Result<Option<Vec<u64>>, AllocError>
     requires total { total ≡ total_of (others but members.now.entries) }
     requires holds { size ≤ room }
-    ensures { IfOk result (λ out. MatchOption out (LackRoom room size (others but members.now.entries)) (λ handles. AreOut room size (others but members.now.entries) handles.items)) }
+    ensures { IfOk result (λ out. MatchOption out
+        (LackRoom room size (others but members.now.entries))
+        (λ handles. AreOut room size (others but members.now.entries) handles.items)) }
 {
     let mut left = total;
     let mut out = Vec::new(alloc);

@@ -166,7 +166,9 @@ impl RoomLru {
         room: u64,
         size: u64,
     ) -> Result<Option<Vec<u64>>, AllocError>
-        ensures { IfOk result (λ out. MatchOption out (LackRoom room size (others but self.now)) (λ handles. AreOut room size (others but self.now) handles.items)) }
+        ensures { IfOk result (λ out. MatchOption out
+            (LackRoom room size (others but self.now))
+            (λ handles. AreOut room size (others but self.now) handles.items)) }
     {
         if room < size {
             return Ok(None);
@@ -175,7 +177,7 @@ impl RoomLru {
         first_out(&self.members, alloc, but, left, room, size)
     }
 
-    // What the member of this last use takes.
+    // What the member of this last use takes, or 0 where there is none.
     fn size_of(&self, used: Option<u64>) -> u64
         ensures { result + total_of (others used self.now) ≡ total_of self.now }
     {
