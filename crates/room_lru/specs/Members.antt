@@ -1,7 +1,9 @@
 -- Members by the number of their last use, the least recently used first.
 use Rattle.std.specs.Prelude.{ℕ, ℤ, ◌<◌, not, nat_eq, List, [], ◌∷◌, ◌++◌, Option, None, Some, map, filter, sum, if◌then◌else◌}
+use Rattle.std.specs.Ordering.{nat_cmp}
 use Rattle.std.specs.List.{AllByRecursion}
-use Rattle.std.specs.Map.{lookup, values_of}
+use Rattle.std.specs.List.Sorted.{IsStrictlySortedBy}
+use Rattle.std.specs.Map.{keys_of, lookup, values_of}
 use Rattle.room_lru.specs.declared.member.Member.{Member}
 
 -- a member and its last use
@@ -21,6 +23,10 @@ total_of members = sum (sizes_of members)
 -- the others than the one of this last use
 abbrev pub without : ℕ → List Used → List Used
 without used members = filter (λ member. not (nat_eq used member.0)) members
+
+-- each was used before those behind it
+abbrev pub AreInOrder : List Used → Type 0
+AreInOrder members = IsStrictlySortedBy nat_cmp (keys_of members)
 
 -- the use is later than those of all members
 abbrev pub IsLatest : ℕ → List Used → Type 0

@@ -4,7 +4,7 @@ ghost use Rattle.std.specs.List.{AllByRecursion};
 ghost use Rattle.std.specs.Map.{lookup};
 ghost use Rattle.std.specs.Option.{ForSome};
 ghost use Rattle.room_lru.specs.Ends.{IsFree, EndsFirst};
-ghost use Rattle.room_lru.specs.Members.{IsLatest, total_of, used_again, with_end, without};
+ghost use Rattle.room_lru.specs.Members.{AreInOrder, IsLatest, total_of, used_again, with_end, without};
 ghost use Rattle.room_lru.specs.Room.{AreOut, LackRoom, others};
 
 use crate::front::first_out;
@@ -49,9 +49,10 @@ impl RoomLru {
         }
     }
 
-    /// What all members take together, in bytes.
+    /// What all members take together, in bytes. In their list each was used before those behind it.
     pub fn total(&self) -> u64
-        ensures { result ≡ total_of self.now }
+        ensures sum { result ≡ total_of self.now }
+        ensures in_order { AreInOrder self.now }
     {
         self.total
     }
