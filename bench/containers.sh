@@ -15,15 +15,27 @@ TOP = 1 << 40
 def xkey_put(i):
     return 'put %d k%d' % (TOP - i, i)
 
+def room_put(i):
+    return 'put %d %d 10 %d' % (i + 1, TOP - i, 1000 + i)
+
 # of each call: the container, how a member is put in, the call for the i-th time at so many members, and its answer
 CASES = {
     'xkeys put': ('xkeys', xkey_put, lambda i, n: (xkey_put(n + i), 'put')),
     'xkeys find': ('xkeys', xkey_put, lambda i, n: ('find k%d' % (i * 7919 % n), '%d' % (TOP - i * 7919 % n))),
     'xkeys take, none there': ('xkeys', xkey_put, lambda i, n: ('take %d' % (i + 1), 'none')),
+    'room put_last': ('room', room_put, lambda i, n: (room_put(n + i), 'put')),
+    'room move_use': ('room', room_put, lambda i, n: ('use %d %d' % (i + 1, n + i + 1), 'used')),
+    'room move_end': ('room', room_put, lambda i, n: ('end %d %d' % (i * 7919 % n + 1, 1000 + 2 * n + i), 'ends')),
+    'room total': ('room', room_put, lambda i, n: ('total', '%d' % (10 * n))),
+    'room expired, none': ('room', room_put, lambda i, n: ('expired 999', 'none')),
+    'room expired': ('room', room_put, lambda i, n: ('expired %d' % (1000 + n), '%d' % TOP)),
+    'room least_out, 50 go': ('room', room_put, lambda i, n: ('out %d 10' % (10 * (n - 49)), ' '.join('%d' % (TOP - k) for k in range(50)))),
+    'room least_out, none go': ('room', room_put, lambda i, n: ('out %d 10 %d' % (10 * n, i * 7919 % n + 1), 'none')),
 }
 # half of the members go, from the oldest on
 PAIRS = {
     'xkeys put and take': ('xkeys', xkey_put, lambda i: ('take %d' % (TOP - i), '[b"k%d"]' % i)),
+    'room put_last and take': ('room', room_put, lambda i: ('take %d' % (i + 1), '%d 10 %d' % (TOP - i, 1000 + i))),
 }
 
 def best(container, steps):

@@ -1,0 +1,112 @@
+// Steps on members by their last use: `put USED HANDLE SIZE END`, `take USED`, `use USED LATER`, `end USED END`, `total`,
+// `expired MOMENT` and `out ROOM SIZE` or `out ROOM SIZE BUT`.
+use crate::words::{first_word, number, say_numbers};
+use room_lru::{Member, RoomLru};
+use std::alloc::{AllocError, Global};
+
+pub fn said(alloc: Global, steps: &str) -> Result<String, AllocError> {
+    let mut room = RoomLru::new(alloc);
+    let mut out = String::new(alloc);
+    for step in steps.split("; ") {
+        if !out.is_empty() {
+            out.push_str("; ")?;
+        }
+        say_step(alloc, &mut room, step, &mut out)?;
+    }
+    Ok(out)
+}
+
+fn say_step(
+    alloc: Global,
+    room: &mut RoomLru,
+    step: &str,
+    out: &mut String,
+) -> Result<(), AllocError> {
+    let (word, rest) = first_word(step);
+    match word {
+        "put" => put(room, rest, out),
+        "take" => take(room, number(rest), out),
+        "use" => move_use(room, rest, out),
+        "end" => move_end(room, rest, out),
+        "total" => write!(out, "{}", room.total()),
+        "expired" => match room.expired(number(rest)) {
+            Some(handle) => write!(out, "{handle}"),
+            None => out.push_str("none"),
+        },
+        "out" => say_least_out(alloc, room, rest, out),
+        _ => out.push_str("no such step"),
+    }
+}
+
+fn put(room: &mut RoomLru, rest: &str, out: &mut String) -> Result<(), AllocError> {
+    let (used, rest) = first_word(rest);
+    let (handle, rest) = first_word(rest);
+    let (size, end) = first_word(rest);
+    let used = number(used);
+    let member = Member {
+        handle: number(handle),
+        size: number(size),
+        end: signed(end),
+    };
+    if !room.is_latest(used) {
+        return out.push_str("not latest");
+    }
+    if !room.is_free(member.end, member.handle) {
+        return out.push_str("not free");
+    }
+    if member.size > u64::MAX - room.total() {
+        return out.push_str("too large");
+    }
+    room.put_last(used, member)?;
+    out.push_str("put")
+}
+
+fn take(room: &mut RoomLru, used: u64, out: &mut String) -> Result<(), AllocError> {
+    match room.take(used) {
+        Some(member) => write!(out, "{} {} {}", member.handle, member.size, member.end),
+        None => out.push_str("none"),
+    }
+}
+
+fn move_use(room: &mut RoomLru, rest: &str, out: &mut String) -> Result<(), AllocError> {
+    let (used, later) = first_word(rest);
+    let later = number(later);
+    if !room.is_latest(later) {
+        return out.push_str("not latest");
+    }
+    room.move_use(number(used), later)?;
+    out.push_str("used")
+}
+
+fn move_end(room: &mut RoomLru, rest: &str, out: &mut String) -> Result<(), AllocError> {
+    let (used, end) = first_word(rest);
+    let used = number(used);
+    let end = signed(end);
+    let Some(member) = room.get(used) else {
+        return out.push_str("none");
+    };
+    if !room.is_free(end, member.handle) {
+        return out.push_str("not free");
+    }
+    room.move_end(used, end)?;
+    out.push_str("ends")
+}
+
+fn say_least_out(
+    alloc: Global,
+    room: &RoomLru,
+    rest: &str,
+    out: &mut String,
+) -> Result<(), AllocError> {
+    let (most, rest) = first_word(rest);
+    let (size, but) = first_word(rest);
+    match room.least_out(alloc, but.parse().ok(), number(most), number(size))? {
+        Some(handles) => say_numbers(out, handles.as_slice()),
+        None => out.push_str("no room"),
+    }
+}
+
+// The number that the word writes, which may be below 0, or 0.
+fn signed(word: &str) -> i128 {
+    word.parse().unwrap_or(0)
+}

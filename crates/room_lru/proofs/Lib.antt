@@ -1,0 +1,6 @@
+pub mod MemberLemmas
+pub mod EndLemmas
+pub mod KeptLemmas
+pub mod AgainLemmas
+pub mod EndingLemmas
+pub mod RoomLemmas

@@ -1,0 +1,4 @@
+pub mod Members
+pub mod Ends
+pub mod Kept
+pub mod Room
