@@ -6,6 +6,7 @@
 
 mod attributes;
 mod functions;
+mod laws;
 mod modules;
 mod names;
 mod scope;
@@ -15,6 +16,11 @@ mod words;
 
 pub use attributes::{AttributeKind, Owner, attribute_named};
 pub use functions::{Function, Method, Parameter, Takes, function_named, method_named, method_of};
+pub use laws::{
+    backend_attributes_are_those, fields_are_those, functions_are_those, makers_are_those,
+    modules_are_those, probe_attributes_are_those, subroutines_are_those, variables_are_those,
+    words_are_those,
+};
 pub use modules::{Module, is_module, maker_named};
 pub use scope::{Scope, Subroutine, has};
 pub use subroutines::{SUBROUTINE_NAMES, SUBROUTINES, is_reserved, subroutine_named};
