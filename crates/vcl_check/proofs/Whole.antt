@@ -38,7 +38,7 @@ least-item : (known : Known) (numbers : List (List ℕ)) (rows : List (List Bool
 least-item known numbers rows k (item.Import place name) = λ f b. b
 least-item known numbers rows k (item.NoBackend place name) = λ f b. b
 least-item known numbers rows k (item.Backend place name attributes) = least-option (backend_fault known name attributes)
-least-item known numbers rows k (item.Probe place name attributes) = least-option (probe_fault attributes)
+least-item known numbers rows k (item.Probe place name attributes) = least-option (probe_fault known attributes)
 least-item known numbers rows k (item.Acl place name entries) = least-option (acl_fault entries)
 least-item known numbers rows k (item.Sub place name block) = least-block known numbers rows place name block k
 

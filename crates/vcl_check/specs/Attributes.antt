@@ -12,10 +12,13 @@ use Rattle.vcl_language.specs.declared.attributes.AttributeKind.TheVariants as k
 use Rattle.vcl_language.specs.declared.attributes.Owner.TheVariants as owner
 use Rattle.vcl_check.specs.declared.known.Thing.{Thing}
 use Rattle.vcl_check.specs.declared.known.Thing.TheVariants as thing
+use Rattle.vcl_check.specs.declared.form.Use.TheVariants as use'
+use Rattle.vcl_check.specs.declared.seen.Meaning.{Meaning}
+use Rattle.vcl_check.specs.declared.seen.Meaning.TheVariants as meaning
 use Rattle.vcl_check.specs.Calls.{unless}
 use Rattle.vcl_check.specs.Declarations.{is_number}
 use Rattle.vcl_check.specs.Folded.{numbered}
-use Rattle.vcl_check.specs.Known.{Known, thing_named}
+use Rattle.vcl_check.specs.Known.{Known, thing_named, meaning_of}
 use Rattle.vcl_check.specs.Least.{fault_at, lesser}
 use Rattle.vcl_check.specs.Mentions.{parts}
 
@@ -37,21 +40,28 @@ is_of kind.Integer (phrase.Integer place n) = true
 is_of kind.Duration (phrase.Duration place n) = true
 is_of _ _ = false
 
-abbrev pub of_plain : AttributeKind → Phrase → Option Fault
-of_plain k v = fault_at refusal.Kind (unless (is_of k v) (value_place v))
+-- a name is no value of an attribute, and unknown where nothing declares it
+abbrev pub of_named : Meaning → ℕ → Option Fault
+of_named meaning.Unknown place = fault_at refusal.Unknown (Some place)
+of_named _ place = fault_at refusal.Kind (Some place)
+
+abbrev pub of_plain : Known → AttributeKind → Phrase → Option Fault
+of_plain known k (phrase.Named place name) = of_named (meaning_of known use'.Read name) place
+of_plain known k v = fault_at refusal.Kind (unless (is_of k v) (value_place v))
 
 abbrev pub is_probe : Option Thing → Bool
 is_probe (Some thing.Probe) = true
 is_probe _ = false
 
 -- an attribute of a probe
-abbrev pub of_probe_kind : Option AttributeKind → ℕ → Phrase → Option Fault
-of_probe_kind None place v = fault_at refusal.Unknown (Some place)
-of_probe_kind (Some k) place v = of_plain k v
+abbrev pub of_probe_kind : Known → Option AttributeKind → ℕ → Phrase → Option Fault
+of_probe_kind known None place v = fault_at refusal.Unknown (Some place)
+of_probe_kind known (Some k) place v = of_plain known k v
 
-abbrev pub probe_attribute : Phrase → Option Fault
-probe_attribute (phrase.Node phrase.Attribute a (phrase.Node phrase.Bound (phrase.Named place name) v)) = of_probe_kind (attribute_named owner.Probe name) place v
-probe_attribute _ = None
+abbrev pub probe_attribute : Known → Phrase → Option Fault
+probe_attribute known (phrase.Node phrase.Attribute a (phrase.Node phrase.Bound (phrase.Named place name) v)) =
+    of_probe_kind known (attribute_named owner.Probe name) place v
+probe_attribute known _ = None
 
 abbrev pub attribute_name : Phrase → List ℕ
 attribute_name (phrase.Node phrase.Attribute a (phrase.Node phrase.Bound (phrase.Named place name) v)) = name
@@ -63,23 +73,27 @@ twice_attribute names k (phrase.Node phrase.Attribute a (phrase.Node phrase.Boun
     fault_at refusal.Twice (unless (is_number k (position (λ other. bytes_eq name other) names)) place)
 twice_attribute names k _ = None
 
-abbrev pub probe_member : List (List ℕ) → ℕ → Phrase → Option Fault
-probe_member names k a = lesser (probe_attribute a) (twice_attribute names k a)
+abbrev pub probe_member : Known → List (List ℕ) → ℕ → Phrase → Option Fault
+probe_member known names k a = lesser (probe_attribute known a) (twice_attribute names k a)
 
 -- the first fault among the attributes of a probe
-abbrev pub probe_fault : List Phrase → Option Fault
-probe_fault attributes = numbered (probe_member (map attribute_name attributes)) 0 None attributes
+abbrev pub probe_fault : Known → List Phrase → Option Fault
+probe_fault known attributes = numbered (probe_member known (map attribute_name attributes)) 0 None attributes
 
 -- an attribute of a backend: a probe is a name or attributes
+abbrev pub of_probe_named : Known → Bool → ℕ → List ℕ → Option Fault
+of_probe_named known true place name = None
+of_probe_named known false place name = of_named (meaning_of known use'.Read name) place
+
 abbrev pub of_probe : Known → Phrase → Option Fault
-of_probe known (phrase.Named place name) = fault_at refusal.Unknown (unless (is_probe (thing_named known name)) place)
-of_probe known (phrase.Node phrase.Nested a list) = probe_fault (parts list)
-of_probe known v = of_plain kind.Probe v
+of_probe known (phrase.Named place name) = of_probe_named known (is_probe (thing_named known name)) place name
+of_probe known (phrase.Node phrase.Nested a list) = probe_fault known (parts list)
+of_probe known v = fault_at refusal.Kind (Some (value_place v))
 
 abbrev pub of_backend_kind : Known → Option AttributeKind → ℕ → Phrase → Option Fault
 of_backend_kind known None place v = fault_at refusal.Unknown (Some place)
 of_backend_kind known (Some kind.Probe) place v = of_probe known v
-of_backend_kind known (Some k) place v = of_plain k v
+of_backend_kind known (Some k) place v = of_plain known k v
 
 abbrev pub backend_attribute : Known → Phrase → Option Fault
 backend_attribute known (phrase.Node phrase.Attribute a (phrase.Node phrase.Bound (phrase.Named place name) v)) =

@@ -18,7 +18,7 @@ abbrev pub of_item : Known → List (List ℕ) → List (List Bool) → Item →
 of_item known numbers rows (item.Import place name) = None
 of_item known numbers rows (item.NoBackend place name) = None
 of_item known numbers rows (item.Backend place name attributes) = backend_fault known name attributes
-of_item known numbers rows (item.Probe place name attributes) = probe_fault attributes
+of_item known numbers rows (item.Probe place name attributes) = probe_fault known attributes
 of_item known numbers rows (item.Acl place name entries) = acl_fault entries
 of_item known numbers rows (item.Sub place name block) = block_told known numbers rows name.text block
 

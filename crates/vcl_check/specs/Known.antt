@@ -1,11 +1,12 @@
 -- What the names of a text stand for.
-use Rattle.std.specs.Prelude.{ℕ, ◌-◌, ◌+◌, ◌==◌, Bool, true, List, [], ◌∷◌, length, take, drop, Option, Some, None, is_some, option_and_then, position, slice_get, codes, if◌then◌else◌}
+use Rattle.std.specs.Prelude.{ℕ, ◌-◌, ◌+◌, ◌==◌, Bool, true, false, not, ◌&&◌, List, [], ◌∷◌, length, take, drop, Option, Some, None, is_some, option_and_then, position, slice_get, codes, if◌then◌else◌}
 use Rattle.std.specs.Str.{bytes_eq}
 use Rattle.directors.specs.declared.director.DirectorKind.{DirectorKind}
 use Rattle.vcl_tree.specs.Endings.{ends_in}
 use Rattle.vcl_language.specs.Variables.{variable_named}
 use Rattle.vcl_language.specs.Functions.{function_named, method_of}
-use Rattle.vcl_language.specs.Modules.{maker_named}
+use Rattle.vcl_language.specs.Modules.{is_module, maker_named}
+use Rattle.vcl_language.specs.Names.{subroutine_named}
 use Rattle.vcl_language.specs.Words.{word_named}
 use Rattle.vcl_language.specs.declared.variables.Variable.{Variable}
 use Rattle.vcl_language.specs.declared.words.Word.{Word}
@@ -48,18 +49,24 @@ abbrev pub of_variable : Option Variable → Meaning
 of_variable None = meaning.Unknown
 of_variable (Some v) = meaning.Variable v
 
--- what a name that is read stands for: a variable, a truth, a backend, an ACL
-abbrev pub of_read_thing : Option Thing → Meaning
-of_read_thing (Some thing.Backend) = meaning.Backend
-of_read_thing (Some thing.Acl) = meaning.Acl
-of_read_thing _ = meaning.Unknown
+-- what a name that is read stands for: a variable, a truth, a backend, an ACL; or what is no value
+abbrev pub of_read_thing : Option Thing → Bool → Meaning
+of_read_thing (Some thing.Backend) built_in = meaning.Backend
+of_read_thing (Some thing.Acl) built_in = meaning.Acl
+of_read_thing (Some _) built_in = meaning.NoValue
+of_read_thing None true = meaning.NoValue
+of_read_thing None false = meaning.Unknown
+
+-- a name that is declared, or a built-in subroutine's
+abbrev pub of_declared : Known → List ℕ → Meaning
+of_declared known name = of_read_thing (thing_named known name) (is_some (subroutine_named name))
 
 abbrev pub is_truth : List ℕ → Bool
 is_truth name = if bytes_eq name (codes "true") then true else bytes_eq name (codes "false")
 
 abbrev pub of_read : Known → List ℕ → Option Variable → Meaning
 of_read known name (Some v) = meaning.Variable v
-of_read known name None = if is_truth name then meaning.Truth else of_read_thing (thing_named known name)
+of_read known name None = if is_truth name then meaning.Truth else of_declared known name
 
 -- a method of a director: the object's name, a dot, and the method's
 abbrev pub of_object : Method → Option Thing → Meaning
@@ -97,10 +104,10 @@ function_at stored k = option_and_then (λ entry. function_of entry.signature) (
 abbrev pub found_in : Known → List ℕ → List ℕ → Option Function
 found_in known origin own = option_and_then (λ k. function_at known.stored k) (position (λ entry. is_named origin own entry.signature) known.stored)
 
--- the stored function of this name of a module, which needs its import
+-- the stored function of this name of a module, which needs its import and is none of the language's own
 abbrev pub of_module : Known → List ℕ → List ℕ → Option Function
 of_module known origin own =
-    if is_imported known origin then found_in known origin own else None
+    if is_imported known origin && not (is_module origin) then found_in known origin own else None
 
 -- a stored function: its module, a dot, and its name
 abbrev pub stored_named : Known → List ℕ → Option Function

@@ -1,6 +1,5 @@
 -- The first fault of a part, as a plain function.
 use Rattle.std.specs.Prelude.{ℕ, List, Option, Some, None, if◌then◌else◌}
-use Rattle.std.specs.List.{list_all}
 use Rattle.vcl_values.specs.declared.value.Kind.TheVariants as kind
 use Rattle.vcl_language.specs.declared.scope.Subroutine.{Subroutine}
 use Rattle.vcl_tree.specs.Phrase as phrase
@@ -19,7 +18,7 @@ use Rattle.vcl_check.specs.Calls.{unless}
 use Rattle.vcl_check.specs.Known.{Known, meaning_of}
 use Rattle.vcl_check.specs.Roles.{Role, use_in, left_role, right_role, form_of}
 use Rattle.vcl_check.specs.Views.{at_place, written, name_seen, integer_weight, weight_seen, seen_together}
-use Rattle.vcl_check.specs.Rules.{is_known, may_use, misfit, misplaced, unwritten_in}
+use Rattle.vcl_check.specs.Rules.{is_known, may_be_used, misfit, misplaced, unwritten_in}
 
 -- a fault of a kind at a place, if there is one
 abbrev pub fault_at : Refusal → Option ℕ → Option Fault
@@ -37,7 +36,7 @@ abbrev pub unknown_name : Meaning → ℕ → Option ℕ
 unknown_name m place = unless (is_known m) place
 
 abbrev pub misused_name : List Subroutine → Use → Meaning → ℕ → Option ℕ
-misused_name roots u m place = unless (list_all (λ s. may_use u m s) roots) place
+misused_name roots u m place = unless (may_be_used roots u m) place
 
 abbrev pub of_name : List Subroutine → Use → ℕ → Meaning → Told
 of_name roots u place m =

@@ -1,5 +1,5 @@
 -- What is wrong with a part by itself: the place of the fault, if there is one.
-use Rattle.std.specs.Prelude.{ℕ, Bool, true, false, not, ◌&&◌, ◌||◌, List, Option, Some, None, if◌then◌else◌}
+use Rattle.std.specs.Prelude.{ℕ, Bool, true, false, not, ◌&&◌, ◌||◌, List, [], ◌∷◌, Option, Some, None, if◌then◌else◌}
 use Rattle.std.specs.List.{list_all, list_any}
 use Rattle.vcl_values.specs.declared.value.Kind.TheVariants as kind
 use Rattle.vcl_tree.specs.declared.expression.Comparison.TheVariants as comparison
@@ -37,6 +37,24 @@ may_use use'.Unset (meaning.Variable v) s = has v.unset s
 may_use use'.Function (meaning.Function f) s = has f.scope s
 may_use use'.Word (meaning.Word w) s = has w.scope s || has w.timed s
 may_use _ _ s = true
+
+-- something leads to the subroutine
+abbrev pub is_reached : List Subroutine → Bool
+is_reached [] = false
+is_reached (root ∷ roots) = true
+
+-- what stands in vcl_init alone
+abbrev pub is_init : Scope → Bool
+is_init scope.Init = true
+is_init _ = false
+
+abbrev pub is_for_init : Use → Meaning → Bool
+is_for_init use'.Function (meaning.Function f) = is_init f.scope
+is_for_init _ _ = false
+
+-- in each subroutine that leads there; what stands in vcl_init alone not where nothing does
+abbrev pub may_be_used : List Subroutine → Use → Meaning → Bool
+may_be_used roots u m = list_all (λ s. may_use u m s) roots && (is_reached roots || not (is_for_init u m))
 
 -- the left operand fits by itself, and the right one beside it
 abbrev pub both_fit : Bool → Bool → Seen → Seen → Option ℕ
@@ -127,9 +145,17 @@ may_stand form.New m s = has scope.Init s
 may_stand form.Return m s = not (fails m && has scope.Init s)
 may_stand _ m s = true
 
+abbrev pub is_new : Form → Bool
+is_new form.New = true
+is_new _ = false
+
+-- in each subroutine that leads there; `new` not where nothing does
+abbrev pub may_stand_in : List Subroutine → Form → Meaning → Bool
+may_stand_in roots form m = list_all (λ s. may_stand form m s) roots && (is_reached roots || not (is_new form))
+
 -- a statement that may not stand there
 abbrev pub misplaced : List Subroutine → Form → Seen → Seen → Option ℕ
-misplaced roots form a b = unless (list_all (λ s. may_stand form b.meaning s) roots) a.first
+misplaced roots form a b = unless (may_stand_in roots form b.meaning) a.first
 
 -- the function's arguments that must be patterns
 abbrev pub unwritten_call : Meaning → Arguments → Option ℕ

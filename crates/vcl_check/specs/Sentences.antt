@@ -57,7 +57,7 @@ pub record KeepsSentences (items : List Item) (stored : List Stored) (rows : Lis
   pub patterns : (s : Said) → Contains (says items) s → s.kind ≡ kind.Pattern → MustRefuse s.name → ⊥
   -- backends, probes and ACLs are right
   pub backends : (place : ℕ) (name : Name) (attributes : List Phrase) → Contains items (item.Backend place name attributes) → backend_fault (known_in items stored) name attributes ≡ None
-  pub probes : (place : ℕ) (name : Name) (attributes : List Phrase) → Contains items (item.Probe place name attributes) → probe_fault attributes ≡ None
+  pub probes : (place : ℕ) (name : Name) (attributes : List Phrase) → Contains items (item.Probe place name attributes) → probe_fault (known_in items stored) attributes ≡ None
   pub acls : (place : ℕ) (name : Name) (entries : List AclEntry) → Contains items (item.Acl place name entries) → acl_fault entries ≡ None
   -- at least one backend is declared
   pub backend : has_backend items ≡ true

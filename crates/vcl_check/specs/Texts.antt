@@ -64,7 +64,7 @@ abbrev pub ItemFault : Known → List (List ℕ) → List (List Bool) → ℕ �
 ItemFault known numbers rows k (item.Import place name) f = ⊥
 ItemFault known numbers rows k (item.NoBackend place name) f = ⊥
 ItemFault known numbers rows k (item.Backend place name attributes) f = backend_fault known name attributes ≡ Some f
-ItemFault known numbers rows k (item.Probe place name attributes) f = probe_fault attributes ≡ Some f
+ItemFault known numbers rows k (item.Probe place name attributes) f = probe_fault known attributes ≡ Some f
 ItemFault known numbers rows k (item.Acl place name entries) f = acl_fault entries ≡ Some f
 ItemFault known numbers rows k (item.Sub place name block) f = FaultIn known (roots_of numbers rows name.text) Block block f
 

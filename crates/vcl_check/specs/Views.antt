@@ -40,6 +40,7 @@ sort_of (meaning.Variable v) = sort.Value v.kind
 sort_of meaning.Truth = sort.Value kind.Bool
 sort_of meaning.Backend = sort.Value kind.Backend
 sort_of meaning.Acl = sort.Acl
+sort_of meaning.NoValue = sort.Nothing
 sort_of _ = sort.Unknown
 
 abbrev pub name_seen : ℕ → Meaning → Seen

@@ -4,48 +4,58 @@ ghost use Rattle.vcl_tree.specs.AttributeView.{value_of};
 ghost use Rattle.vcl_tree.specs.Phrase.{list_of};
 ghost use Rattle.vcl_check.specs.Mentions.{parts};
 ghost use Rattle.vcl_check.specs.Folded.{numbered};
-ghost use Rattle.vcl_check.specs.Attributes.{value_place, is_of, of_plain, is_probe, of_probe_kind, probe_attribute, attribute_name, twice_attribute, probe_member, probe_fault, of_probe, of_backend_kind, backend_attribute, backend_member, hostless, backend_fault};
+ghost use Rattle.vcl_check.specs.Calls.{unless};
+ghost use Rattle.vcl_check.specs.Known.{meaning_of, thing_named};
+ghost use Rattle.vcl_check.specs.Least.{fault_at};
+ghost use Rattle.vcl_check.specs.Attributes.{of_named, of_plain, is_probe, of_probe_named, of_probe_kind, probe_attribute, attribute_name, twice_attribute, probe_member, probe_fault, of_probe, of_backend_kind, backend_attribute, backend_member, hostless, backend_fault};
 
 use crate::declarations::is_number;
+use crate::form::Use;
 use crate::known::{Tables, Thing};
 use crate::rules::unless;
+use crate::seen::Meaning;
 use crate::told::{fault_at, lesser};
 use std::alloc::{AllocError, Global};
 use vcl_language::{AttributeKind, Owner, attribute_named};
 use vcl_symbols::NameIndex;
 use vcl_tree::{Attribute, AttributeValue, Fault, Name, Refusal};
 
-fn value_place(value: &AttributeValue) -> u32
-    ensures { result ≡ value_place (value_of value.now) }
+// A name where a value of another type is wanted.
+fn of_named(meaning: Meaning, place: u32) -> Option<Fault>
+    ensures { result ≡ of_named meaning place }
 {
-    match value {
-        AttributeValue::String(place, _) => *place,
-        AttributeValue::Integer(place, _) => *place,
-        AttributeValue::Duration(place, _) => *place,
-        AttributeValue::Name(name) => name.place,
-        AttributeValue::Attributes(place, _) => *place,
+    match meaning {
+        Meaning::Unknown => fault_at(Refusal::Unknown, Some(place)),
+        _ => fault_at(Refusal::Kind, Some(place)),
     }
 }
 
-fn is_of(kind: AttributeKind, value: &AttributeValue) -> bool
-    ensures { result ≡ is_of kind (value_of value.now) }
+fn mistyped(fits: bool, place: u32) -> Option<Fault>
+    ensures { result ≡ fault_at Refusal.Kind (unless fits place) }
+{
+    fault_at(Refusal::Kind, unless(fits, place))
+}
+
+fn of_plain(tables: &Tables<'_>, kind: AttributeKind, value: &AttributeValue) -> Option<Fault>
+    ensures { result ≡ of_plain tables.now kind (value_of value.now) }
 {
     match value {
-        AttributeValue::String(_, _) => matches!(kind, AttributeKind::String),
-        AttributeValue::Integer(_, _) => matches!(kind, AttributeKind::Integer),
-        AttributeValue::Duration(_, _) => matches!(kind, AttributeKind::Duration),
-        AttributeValue::Name(_) => false,
-        AttributeValue::Attributes(_, _) => false,
+        AttributeValue::String(place, _) => mistyped(matches!(kind, AttributeKind::String), *place),
+        AttributeValue::Integer(place, _) => {
+            mistyped(matches!(kind, AttributeKind::Integer), *place)
+        }
+        AttributeValue::Duration(place, _) => {
+            mistyped(matches!(kind, AttributeKind::Duration), *place)
+        }
+        AttributeValue::Name(name) => read_name(tables, name),
+        AttributeValue::Attributes(place, _) => mistyped(false, *place),
     }
 }
 
-fn of_plain(kind: AttributeKind, value: &AttributeValue) -> Option<Fault>
-    ensures { result ≡ of_plain kind (value_of value.now) }
+fn read_name(tables: &Tables<'_>, name: &Name) -> Option<Fault>
+    ensures { result ≡ of_named (meaning_of tables.now Use.Read name.now.text) name.now.place }
 {
-    fault_at(
-        Refusal::Kind,
-        unless(is_of(kind, value), value_place(value)),
-    )
+    of_named(tables.meaning_of(Use::Read, name.text.bytes()), name.place)
 }
 
 fn is_probe(thing: Option<Thing>) -> bool
@@ -54,20 +64,25 @@ fn is_probe(thing: Option<Thing>) -> bool
     matches!(thing, Some(Thing::Probe))
 }
 
-fn of_probe_kind(kind: Option<AttributeKind>, place: u32, value: &AttributeValue) -> Option<Fault>
-    ensures { result ≡ of_probe_kind kind place (value_of value.now) }
+fn of_probe_kind(
+    tables: &Tables<'_>,
+    kind: Option<AttributeKind>,
+    place: u32,
+    value: &AttributeValue,
+) -> Option<Fault>
+    ensures { result ≡ of_probe_kind tables.now kind place (value_of value.now) }
 {
     match kind {
         None => fault_at(Refusal::Unknown, Some(place)),
-        Some(kind) => of_plain(kind, value),
+        Some(kind) => of_plain(tables, kind, value),
     }
 }
 
-fn probe_attribute(attribute: &Attribute) -> Option<Fault>
-    ensures { result ≡ probe_attribute attribute.now }
+fn probe_attribute(tables: &Tables<'_>, attribute: &Attribute) -> Option<Fault>
+    ensures { result ≡ probe_attribute tables.now attribute.now }
 {
     let kind = attribute_named(Owner::Probe, attribute.name.text.bytes());
-    of_probe_kind(kind, attribute.name.place, &attribute.value)
+    of_probe_kind(tables, kind, attribute.name.place, &attribute.value)
 }
 
 fn twice_attribute(names: &NameIndex<'_>, number: usize, attribute: &Attribute) -> Option<Fault>
@@ -77,11 +92,16 @@ fn twice_attribute(names: &NameIndex<'_>, number: usize, attribute: &Attribute) 
     fault_at(Refusal::Twice, unless(is_first, attribute.name.place))
 }
 
-fn probe_member(names: &NameIndex<'_>, number: usize, attribute: &Attribute) -> Option<Fault>
-    ensures { result ≡ probe_member names.now number attribute.now }
+fn probe_member(
+    tables: &Tables<'_>,
+    names: &NameIndex<'_>,
+    number: usize,
+    attribute: &Attribute,
+) -> Option<Fault>
+    ensures { result ≡ probe_member tables.now names.now number attribute.now }
 {
     lesser(
-        probe_attribute(attribute),
+        probe_attribute(tables, attribute),
         twice_attribute(names, number, attribute),
     )
 }
@@ -103,22 +123,40 @@ fn names_in<'t>(alloc: Global, attributes: &'t [Attribute]) -> Result<Vec<&'t [u
 }
 
 /// The first fault among the attributes of a probe.
-pub fn probe_fault(alloc: Global, attributes: &[Attribute]) -> Result<Option<Fault>, AllocError>
-    ensures { IfOk result (λ found. found ≡ probe_fault attributes.now) }
+pub fn probe_fault(
+    alloc: Global,
+    tables: &Tables<'_>,
+    attributes: &[Attribute],
+) -> Result<Option<Fault>, AllocError>
+    ensures { IfOk result (λ found. found ≡ probe_fault tables.now attributes.now) }
 {
     let names = NameIndex::of(alloc, names_in(alloc, attributes)?)?;
     let mut best = None;
     for (number, attribute) in attributes.iter().enumerate() {
-        best = lesser(best, probe_member(&names, number, attribute));
+        best = lesser(best, probe_member(tables, &names, number, attribute));
     }
     Ok(best)
 }
 
 // The first fault among the attributes of a probe in braces.
-fn nested_fault(alloc: Global, attributes: &[Attribute]) -> Result<Option<Fault>, AllocError>
-    ensures { IfOk result (λ found. found ≡ probe_fault (parts (list_of attributes.now))) }
+fn nested_fault(
+    alloc: Global,
+    tables: &Tables<'_>,
+    attributes: &[Attribute],
+) -> Result<Option<Fault>, AllocError>
+    ensures { IfOk result (λ found. found ≡ probe_fault tables.now (parts (list_of attributes.now))) }
 {
-    probe_fault(alloc, attributes)
+    probe_fault(alloc, tables, attributes)
+}
+
+fn of_probe_named(tables: &Tables<'_>, name: &Name) -> Option<Fault>
+    ensures { result ≡ of_probe_named tables.now (is_probe (thing_named tables.now name.now.text)) name.now.place name.now.text }
+{
+    if is_probe(tables.thing_named(name.text.bytes())) {
+        None
+    } else {
+        read_name(tables, name)
+    }
 }
 
 fn of_probe(
@@ -129,11 +167,10 @@ fn of_probe(
     ensures { IfOk result (λ found. found ≡ of_probe tables.now (value_of value.now)) }
 {
     match value {
-        AttributeValue::Name(name) => {
-            let thing = tables.thing_named(name.text.bytes());
-            Ok(fault_at(Refusal::Unknown, unless(is_probe(thing), name.place)))
+        AttributeValue::Name(name) => Ok(of_probe_named(tables, name)),
+        AttributeValue::Attributes(_, attributes) => {
+            nested_fault(alloc, tables, attributes.as_slice())
         }
-        AttributeValue::Attributes(_, attributes) => nested_fault(alloc, attributes.as_slice()),
         AttributeValue::String(place, _) => Ok(fault_at(Refusal::Kind, Some(*place))),
         AttributeValue::Integer(place, _) => Ok(fault_at(Refusal::Kind, Some(*place))),
         AttributeValue::Duration(place, _) => Ok(fault_at(Refusal::Kind, Some(*place))),
@@ -152,9 +189,9 @@ fn of_backend_kind(
     match kind {
         None => Ok(fault_at(Refusal::Unknown, Some(place))),
         Some(AttributeKind::Probe) => of_probe(alloc, tables, value),
-        Some(AttributeKind::String) => Ok(of_plain(AttributeKind::String, value)),
-        Some(AttributeKind::Integer) => Ok(of_plain(AttributeKind::Integer, value)),
-        Some(AttributeKind::Duration) => Ok(of_plain(AttributeKind::Duration, value)),
+        Some(AttributeKind::String) => Ok(of_plain(tables, AttributeKind::String, value)),
+        Some(AttributeKind::Integer) => Ok(of_plain(tables, AttributeKind::Integer, value)),
+        Some(AttributeKind::Duration) => Ok(of_plain(tables, AttributeKind::Duration, value)),
     }
 }
 

@@ -56,7 +56,7 @@ fn item_told(
         Item::Backend(_, name, attributes) => {
             backend_fault(alloc, tables, name, attributes.as_slice())
         }
-        Item::Probe(_, _, attributes) => probe_fault(alloc, attributes.as_slice()),
+        Item::Probe(_, _, attributes) => probe_fault(alloc, tables, attributes.as_slice()),
         Item::Acl(_, _, entries) => acl_fault(alloc, entries.as_slice()),
         Item::Sub(_, name, statements) => {
             block_told(alloc, tables, numbers, rows, name.text.bytes(), statements)

@@ -1,17 +1,17 @@
 // What the names of a text stand for.
-ghost use Rattle.std.specs.Prelude.{◌≡◌, ◌+◌, ◌<◌, ◌==◌, length, drop, position, slice_get, option_and_then, IfSome};
+ghost use Rattle.std.specs.Prelude.{◌≡◌, ◌+◌, ◌<◌, ◌==◌, ◌&&◌, not, length, drop, position, slice_get, option_and_then, IfSome};
 ghost use Rattle.std.specs.Str.{bytes_eq};
 ghost use Rattle.vcl_tree.specs.Endings.{ends_in};
 ghost use Rattle.vmod_host.specs.Stored.{is_named};
-ghost use Rattle.vcl_check.specs.Known.{thing_named, is_imported, is_truth, of_variable, of_read_thing, of_read, of_object, of_method, without, of_module, stored_named, of_stored, takes_values, function_of, function_at, found_in, is_available, of_function, of_maker, of_word, of_called, meaning_of};
+ghost use Rattle.vcl_check.specs.Known.{thing_named, is_imported, is_truth, of_variable, of_read_thing, of_declared, of_read, of_object, of_method, without, of_module, stored_named, of_stored, takes_values, function_of, function_at, found_in, is_available, of_function, of_maker, of_word, of_called, meaning_of};
 
 use crate::form::Use;
 use crate::seen::Meaning;
 use directors::DirectorKind;
 use std::marker::Model;
 use vcl_language::{
-    Function, Method, Module, Parameter, Scope, Takes, Variable, Word, function_named, maker_named,
-    method_of, variable_named, word_named,
+    Function, Method, Module, Parameter, Scope, Takes, Variable, Word, function_named, is_module,
+    maker_named, method_of, subroutine_named, variable_named, word_named,
 };
 use vcl_symbols::NameIndex;
 use vcl_tree::{behind, dot_in, ends_in};
@@ -95,10 +95,16 @@ impl<'t> Tables<'t> {
                 if is_truth(name) {
                     Meaning::Truth
                 } else {
-                    of_read_thing(self.thing_named(name))
+                    self.of_declared(name)
                 }
             }
         }
+    }
+
+    fn of_declared(&self, name: &[u8]) -> Meaning
+        ensures { result ≡ of_declared self.now name.now }
+    {
+        of_read_thing(self.thing_named(name), subroutine_named(name).is_some())
     }
 
     fn of_function(&self, name: &[u8], function: Option<Function>) -> Meaning
@@ -149,7 +155,7 @@ impl<'t> Tables<'t> {
     fn of_module(&self, origin: &[u8], own: &[u8]) -> Option<Function>
         ensures { result ≡ of_module self.now origin.now own.now }
     {
-        if self.is_imported(origin) {
+        if self.is_imported(origin) && !is_module(origin) {
             self.found_in(origin, own)
         } else {
             None
@@ -229,13 +235,15 @@ fn of_variable(variable: Option<Variable>) -> Meaning
     }
 }
 
-fn of_read_thing(thing: Option<Thing>) -> Meaning
-    ensures { result ≡ of_read_thing thing }
+fn of_read_thing(thing: Option<Thing>, built_in: bool) -> Meaning
+    ensures { result ≡ of_read_thing thing built_in }
 {
     match thing {
         Some(Thing::Backend) => Meaning::Backend,
         Some(Thing::Acl) => Meaning::Acl,
-        _ => Meaning::Unknown,
+        Some(_) => Meaning::NoValue,
+        None if built_in => Meaning::NoValue,
+        None => Meaning::Unknown,
     }
 }
 

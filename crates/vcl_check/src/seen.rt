@@ -12,7 +12,7 @@ pub enum Sort {
     Acl,
     /// It is a decimal: a weight, which a director takes and nothing else.
     Weight,
-    /// It calls a function without a value.
+    /// It is no value: a call of a function without one, or a name that is declared as something else.
     Nothing,
     /// It has a fault, and fits everywhere.
     Unknown,
@@ -27,6 +27,8 @@ pub enum Meaning {
     Truth,
     Backend,
     Acl,
+    /// A name that is read and is declared as something else than a value: a probe, an object, a subroutine.
+    NoValue,
     Subroutine,
     Function(Function),
     /// A method of an object whose maker isn't known.

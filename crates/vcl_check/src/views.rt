@@ -56,6 +56,7 @@ fn sort_of(meaning: Meaning) -> Sort
         Meaning::Truth => Sort::Value(Kind::Bool),
         Meaning::Backend => Sort::Value(Kind::Backend),
         Meaning::Acl => Sort::Acl,
+        Meaning::NoValue => Sort::Nothing,
         _ => Sort::Unknown,
     }
 }

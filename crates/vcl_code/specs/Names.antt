@@ -1,9 +1,10 @@
 -- What names stand for, in numbers.
-use Rattle.std.specs.Prelude.{ℕ, ◌-◌, ◌+◌, ◌==◌, Bool, true, false, List, take, drop, length, Option, Some, None, is_some, option_and_then, position, slice_get, codes, if◌then◌else◌}
+use Rattle.std.specs.Prelude.{ℕ, ◌-◌, ◌+◌, ◌==◌, Bool, true, false, not, ◌&&◌, List, take, drop, length, Option, Some, None, is_some, option_and_then, position, slice_get, codes, if◌then◌else◌}
 use Rattle.std.specs.Str.{bytes_eq}
 use Rattle.vcl_tree.specs.Endings.{ends_in}
 use Rattle.vmod_host.specs.declared.signature.Stored.{Stored}
 use Rattle.vmod_host.specs.Stored.{is_named}
+use Rattle.vcl_language.specs.Modules.{is_module}
 use Rattle.vcl_context.specs.Names.{variable_of, field_of}
 use Rattle.vcl_context.specs.declared.variable.Variable.{Variable}
 use Rattle.vcl_context.specs.declared.variable.Message.{Message}
@@ -82,10 +83,10 @@ builtin_of name = option_and_then (λ k. slice_get BUILTINS k) (position (λ kno
 unfoldable pub word_of : List ℕ → Option ReturnWord
 word_of name = option_and_then (λ k. slice_get WORDS k) (position (λ known. bytes_eq known.now name) WORD_NAMES)
 
--- a stored function: its module, which is imported, a dot, and its name
+-- a stored function: its module, which is imported and none of the language's own, a dot, and its name
 abbrev pub stored_in : Known → List ℕ → List ℕ → Option ℕ
 stored_in known origin own =
-    if is_some (position (λ other. bytes_eq origin other) known.imports)
+    if is_some (position (λ other. bytes_eq origin other) known.imports) && not (is_module origin)
     then position (λ entry. is_named origin own entry.signature) known.stored else None
 
 abbrev pub stored_at : Known → List ℕ → Option ℕ → Option ℕ

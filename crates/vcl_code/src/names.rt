@@ -9,6 +9,7 @@ ghost use Rattle.vcl_code.specs.Sights.{target_seen, read_seen};
 use crate::callees::{Builtin, builtin_of};
 use std::marker::Model;
 use vcl_context::{Message, Variable, field_of, variable_of};
+use vcl_language::is_module;
 use vcl_symbols::NameIndex;
 use vcl_tree::{behind, dot_in, ends_in};
 use vmod_host::{Stored, stored_number};
@@ -166,7 +167,7 @@ impl<'t> Names<'t> {
     fn stored_in(&self, origin: &[u8], own: &[u8]) -> Option<usize>
         ensures { result ≡ stored_in self.now origin.now own.now }
     {
-        if self.imports.find(origin).is_some() {
+        if self.imports.find(origin).is_some() && !is_module(origin) {
             stored_number(self.stored, origin, own)
         } else {
             None

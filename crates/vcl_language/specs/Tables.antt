@@ -155,9 +155,9 @@ probe_attributes =
     (codes "expected_response", attribute.Integer) ∷
     []
 
--- the modules, and what makes a director
+-- the modules of the language's own, and what makes a director
 abbrev pub modules : List (List ℕ)
-modules = codes "std" ∷ codes "xkey" ∷ codes "directors" ∷ []
+modules = codes "xkey" ∷ codes "directors" ∷ []
 
 abbrev pub makers : List (List ℕ × DirectorKind)
 makers =

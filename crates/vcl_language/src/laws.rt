@@ -57,7 +57,7 @@ pub fn subroutines_are_those()
     ensures entries { SUBROUTINES ≡ entries table.subroutines }
 {}
 
-/// The modules that may be imported without a stored function of theirs.
+/// The modules that are the language's own.
 pub fn modules_are_those()
     ensures { map (λ name. name.now) MODULE_NAMES ≡ table.modules }
 {}

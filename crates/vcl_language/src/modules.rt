@@ -13,10 +13,10 @@ pub enum Module {
     Xkey,
 }
 
-/// The names of the modules that may be imported.
-pub static MODULE_NAMES: [&str; 3] = ["std", "xkey", "directors"];
+/// The names of the modules that are the language's own. Others are those of stored functions.
+pub static MODULE_NAMES: [&str; 2] = ["xkey", "directors"];
 
-/// Whether a module has this name.
+/// Whether a module of the language has this name.
 #[tactic(auto, unfolding(crate::specs::Modules::is_module))]
 pub fn is_module(name: &[u8]) -> bool
     ensures { result ≡ is_module name.now }

@@ -34,7 +34,7 @@ use Rattle.vcl_check.specs.Kinds.{is_value, is_condition, is_ordered, same_kind,
 use Rattle.vcl_check.specs.Known as check
 use Rattle.vcl_check.specs.Known.{meaning_of, takes_values, giving, function_of}
 use Rattle.vcl_check.specs.Roles.{Name, Value, Arguments}
-use Rattle.vcl_check.specs.Rules.{may_use, both_fit, ill_function, unwritten_call}
+use Rattle.vcl_check.specs.Rules.{may_use, is_reached, is_for_init, may_be_used, both_fit, ill_function, unwritten_call}
 use Rattle.vcl_check.specs.Views.{sort_of, given_sort, call_sort, integer_weight, argument_of, view_of}
 use Rattle.vcl_code.specs.declared.callees.Builtin.{Builtin}
 use Rattle.vcl_code.specs.declared.callees.Builtin.TheVariants as builtin
@@ -44,7 +44,7 @@ use Rattle.vcl_code.specs.Names.{Known, callee_of}
 use Rattle.vcl_code.specs.Expressions.{string_of, second_string}
 use Rattle.vcl_program.specs.declared.code.Director.{Director}
 use Rattle.vcl_operands.specs.Meaning.{Scene, Operand, value_of, operands_of}
-use Rattle.vcl_store.proofs.Rows.{false-true, takes_of, gives_of, passes}
+use Rattle.vcl_store.proofs.Rows.{false-true, both-true, takes_of, gives_of, passes}
 use Rattle.vcl_store.proofs.Clean.{Clean, left-clean, right-clean, fits, written, known-name, used-name}
 use Rattle.vcl_store.proofs.Expressions.{not-none, too-many, four-are-more}
 use Rattle.vcl_store.proofs.Values.{unless-none, both-fits, or-none, weight-no-string}
@@ -416,14 +416,15 @@ module _ (known : check.Known) (numbers : Known) (scene : Scene) (stands : Stand
   named-good (sort.Value k) place name h = named-typed scene numbers k place name h
   named-good sort.Acl place name h = tt
   named-good sort.Weight place name h = absurd h
-  named-good sort.Nothing place name h = absurd h
+  named-good sort.Nothing place name h = tt
   named-good sort.Unknown place name h = absurd h
 
   reads : (place : ℕ) (name : List ℕ) → Clean known roots Value (Named place name) → ReadsAs numbers scene name (sort_of (meaning_of known use'.Read name))
   reads place name c =
       let may : Subroutine → Bool = λ x. may_use use'.Read (meaning_of known use'.Read name) x in
-      let all = unless-none (list_all may roots) place (used-name known roots Value place name c) in
-      name-reads known numbers scene stands name root (known-name known roots Value use'.Read place name refl c) (all-contained may roots root all reached.0 reached.1 reached.2)
+      let all = both-true (list_all may roots) (is_reached roots || not (is_for_init use'.Read (meaning_of known use'.Read name)))
+      (unless-none (may_be_used roots use'.Read (meaning_of known use'.Read name)) place (used-name known roots Value place name c)) in
+      name-reads known numbers scene stands name root (known-name known roots Value use'.Read place name refl c) (all-contained may roots root all.0 reached.0 reached.1 reached.2)
 
   name-fine : (place : ℕ) (name : List ℕ) → Fine (Named place name)
   name-fine place name c = named-good (sort_of (meaning_of known use'.Read name)) place name (reads place name c)

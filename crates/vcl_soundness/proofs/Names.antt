@@ -1,5 +1,5 @@
 -- A name that is known to the check of a text stands for what its runs have, of the type that the check sees.
-use Rattle.std.proofs.Common.{◌≡◌, ℕ, ◌+◌, ◌-◌, ◌≤◌, ◌==◌, Bool, true, false, take, drop, length, List, [], ◌∷◌, refl, sym, ap, ◌∙◌, subst, codes, position, Option, Some, None, is_some, option_map, option_and_then, slice_get, if◌then◌else◌, arith}
+use Rattle.std.proofs.Common.{◌≡◌, ℕ, ◌+◌, ◌-◌, ◌≤◌, ◌==◌, Bool, true, false, not, ◌&&◌, take, drop, length, List, [], ◌∷◌, refl, sym, ap, ◌∙◌, subst, codes, position, Option, Some, None, is_some, option_map, option_and_then, slice_get, if◌then◌else◌, arith}
 use Rattle.std.specs.Str.{bytes_eq}
 use Rattle.std.proofs.lemmas.List.Quantifiers.{position-Some}
 use Rattle.std.proofs.lemmas.Option.{none-some, slice_get-get_or}
@@ -10,6 +10,8 @@ use Rattle.vcl_values.specs.declared.value.Kind.{Kind}
 use Rattle.vcl_values.specs.declared.value.Kind.TheVariants as kind
 use Rattle.vcl_tree.specs.Endings.{ends_in}
 use Rattle.vcl_language.specs.Functions.{function_named, method_of}
+use Rattle.vcl_language.specs.Modules.{is_module}
+use Rattle.vcl_language.specs.Names.{subroutine_named}
 use Rattle.vcl_language.specs.Scopes.{has}
 use Rattle.vcl_language.specs.Variables.{variable_named}
 use Rattle.vcl_language.specs.declared.scope.Subroutine.{Subroutine}
@@ -25,7 +27,7 @@ use Rattle.vcl_check.specs.declared.seen.Meaning.TheVariants as meaning
 use Rattle.vcl_check.specs.declared.seen.Sort.{Sort}
 use Rattle.vcl_check.specs.declared.seen.Sort.TheVariants as sort
 use Rattle.vcl_check.specs.Known as check
-use Rattle.vcl_check.specs.Known.{is_truth, meaning_of, of_read, of_read_thing, takes_values, giving, function_of, function_at, is_imported, found_in, of_module, stored_named, of_stored, of_function}
+use Rattle.vcl_check.specs.Known.{is_truth, meaning_of, of_read, of_read_thing, of_declared, takes_values, giving, function_of, function_at, is_imported, found_in, of_module, stored_named, of_stored, of_function}
 use Rattle.vcl_check.specs.Rules.{is_known, may_use}
 use Rattle.vcl_check.specs.Views.{sort_of}
 use Rattle.vcl_code.specs.declared.callees.Builtin.{Builtin}
@@ -79,6 +81,7 @@ ReadIs scene k found = Makes (IsOf k) (named_value scene found)
 abbrev pub ReadsAs : Known → Scene → List ℕ → Sort → Type 0
 ReadsAs numbers scene name (sort.Value k) = ReadIs scene k (read_of numbers name)
 ReadsAs numbers scene name sort.Acl = AclNamed numbers scene name
+ReadsAs numbers scene name sort.Nothing = Unit {0}
 ReadsAs numbers scene name _ = ⊥
 
 module _ (known : check.Known) (numbers : Known) (scene : Scene) (stands : Stands known numbers scene) where
@@ -126,24 +129,25 @@ module _ (known : check.Known) (numbers : Known) (scene : Scene) (stands : Stand
   unfolding meaning_of read_of acl_of
   name-reads name s h u = by-variable (variable_named name) refl h u
     where
-      by-thing : NoVariable name → is_truth name ≡ false → (o : Option Checked) → check.thing_named known name ≡ o → is_known (of_read_thing o) ≡ true
-          → ReadsAs numbers scene name (sort_of (of_read_thing o))
-      by-thing n t (Some checked.Backend) e h =
+      by-thing : NoVariable name → is_truth name ≡ false → (o : Option Checked) (z : Bool) → check.thing_named known name ≡ o → is_known (of_read_thing o z) ≡ true
+          → ReadsAs numbers scene name (sort_of (of_read_thing o z))
+      by-thing n t (Some checked.Backend) z e h =
           let b = backend-is (thing_named numbers name) (stands.meet.things name checked.Backend e) in
           not-variable name kind.Backend n (thing-read name b.0 t b.1)
-      by-thing n t (Some checked.Acl) e h =
+      by-thing n t (Some checked.Acl) z e h =
           let b = acl-is (thing_named numbers name) (stands.meet.things name checked.Acl e) in
           (b.0, ap acl_in b.1, stands.acls name b.0 b.1)
-      by-thing n t (Some checked.Probe) e h = absurd (false-true h)
-      by-thing n t (Some checked.Subroutine) e h = absurd (false-true h)
-      by-thing n t (Some (checked.Object kind)) e h = absurd (false-true h)
-      by-thing n t (Some checked.NoObject) e h = absurd (false-true h)
-      by-thing n t None e h = absurd (false-true h)
+      by-thing n t (Some checked.Probe) z e h = tt
+      by-thing n t (Some checked.Subroutine) z e h = tt
+      by-thing n t (Some (checked.Object kind)) z e h = tt
+      by-thing n t (Some checked.NoObject) z e h = tt
+      by-thing n t None true e h = tt
+      by-thing n t None false e h = absurd (false-true h)
 
-      by-truth : NoVariable name → (b : Bool) → is_truth name ≡ b → is_known (if b then meaning.Truth else of_read_thing (check.thing_named known name)) ≡ true
-          → ReadsAs numbers scene name (sort_of (if b then meaning.Truth else of_read_thing (check.thing_named known name)))
+      by-truth : NoVariable name → (b : Bool) → is_truth name ≡ b → is_known (if b then meaning.Truth else of_declared known name) ≡ true
+          → ReadsAs numbers scene name (sort_of (if b then meaning.Truth else of_declared known name))
       by-truth n true e h = not-variable name kind.Bool n (truth-read name e)
-      by-truth n false e h = by-thing n e (check.thing_named known name) refl h
+      by-truth n false e h = by-thing n e (check.thing_named known name) (is_some (subroutine_named name)) refl h
 
       by-variable : (o : Option Row) → variable_named name ≡ o → is_known (of_read known name o) ≡ true → may_use use'.Read (of_read known name o) s ≡ true
           → ReadsAs numbers scene name (sort_of (of_read known name o))
@@ -182,19 +186,20 @@ module _ (known : check.Known) (numbers : Known) (scene : Scene) (stands : Stand
   at-entered k f h = ap (option_and_then (λ (entry : Stored). function_of entry.signature)) h.1 ∙ h.2
 
   module-entered : (origin own : List ℕ) (k : ℕ) → stored_in numbers origin own ≡ Some k → (f : Function) × Entered k f × (of_module known origin own ≡ Some f)
-  module-entered origin own k e = by-import (is_some (position (λ other. bytes_eq origin other) numbers.imports)) refl e
+  module-entered origin own k e = by-import (is_some (position (λ other. bytes_eq origin other) numbers.imports) && not (is_module origin)) refl e
     where
       P : Stored → Bool
       P entry = is_named origin own entry.signature
 
-      by-import : (b : Bool) → is_some (position (λ other. bytes_eq origin other) numbers.imports) ≡ b → (if b then position P numbers.stored else None) ≡ Some k
+      by-import : (b : Bool) → (is_some (position (λ other. bytes_eq origin other) numbers.imports) && not (is_module origin)) ≡ b → (if b then position P numbers.stored else None) ≡ Some k
           → (f : Function) × Entered k f × (of_module known origin own ≡ Some f)
       by-import true i e =
           let f = row-entered P k e in
-          let there : is_imported known origin ≡ true = ap (λ (l : List (List ℕ)). is_some (position (λ other. bytes_eq origin other) l)) stands.meet.imports ∙ i in
+          let there : (is_imported known origin && not (is_module origin)) ≡ true =
+          ap (λ (l : List (List ℕ)). is_some (position (λ other. bytes_eq origin other) l) && not (is_module origin)) stands.meet.imports ∙ i in
           let row : position P known.stored ≡ Some k = ap (position P) stands.meet.stored ∙ e in
           let at : function_at known.stored k ≡ Some f.0 = ap (λ (l : List Stored). function_at l k) stands.meet.stored ∙ at-entered k f.0 f.1 in
-          (f.0, f.1, if-true (is_imported known origin) (found_in known origin own) None there ∙ ap (option_and_then (λ j. function_at known.stored j)) row ∙ at)
+          (f.0, f.1, if-true (is_imported known origin && not (is_module origin)) (found_in known origin own) None there ∙ ap (option_and_then (λ j. function_at known.stored j)) row ∙ at)
       by-import false i e = absurd (none-some k e)
 
   named-entered : (name : List ℕ) (k : ℕ) → stored_of numbers name ≡ Some k → (f : Function) × Entered k f × (stored_named known name ≡ Some f)

@@ -1,5 +1,5 @@
 -- By the grammar, a statement without a fault of a subroutine that traffic reaches isn't stuck.
-use Rattle.std.proofs.Common.{◌≡◌, ℕ, ◌+◌, nat_lt, Bool, true, false, not, ◌&&◌, List, [], ◌∷◌, refl, sym, ◌∙◌, subst, Option, Some, None, if◌then◌else◌}
+use Rattle.std.proofs.Common.{◌≡◌, ℕ, ◌+◌, nat_lt, Bool, true, false, not, ◌&&◌, ◌||◌, List, [], ◌∷◌, refl, sym, ◌∙◌, subst, Option, Some, None, if◌then◌else◌}
 use Rattle.std.specs.List.{list_all, list_any}
 use Rattle.std.specs.Prelude.{Contains}
 use Rattle.std.proofs.lemmas.Option.{none-some, same_Some}
@@ -41,7 +41,7 @@ use Rattle.vcl_check.specs.Kinds.{is_value, is_condition, same_kind, alike, acce
 use Rattle.vcl_check.specs.Known as check
 use Rattle.vcl_check.specs.Known.{meaning_of, of_variable, of_word}
 use Rattle.vcl_check.specs.Roles.{Name, Value, Arguments, Block, Statement, Branch, Assignment, Object, Answer, Unread}
-use Rattle.vcl_check.specs.Rules.{is_known, may_use, may_stand, misplaced, ill_set, ill_appended, ill_function, ill_answer, is_one, is_nowhere, answer_takes, other_scope, unwritten_call}
+use Rattle.vcl_check.specs.Rules.{is_known, may_use, is_reached, is_for_init, may_be_used, may_stand, is_new, may_stand_in, misplaced, ill_set, ill_appended, ill_function, ill_answer, is_one, is_nowhere, answer_takes, other_scope, unwritten_call}
 use Rattle.vcl_check.specs.Views.{argument_of, view_of}
 use Rattle.vcl_code.specs.declared.callees.Builtin.TheVariants as builtin
 use Rattle.vcl_code.specs.declared.names.Callee.{Callee}
@@ -180,13 +180,15 @@ module _ (known : check.Known) (t : Text) (stands : (c : Context) → Stands kno
   -- what a statement and a name may do from the subroutine from which it is reached
   stands-there : (f : _) (a b : Seen) → misplaced roots f a b ≡ None → may_stand f b.meaning root ≡ true
   stands-there f a b e =
-      let all = unless-none (list_all (λ x. may_stand f b.meaning x) roots) a.first e in
-      all-contained (λ x. may_stand f b.meaning x) roots root all reached.0 reached.1 reached.2
+      let all = both-true (list_all (λ x. may_stand f b.meaning x) roots) (is_reached roots || not (is_new f)) (unless-none (may_stand_in roots f b.meaning) a.first e) in
+      all-contained (λ x. may_stand f b.meaning x) roots root all.0 reached.0 reached.1 reached.2
 
   used-there : (u : Use) (place : ℕ) (name : List ℕ) → Clean known roots (Name u) (Named place name) → may_use u (meaning_of known u name) root ≡ true
   used-there u place name c =
-      let all = unless-none (list_all (λ x. may_use u (meaning_of known u name) x) roots) place (used-name known roots (Name u) place name c) in
-      all-contained (λ x. may_use u (meaning_of known u name) x) roots root all reached.0 reached.1 reached.2
+      let m = meaning_of known u name in
+      let all = both-true (list_all (λ x. may_use u m x) roots) (is_reached roots || not (is_for_init u m))
+      (unless-none (may_be_used roots u m) place (used-name known roots (Name u) place name c)) in
+      all-contained (λ x. may_use u m x) roots root all.0 reached.0 reached.1 reached.2
 
   -- expressions, whatever the variables are
   abbrev FineIn : Context → Phrase → Type 0

@@ -1,5 +1,5 @@
 -- What a sound text declares is the same to its check and in numbers.
-use Rattle.std.proofs.Common.{◌≡◌, ◌⊎◌, inl, inr, ℕ, zero, suc, ◌+◌, nat_lt, Bool, true, false, not, length, position, List, [], ◌∷◌, ◌++◌, codes, refl, sym, ap, ◌∙◌, subst, append-nil, Option, Some, None, option_and_then, slice_get, filter, filter_map, if◌then◌else◌, arith}
+use Rattle.std.proofs.Common.{◌≡◌, ◌⊎◌, inl, inr, ℕ, zero, suc, ◌+◌, nat_lt, Bool, true, false, not, ◌||◌, length, position, List, [], ◌∷◌, ◌++◌, codes, refl, sym, ap, ◌∙◌, subst, append-nil, Option, Some, None, option_and_then, slice_get, filter, filter_map, if◌then◌else◌, arith}
 use Rattle.std.specs.List.{list_all, position_or_len, cons_option}
 use Rattle.std.specs.Prelude.{Contains, is_some}
 use Rattle.std.specs.Str.{bytes_eq}
@@ -38,7 +38,7 @@ use Rattle.vcl_check.specs.Known as check
 use Rattle.vcl_check.specs.Known.{meaning_of, of_maker}
 use Rattle.vcl_check.specs.Mentions.{Said, said, said_string, called_string, own_string, has_pattern, parts, with_found, with_strings, with_call, object_kind, with_mentions, with_item, with_items}
 use Rattle.vcl_check.specs.Roles.{Name, Block, Statement, Branch, Assignment, Object, Made, Unread}
-use Rattle.vcl_check.specs.Rules.{is_known, may_stand, misplaced}
+use Rattle.vcl_check.specs.Rules.{is_known, is_reached, may_stand, is_new, may_stand_in, misplaced}
 use Rattle.vcl_check.specs.Texts.{says}
 use Rattle.vcl_check.specs.Views.{view_of}
 use Rattle.vcl_code.specs.declared.names.Thing.{Thing}
@@ -218,8 +218,8 @@ at_init = Init ∷ []
 
 barred : (f : Form) (a b : Seen) → may_stand f b.meaning Init ≡ false → misplaced at_init f a b ≡ None → ⊥
 barred f a b bar e =
-    let all = unless-none (list_all (λ s. may_stand f b.meaning s) at_init) a.first e in
-    false-true (sym bar ∙ (both-true (may_stand f b.meaning Init) true all).0)
+    let all = both-true (list_all (λ s. may_stand f b.meaning s) at_init) (is_reached at_init || not (is_new f)) (unless-none (may_stand_in at_init f b.meaning) a.first e) in
+    false-true (sym bar ∙ (both-true (may_stand f b.meaning Init) true all.0).0)
 
 module _ (known : check.Known) (owner : List ℕ) (init : is_init owner ≡ true) where
   conditional-barred : {e : Phrase} {ts rest : List Token} → IsConditional e ts rest → Clean known at_init Statement e → ⊥

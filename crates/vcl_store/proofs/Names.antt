@@ -1,10 +1,11 @@
 -- A name that is known to the check of a text has a meaning in numbers too.
-use Rattle.std.proofs.Common.{◌≡◌, ℕ, ◌+◌, ◌==◌, Bool, true, false, take, drop, List, refl, sym, ap, ◌∙◌, codes, position, Option, Some, None, is_some, option_and_then, if◌then◌else◌}
+use Rattle.std.proofs.Common.{◌≡◌, ℕ, ◌+◌, ◌==◌, Bool, true, false, not, ◌&&◌, take, drop, List, refl, sym, ap, ◌∙◌, codes, position, Option, Some, None, is_some, option_and_then, if◌then◌else◌}
 use Rattle.std.specs.Str.{bytes_eq}
 use Rattle.std.proofs.lemmas.Option.{none-some}
 use Rattle.directors.specs.declared.director.DirectorKind.{DirectorKind}
 use Rattle.vcl_tree.specs.Endings.{ends_in}
 use Rattle.vcl_language.specs.Functions.{function_named, method_of}
+use Rattle.vcl_language.specs.Modules.{is_module}
 use Rattle.vcl_language.specs.declared.functions.Function.{Function}
 use Rattle.vcl_language.specs.declared.functions.Method.TheVariants as method
 use Rattle.vcl_language.specs.declared.variables.Variable.{Variable as Row}
@@ -91,12 +92,12 @@ KnownCall numbers name m = (f : Function) × (m ≡ meaning.Function f) × Calls
 -- a stored function of both
 abbrev in_module : List (List ℕ) → List Stored → List ℕ → List ℕ → Option ℕ
 in_module imports stored origin own =
-    if is_some (position (λ other. bytes_eq origin other) imports)
+    if is_some (position (λ other. bytes_eq origin other) imports) && not (is_module origin)
     then position (λ entry. is_named origin own entry.signature) stored else None
 
 module-row : (known : check.Known) (origin own : List ℕ) (f : Function) → of_module known origin own ≡ Some f
     → (k : ℕ) × (in_module known.imports known.stored origin own ≡ Some k)
-module-row known origin own f e = by-import (is_some (position (λ other. bytes_eq origin other) known.imports)) (position (λ entry. is_named origin own entry.signature) known.stored) e
+module-row known origin own f e = by-import (is_some (position (λ other. bytes_eq origin other) known.imports) && not (is_module origin)) (position (λ entry. is_named origin own entry.signature) known.stored) e
   where
     by-import : (b : Bool) (row : Option ℕ) → (if b then option_and_then (λ k. function_at known.stored k) row else None) ≡ Some f → (k : ℕ) × ((if b then row else None) ≡ Some k)
     by-import true (Some k) e = (k, refl)

@@ -1,10 +1,11 @@
 -- A weight is taken where a backend is added to a director, and nowhere else.
-use Rattle.std.proofs.Common.{◌≡◌, ℕ, ◌+◌, ◌==◌, Bool, true, false, ◌&&◌, take, drop, List, [], ◌∷◌, refl, subst, position, Option, Some, None, option_and_then, slice_get, if◌then◌else◌}
+use Rattle.std.proofs.Common.{◌≡◌, ℕ, ◌+◌, ◌==◌, Bool, true, false, not, ◌&&◌, take, drop, List, [], ◌∷◌, refl, subst, position, Option, Some, None, option_and_then, slice_get, if◌then◌else◌}
 use Rattle.std.proofs.lemmas.Option.{none-some, same_Some}
 use Rattle.directors.specs.declared.director.DirectorKind.{DirectorKind}
 use Rattle.directors.specs.declared.director.DirectorKind.TheVariants as director
 use Rattle.vcl_values.specs.declared.value.Kind.{Kind}
 use Rattle.vcl_language.specs.Functions.{method_of}
+use Rattle.vcl_language.specs.Modules.{is_module}
 use Rattle.vcl_language.specs.declared.functions.Function.{Function}
 use Rattle.vcl_language.specs.declared.functions.Method.TheVariants as method
 use Rattle.vcl_language.specs.declared.functions.Parameter.{Parameter}
@@ -76,7 +77,7 @@ found-weightless known origin own f e =
     behind-some (position (λ entry. is_named origin own entry.signature) known.stored) G f (λ k d. at-weightless known.stored k f d) e
 
 module-weightless : (known : check.Known) (origin own : List ℕ) (f : Function) → of_module known origin own ≡ Some f → IsWeightless f
-module-weightless known origin own f e = by-import (is_imported known origin) e
+module-weightless known origin own f e = by-import (is_imported known origin && not (is_module origin)) e
   where
     by-import : (b : Bool) → (if b then found_in known origin own else None) ≡ Some f → IsWeightless f
     by-import true e = found-weightless known origin own f e

@@ -1,11 +1,11 @@
 // Rules on names and where they may be used.
 ghost use Rattle.std.specs.Prelude.{◌≡◌};
 ghost use Rattle.std.specs.List.{list_all};
-ghost use Rattle.vcl_check.specs.Rules.{is_known, may_use};
+ghost use Rattle.vcl_check.specs.Rules.{is_known, may_use, is_reached, is_init, is_for_init, may_be_used};
 
 use crate::form::Use;
 use crate::seen::Meaning;
-use vcl_language::{Subroutine, has};
+use vcl_language::{Scope, Subroutine, has};
 
 pub fn is_known(meaning: Meaning) -> bool
     ensures { result ≡ is_known meaning }
@@ -46,9 +46,35 @@ fn may_use(by: Use, meaning: Meaning, root: Subroutine) -> bool
     }
 }
 
-/// Whether a name may be used so in each of the subroutines.
-pub fn may_be_used(roots: &[Subroutine], by: Use, meaning: Meaning) -> bool
+fn may_use_in(roots: &[Subroutine], by: Use, meaning: Meaning) -> bool
     ensures { result ≡ list_all (λ s. may_use by meaning s) roots.now }
 {
     roots.iter().all(|root| may_use(by, meaning, *root))
+}
+
+/// Whether something leads to the subroutine.
+pub fn is_reached(roots: &[Subroutine]) -> bool
+    ensures { result ≡ is_reached roots.now }
+{
+    !roots.is_empty()
+}
+
+// Whether it stands in vcl_init alone.
+fn is_for_init(by: Use, meaning: Meaning) -> bool
+    ensures { result ≡ is_for_init by meaning }
+{
+    match by {
+        Use::Function => match meaning {
+            Meaning::Function(function) => matches!(function.scope, Scope::Init),
+            _ => false,
+        },
+        _ => false,
+    }
+}
+
+/// Whether a name may be used so in each of the subroutines that lead there.
+pub fn may_be_used(roots: &[Subroutine], by: Use, meaning: Meaning) -> bool
+    ensures { result ≡ may_be_used roots.now by meaning }
+{
+    may_use_in(roots, by, meaning) && (is_reached(roots) || !is_for_init(by, meaning))
 }

@@ -2,7 +2,7 @@
 ghost use Rattle.std.specs.Prelude.{◌≡◌, []};
 ghost use Rattle.std.specs.List.{list_all, list_any};
 ghost use Rattle.vcl_language.specs.Scopes.{has};
-ghost use Rattle.vcl_check.specs.Rules.{both_fit, ill_function, is_one, is_nowhere, is_timed, answer_takes, other_scope, ill_answer, ill_set, ill_appended, is_zero, ill_made, misfit, fails, may_stand, misplaced, unwritten_call, unwritten_in};
+ghost use Rattle.vcl_check.specs.Rules.{both_fit, ill_function, is_one, is_nowhere, is_timed, answer_takes, other_scope, ill_answer, ill_set, ill_appended, is_zero, ill_made, misfit, fails, may_stand, is_new, may_stand_in, misplaced, unwritten_call, unwritten_in};
 
 use crate::form::Form;
 use crate::rules::calls::{ill_called, is_string, leftmost_unwritten, unless};
@@ -10,6 +10,7 @@ use crate::rules::kinds::{
     accepts, alike, is_acl, is_condition, is_ip, is_ordered, is_searched, is_text, is_value,
     may_add,
 };
+use crate::rules::names::is_reached;
 use crate::seen::{Arguments, Meaning, Seen};
 use vcl_language::{Parameter, Scope, Subroutine, Takes, Word, has};
 use vcl_tree::Comparison;
@@ -182,10 +183,16 @@ fn may_stand(form: Form, meaning: Meaning, root: Subroutine) -> bool
     }
 }
 
-fn may_stand_in(roots: &[Subroutine], form: Form, meaning: Meaning) -> bool
+fn may_stand_in_all(roots: &[Subroutine], form: Form, meaning: Meaning) -> bool
     ensures { result ≡ list_all (λ s. may_stand form meaning s) roots.now }
 {
     roots.iter().all(|root| may_stand(form, meaning, *root))
+}
+
+fn may_stand_in(roots: &[Subroutine], form: Form, meaning: Meaning) -> bool
+    ensures { result ≡ may_stand_in roots.now form meaning }
+{
+    may_stand_in_all(roots, form, meaning) && (is_reached(roots) || !matches!(form, Form::New))
 }
 
 /// The place of a statement that may not stand in one of the subroutines.
