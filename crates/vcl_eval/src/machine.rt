@@ -107,7 +107,7 @@ impl Machine {
     fn give_up(&mut self)
         ensures { self.new.waiting ≡ None }
     {
-        self.waiting = None;
+        drop(self.waiting.take());
     }
 
     // The turn of what a run has come to.
