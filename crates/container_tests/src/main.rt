@@ -1,8 +1,9 @@
 //! Rows for the containers of the lazy cache: each line of the input names a container and has steps, with `; ` between
-//! them, and behind ` => ` what is to be said of each (`xkeys.rt`). The program prints the rows that go
+//! them, and behind ` => ` what is to be said of each (`xkeys.rt`, `heads.rt`). The program prints the rows that go
 //! otherwise, and how many rows there are.
 #![tactic(auto)]
 
+mod heads;
 mod words;
 mod xkeys;
 
@@ -29,6 +30,7 @@ fn said(alloc: Global, row: &str) -> Result<String, AllocError> {
     let (container, steps) = row.split_once(' ').unwrap_or((row, ""));
     match container {
         "xkeys" => xkeys::said(alloc, steps),
+        "heads" => heads::said(alloc, steps),
         _ => String::from_str(alloc, "no such container"),
     }
 }
