@@ -29,6 +29,7 @@ CASES = {
     'heads put': ('heads', head_put, lambda i, n: (head_put(n + i), 'put')),
     'heads find': ('heads', head_put, lambda i, n: ('find k%d' % (i * 7919 % n), '%d' % (TOP - i * 7919 % n))),
     'heads number': ('heads', head_put, lambda i, n: ('number %d' % (i * 7919 % n), '%d' % (TOP - i * 7919 % n))),
+    'heads from': ('heads', head_put, lambda i, n: ('from %d' % (TOP - i * 7919 % n), '%d' % (TOP - i * 7919 % n))),
     'heads get': ('heads', head_put, lambda i, n: ('get %d' % (TOP - i * 7919 % n), head_item(i * 7919 % n))),
     'heads pay': ('heads', head_put, lambda i, n: ('pay %d 7' % (TOP - i * 7919 % n), 'done')),
     'heads hit': ('heads', head_put, lambda i, n: ('hit %d' % (TOP - i * 7919 % n), 'done')),

@@ -1,6 +1,6 @@
 // Steps on objects with their handles: `put HANDLE NUMBER PAYLOAD KEY`, `take HANDLE`, `get HANDLE`, `find KEY`,
-// `number NUMBER`, `pay HANDLE PAYLOAD`, `hit HANDLE` and `age HANDLE LIFETIME`. An object is a marker, and an item is said
-// as its number, its key, its lifetime, its hits and its payload.
+// `number NUMBER`, `from HANDLE`, `pay HANDLE PAYLOAD`, `hit HANDLE` and `age HANDLE LIFETIME`. An object is a marker, and
+// an item is said as its number, its key, its lifetime, its hits and its payload.
 ghost use Rattle.std.specs.Prelude.{◌≡◌, IfOk};
 ghost use Rattle.cache_law.specs.Object.{key_of};
 
@@ -43,10 +43,8 @@ fn say_step(
             let found = heads.find(alloc, texts(alloc, rest)?.as_slice())?;
             say_numbers(out, found.as_slice())
         }
-        "number" => match heads.handle_of(number(rest)) {
-            Some(handle) => write!(out, "{handle}"),
-            None => out.push_str("none"),
-        },
+        "number" => say_handle(out, heads.handle_of(number(rest))),
+        "from" => say_handle(out, heads.first_from(number(rest))),
         _ => change(alloc, heads, word, rest, out),
     }
 }
@@ -123,11 +121,7 @@ fn put(
     out.push_str("put")
 }
 
-fn marker(
-    alloc: Global,
-    key: Sequence<Text>,
-    lifetime: i64,
-) -> Result<Shared<Object>, AllocError>
+fn marker(alloc: Global, key: Sequence<Text>, lifetime: i64) -> Result<Shared<Object>, AllocError>
     ensures { IfOk result (λ object. key_of object ≡ key) }
 {
     let marker = Marker {
@@ -138,6 +132,13 @@ fn marker(
         ttl: lifetime,
     };
     Shared::new(alloc, Object::HitForPass(marker))
+}
+
+fn say_handle(out: &mut String, handle: Option<u64>) -> Result<(), AllocError> {
+    match handle {
+        Some(handle) => write!(out, "{handle}"),
+        None => out.push_str("none"),
+    }
 }
 
 fn say_item(out: &mut String, item: &Item<u64>) -> Result<(), AllocError> {

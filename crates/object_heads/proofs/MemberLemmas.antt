@@ -1,6 +1,7 @@
 -- The list of members, as the map by handle has it.
 use Rattle.std.proofs.Common.{◌≡◌, ◌<◌, ℕ, Bool, true, false, ◌||◌, cond, List, [], ◌∷◌, filter, map, Option, None, Some, refl, sym, ◌∙◌, ap, subst, arith}
-use Rattle.std.specs.Prelude.{nat_eq, nat_lt, slice_get, IsTrue, IfSome, ◌↔◌, option_map}
+use Rattle.std.specs.declared.ops.Bound.TheVariants.{Included, Unbounded}
+use Rattle.std.specs.Prelude.{nat_eq, nat_lt, nat_le, slice_get, IsTrue, IfSome, ◌↔◌, option_map}
 use Rattle.std.proofs.Common.{Less}
 use Rattle.std.specs.Ordering.{is_eq, nat_cmp}
 use Rattle.std.specs.Option.{is_some, option_map_or}
@@ -9,6 +10,7 @@ use Rattle.std.specs.List.Sorted.{IsStrictlySortedBy}
 use Rattle.std.specs.Cmp.{nat_cmp_total, eq_by_cmp_equiv}
 use Rattle.std.specs.Map.{keys_of, lookup, remove_entry, set_value}
 use Rattle.std.specs.BTreeMap.{BTreeMap, insert_entry, is_at}
+use Rattle.std.specs.BTreeMap.Range.{entries_between, range_contains}
 use Rattle.std.specs.BTreeMap as tree
 use Rattle.std.specs.BTreeSet.{BTreeSet, contains, IsOrdered}
 use Rattle.std.proofs.lemmas.Bool.{ltb-true, lt-ltb, eqb-true}
@@ -23,7 +25,7 @@ use Rattle.object_heads.specs.declared.item.Item.{Item}
 use Rattle.object_heads.specs.declared.heads.Kept.{Kept}
 use Rattle.object_heads.specs.declared.name.Name.{Name}
 use Rattle.object_heads.specs.declared.places.Places.{Places}
-use Rattle.object_heads.specs.Members.{IsNewest, has_key, has_number, handles_where, handle_at, without, changed, replaced}
+use Rattle.object_heads.specs.Members.{IsNewest, has_key, has_number, handles_where, handle_at, without, changed, with_object, first_from}
 use Rattle.object_heads.specs.Names.{IsNameOf}
 use Rattle.object_heads.specs.Indexes.{same_name, is_that, is_under, is_at_number}
 use Rattle.object_heads.specs.Kept.{member_of, members_of, IsNamed, Stands}
@@ -272,13 +274,32 @@ module _ {P : Type 0} where
 
   -- another object of the same key at the handle, under the same number
   pub stands-replaced : (handle : ℕ) (object : Object) (v : Kept P) (old new : BTreeMap ℕ (Kept P)) (places : Places) → tree.IsOrdered nat_cmp new
-      → ((other : ℕ) → tree.get nat_cmp new other ≡ cond (is_at (nat_cmp handle) other) (Some (in_kept (replaced object) v)) (tree.get nat_cmp old other))
+      → ((other : ℕ) → tree.get nat_cmp new other ≡ cond (is_at (nat_cmp handle) other) (Some (in_kept (with_object object) v)) (tree.get nat_cmp old other))
       → tree.get nat_cmp old handle ≡ Some v → IsNamed v → key_of object ≡ key_of v.item.view.object → Stands old places → Stands new places
   stands-replaced handle object v old new places s puts there named same stands =
-      let w = in_kept (replaced object) v in
+      let w = in_kept (with_object object) v in
       record {
         ordered = s;
         named = all_more IsNamed (tree.get nat_cmp old) (tree.get nat_cmp new) handle w puts (subst (IsNameOf v.name) (sym same) named) stands.named;
         heads = index_same (λ (kept : Kept P). same_name kept.name) (tree.get nat_cmp old) (tree.get nat_cmp new) (is_under places.heads) handle v w puts there (λ key. refl) stands.heads;
         numbers = index_same (λ (kept : Kept P). nat_eq kept.item.view.number) (tree.get nat_cmp old) (tree.get nat_cmp new) (is_at_number places.numbers) handle v w puts there (λ key. refl) stands.numbers;
       }
+
+  -- ---- the members from a handle on
+  from_step : (p q : ℕ → Bool) (b : Bool) (m : ℕ × Kept P) (ms : List (ℕ × Kept P)) → p m.0 ≡ b → q m.0 ≡ b
+      → keys_of (filter (λ e. p e.0) ms) ≡ keys_of (filter (λ e. q e.0) (map member_of ms)) → keys_of (filter (λ e. p e.0) (m ∷ ms)) ≡ keys_of (filter (λ e. q e.0) (map member_of (m ∷ ms)))
+  from_step p q true m ms e f rest = rw (e, f) (ap (λ ns. m.0 ∷ ns) rest)
+  from_step p q false m ms e f rest = rw (e, f) rest
+
+  shown_from : (p q : ℕ → Bool) → ((n : ℕ) → p n ≡ q n) → (entries : List (ℕ × Kept P)) → keys_of (filter (λ e. p e.0) entries) ≡ keys_of (filter (λ e. q e.0) (map member_of entries))
+  shown_from p q same [] = refl
+  shown_from p q same (m ∷ ms) = from_step p q (q m.0) m ms (same m.0) refl (shown_from p q same ms)
+
+  -- the first of the entries from a handle on, as a walk over them gives it
+  pub first_shown : (handle : ℕ) (entries rest : List (ℕ × Kept P)) → rest ≡ entries_between nat_cmp (Included handle) Unbounded entries
+      → slice_get (keys_of rest) 0 ≡ first_from handle (map member_of entries)
+  first_shown handle entries rest is =
+      ap (λ es. slice_get (keys_of es) 0) is
+      ∙ ap (λ ns. slice_get ns 0) (shown_from (range_contains nat_cmp (Included handle) Unbounded) (nat_le handle) (λ n. from_start handle n) entries) where
+        from_start : (a b : ℕ) → range_contains nat_cmp (Included a) Unbounded b ≡ nat_le a b
+        from_start a b = grind (arith, nat_tests)

@@ -1,6 +1,6 @@
 -- Objects of a cache with their handles, the newest first: each member is its handle and its item, and an item is an
 -- object with a payload. The newer a member, the lower its handle.
-use Rattle.std.specs.Prelude.{ℕ, ◌<◌, Bool, not, nat_eq, List, Option, filter, map, slice_get, if◌then◌else◌}
+use Rattle.std.specs.Prelude.{ℕ, ◌<◌, Bool, not, nat_eq, nat_le, List, Option, filter, map, slice_get, if◌then◌else◌}
 use Rattle.std.specs.List.{AllByRecursion}
 use Rattle.std.specs.Map.{keys_of}
 use Rattle.cache_law.specs.declared.object.Object.{Object}
@@ -26,16 +26,16 @@ module _ {P : Type 0} where
   handle_at number members = slice_get (handles_where (has_number number) members) 0
 
   -- the item with another payload
-  abbrev pub repaid : P → Item P → Item P
-  repaid payload item = record item { payload = payload }
+  abbrev pub with_payload : P → Item P → Item P
+  with_payload payload item = record item { payload = payload }
 
   -- the item with another object under the same number, which was given as often
-  abbrev pub replaced : Object → Item P → Item P
-  replaced object item = record item { view = record item.view { object = object } }
+  abbrev pub with_object : Object → Item P → Item P
+  with_object object item = record item { view = record item.view { object = object } }
 
   -- the item with one more hit of its object
-  abbrev pub hit : Item P → Item P
-  hit item = record item { view = raised item.view }
+  abbrev pub with_hit : Item P → Item P
+  with_hit item = record item { view = raised item.view }
 
 module _ {X : Type 0} where
   -- the others than the one of this handle
@@ -45,6 +45,10 @@ module _ {X : Type 0} where
   -- the members, where that of this handle is changed
   abbrev pub changed : ℕ → (X → X) → List (ℕ × X) → List (ℕ × X)
   changed handle change members = map (λ member. if nat_eq handle member.0 then (member.0, change member.1) else member) members
+
+  -- the first of the handles that aren't below this one
+  abbrev pub first_from : ℕ → List (ℕ × X) → Option ℕ
+  first_from handle members = slice_get (keys_of (filter (λ member. nat_le handle member.0) members)) 0
 
   -- the handle is below those of all members
   abbrev pub IsNewest : ℕ → List (ℕ × X) → Type 0

@@ -5,7 +5,7 @@ ghost use Rattle.std.specs.Ordering.{nat_cmp};
 ghost use Rattle.std.specs.BTreeSet.{IsOrdered};
 ghost use Rattle.std.specs.Map.{lookup};
 ghost use Rattle.cache_law.specs.Object.{key_of};
-ghost use Rattle.object_heads.specs.Members.{IsNewest, changed, handle_at, handles_where, has_key, hit, repaid, replaced, without};
+ghost use Rattle.object_heads.specs.Members.{IsNewest, changed, first_from, handle_at, handles_where, has_key, with_hit, with_object, with_payload, without};
 
 use crate::item::Item;
 use crate::name::Name;
@@ -109,34 +109,6 @@ impl<P: Drop> Heads<P> {
         }
     }
 
-    /// Gives the item of this handle another payload, where there is one. It takes no memory.
-    pub fn set_payload(&mut self, handle: u64, payload: P)
-        ensures { self.new ≡ changed handle (repaid payload) self.old }
-    {
-        if let Some(kept) = self.items.get_mut(&handle) {
-            kept.item.payload = payload;
-        }
-    }
-
-    /// Puts another object of the same key in the place of this handle's, where there is one. It takes no memory.
-    pub fn set_object(&mut self, handle: u64, object: Shared<Object>)
-        requires { IfSome (lookup (nat_eq handle) self.old) (λ item. key_of object ≡ key_of item.view.object) }
-        ensures { self.new ≡ changed handle (replaced object) self.old }
-    {
-        if let Some(kept) = self.items.get_mut(&handle) {
-            kept.item.view.object = object;
-        }
-    }
-
-    /// Counts a hit of this handle's object, where there is one. It takes no memory.
-    pub fn count_hit(&mut self, handle: u64)
-        ensures { self.new ≡ changed handle hit self.old }
-    {
-        if let Some(kept) = self.items.get_mut(&handle) {
-            kept.item.view.hits = kept.item.view.hits.saturating_add(1);
-        }
-    }
-
     /// The handles of the members whose objects have the key, the newest first.
     pub fn find(&self, alloc: Global, key: &[Text]) -> Result<Vec<u64>, AllocError>
         ensures { IfOk result (λ found. found.items ≡ handles_where (has_key key.now) self.now) }
@@ -153,6 +125,45 @@ impl<P: Drop> Heads<P> {
         ensures { result ≡ handle_at number self.now }
     {
         self.places.numbers.get(&number).copied()
+    }
+
+    /// The newest handle that isn't below this one. A pass over all members asks for it from 0 on, and then from behind
+    /// each answer; members may come and go in between.
+    pub fn first_from(&self, handle: u64) -> Option<u64>
+        ensures { result ≡ first_from handle self.now }
+    {
+        match self.items.range(handle..).next() {
+            Some((first, _)) => Some(*first),
+            None => None,
+        }
+    }
+
+    /// Gives the item of this handle another payload, where there is one. It takes no memory.
+    pub fn set_payload(&mut self, handle: u64, payload: P)
+        ensures { self.new ≡ changed handle (with_payload payload) self.old }
+    {
+        if let Some(kept) = self.items.get_mut(&handle) {
+            kept.item.payload = payload;
+        }
+    }
+
+    /// Puts another object of the same key in the place of this handle's, where there is one. It takes no memory.
+    pub fn set_object(&mut self, handle: u64, object: Shared<Object>)
+        requires { IfSome (lookup (nat_eq handle) self.old) (λ item. key_of object ≡ key_of item.view.object) }
+        ensures { self.new ≡ changed handle (with_object object) self.old }
+    {
+        if let Some(kept) = self.items.get_mut(&handle) {
+            kept.item.view.object = object;
+        }
+    }
+
+    /// Counts a hit of this handle's object, where there is one. It takes no memory.
+    pub fn count_hit(&mut self, handle: u64)
+        ensures { self.new ≡ changed handle with_hit self.old }
+    {
+        if let Some(kept) = self.items.get_mut(&handle) {
+            kept.item.view.hits = kept.item.view.hits.saturating_add(1);
+        }
     }
 }
 
