@@ -17,6 +17,11 @@ def xkey_put(i):
 
 def room_put(i):
     return 'put %d %d 10 %d' % (i + 1, TOP - i, 1000 + i)
+def head_put(i):
+    return 'put %d %d 0 k%d' % (TOP - i, i, i)
+
+def head_item(i):
+    return '%d [b"k%d"] 0 0 0' % (i, i)
 
 # of each call: the container, how a member is put in, the call for the i-th time at so many members, and its answer
 CASES = {
@@ -31,11 +36,21 @@ CASES = {
     'room expired': ('room', room_put, lambda i, n: ('expired %d' % (1000 + n), '%d' % TOP)),
     'room least_out, 50 go': ('room', room_put, lambda i, n: ('out %d 10' % (10 * (n - 49)), ' '.join('%d' % (TOP - k) for k in range(50)))),
     'room least_out, none go': ('room', room_put, lambda i, n: ('out %d 10 %d' % (10 * n, i * 7919 % n + 1), 'none')),
+    'heads put': ('heads', head_put, lambda i, n: (head_put(n + i), 'put')),
+    'heads find': ('heads', head_put, lambda i, n: ('find k%d' % (i * 7919 % n), '%d' % (TOP - i * 7919 % n))),
+    'heads number': ('heads', head_put, lambda i, n: ('number %d' % (i * 7919 % n), '%d' % (TOP - i * 7919 % n))),
+    'heads from': ('heads', head_put, lambda i, n: ('from %d' % (TOP - i * 7919 % n), '%d' % (TOP - i * 7919 % n))),
+    'heads get': ('heads', head_put, lambda i, n: ('get %d' % (TOP - i * 7919 % n), head_item(i * 7919 % n))),
+    'heads pay': ('heads', head_put, lambda i, n: ('pay %d 7' % (TOP - i * 7919 % n), 'done')),
+    'heads hit': ('heads', head_put, lambda i, n: ('hit %d' % (TOP - i * 7919 % n), 'done')),
+    'heads age': ('heads', head_put, lambda i, n: ('age %d 7' % (TOP - i * 7919 % n), 'done')),
+    'heads take, none there': ('heads', head_put, lambda i, n: ('take %d' % (i + 1), 'none')),
 }
 # half of the members go, from the oldest on
 PAIRS = {
     'xkeys put and take': ('xkeys', xkey_put, lambda i: ('take %d' % (TOP - i), '[b"k%d"]' % i)),
     'room put_last and take': ('room', room_put, lambda i: ('take %d' % (i + 1), '%d 10 %d' % (TOP - i, 1000 + i))),
+    'heads put and take': ('heads', head_put, lambda i: ('take %d' % (TOP - i), head_item(i))),
 }
 
 def best(container, steps):

@@ -1,8 +1,9 @@
 //! Rows for the containers of the lazy cache: each line of the input names a container and has steps, with `; ` between
-//! them, and behind ` => ` what is to be said of each (`xkeys.rt`, `room.rt`). The program prints the rows that go
+//! them, and behind ` => ` what is to be said of each (`xkeys.rt`, `room.rt`, `heads.rt`). The program prints the rows that go
 //! otherwise, and how many rows there are.
 #![tactic(auto)]
 
+mod heads;
 mod room;
 mod words;
 mod xkeys;
@@ -31,6 +32,7 @@ fn said(alloc: Global, row: &str) -> Result<String, AllocError> {
     match container {
         "xkeys" => xkeys::said(alloc, steps),
         "room" => room::said(alloc, steps),
+        "heads" => heads::said(alloc, steps),
         _ => String::from_str(alloc, "no such container"),
     }
 }

@@ -1,0 +1,4 @@
+pub mod NameLemmas
+pub mod IndexLemmas
+pub mod HeadLemmas
+pub mod MemberLemmas
