@@ -56,8 +56,8 @@ def run_rows(name, session, transcript):
 
 def program_row(text):
     """A VCL on one line, and what the test says of it: thirteen items are built in."""
-    lines = [line.strip() for line in text.splitlines() if not line.startswith("#")]
-    row = PROGRAM_WORDS + " ".join(line for line in lines if line)
+    lines = [line.strip() for line in text.splitlines()]
+    row = PROGRAM_WORDS + " ".join(line for line in lines if line and not line.startswith("#"))
     items, backends, directors = (
         len(re.findall(form, text, re.M))
         for form in ("^(import|backend|acl|probe|sub) ", "^backend ", "^  new ")
