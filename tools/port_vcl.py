@@ -19,7 +19,7 @@ NAME = r"[A-Za-z][A-Za-z0-9_.-]*"
 TOKEN = re.compile(
     r'(?P<skip>\s+|\#[^\n]*|//[^\n]*|/\*.*?\*/|C\{.*?\}C)'
     r'|(?P<string>\{".*?"\}|""".*?"""|"[^"\n]*")'
-    r'|(?P<number>\d+(?:\.\d+)?(?:ms|[smhdwy])?(?![A-Za-z0-9_]))'
+    r'|(?P<number>\d+(?:\.\d+)?(?:ms|[smhdwy]|[KMGT]?B)?(?![A-Za-z0-9_]))'
     rf'|(?P<name>{NAME})'
     r'|(?P<sign>[=!<>]=|!~|&&|\|\||\+=|-=|\*=|/=|.)',
     re.S,
@@ -166,6 +166,8 @@ class Finder:
             self.subroutine(place)
         elif before in ("import", "new"):
             pass
+        elif item == "vcl_init" and text.endswith(".backend"):
+            self.note(place, text, self.document.row("a director within"))
         elif after == "(":
             self.called(place)
         elif after == "=" and before in ("(", ","):
@@ -234,7 +236,8 @@ class Finder:
     def number(self, place):
         text = self.at(place).text
         weight = self.at(place - 1).text == "," and re.fullmatch(r"\d+\.0*", text)
-        if re.fullmatch(r"\d+\.\d+", text) and not weight and self.at(place - 1).text != "vcl":
+        is_real = re.fullmatch(r"\d+\.\d+", text) and not weight and self.at(place - 1).text != "vcl"
+        if is_real or text.endswith("B"):
             self.note(place, text, self.document.row("REAL, BYTES"))
 
     def second_argument(self, place):
