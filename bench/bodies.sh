@@ -4,6 +4,7 @@
 # and what each takes against pieces of 64 KiB. Then 1 MiB against 8 MiB in pieces of 1 byte. The time that a run takes
 # with an empty body is taken off. Run it at the top of the repository. The program is built and proved first where it
 # isn't there yet.
+# shellcheck source=bench/prepare.sh
 . "$(dirname "$0")/prepare.sh"
 prepare measure
 python3 - "$work" "$program" <<'PY'

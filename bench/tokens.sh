@@ -3,6 +3,7 @@
 # that is read), the best of five runs each, and the ratio of each to 64 KiB, where 4 and 16 are linear. The time that a
 # run takes with an empty text is taken off. Run it at the top of the repository. The program is built and proved first
 # where it isn't there yet.
+# shellcheck source=bench/prepare.sh
 . "$(dirname "$0")/prepare.sh"
 prepare measure
 python3 - "$work" "$program" <<'PY'

@@ -5,6 +5,7 @@
 # processors, to as many threads as processors, which shows what sleeping and waking costs and is to be a half at least.
 # The time that a run of no turns takes is taken off. Run it at the top of the repository. The program is built and proved
 # first where it isn't there yet.
+# shellcheck source=bench/prepare.sh
 . "$(dirname "$0")/prepare.sh"
 prepare turns
 python3 - "$program" <<'PY'

@@ -3,6 +3,7 @@
 # reading of the same request's head; the best of five each. The time in which as many requests are read and the values of
 # variables made of them is taken off that of the runs. Run it at the top of the repository. The program is built and proved
 # first where it isn't there yet.
+# shellcheck source=bench/prepare.sh
 . "$(dirname "$0")/prepare.sh"
 prepare vcl_run_tests
 python3 - "$program" <<'PY'
