@@ -3,8 +3,8 @@
 # It ends at Ctrl-C, or behind a thousand connections.
 #
 #   examples/serve.sh --demo    the site of examples/site/ by examples/vcl/demo.vcl; it says what to ask for
-#   examples/serve.sh [NAME]    the files of docs/ by examples/vcl/NAME.vcl; without a name by members.vcl, which says of each page
-#                               whether it was stored
+#   examples/serve.sh [NAME]    the files of docs/ by examples/vcl/NAME.vcl; without a name by members.vcl, which says of each
+#                               page whether it was stored
 #
 # The program is the one that PROGRAM names, or the proved one where it was built, or else one that is made without proofs, by
 # tools/try_server.sh: with nothing but the toolchain that takes some 4 minutes the first time.

@@ -83,7 +83,8 @@ while read -r command; do
   case $command in
     .ci/run* | rt* | bench/* | tools/smoke.sh | tools/try_edits.sh* | tools/fail_alloc.sh | tools/session_limit.sh)
       tell - "$command (not run: it takes long)" ;;
-    'varn serve' | 'varn replay' | contrib/check-vcl | tools/docs_run.sh | tools/try_server.sh | tools/examples.py | *[[\ ][A-Z]\ * | *SESSION*)
+    'varn serve' | 'varn replay' | *[[\ ][A-Z]\ * | *SESSION* | \
+      contrib/check-vcl | tools/docs_run.sh | tools/try_server.sh | tools/examples.py)
       tell - "$command (not run: a name or a form)" ;;
     examples/serve.sh*) serves "$command" ;;
     'tools/port_vcl.py FILE') runs 1 "${command/FILE/examples/port/blog.vcl}" ;;

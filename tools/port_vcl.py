@@ -204,7 +204,8 @@ class Finder:
     def variable(self, place):
         name, after = self.at(place).text, self.at(place + 1).text
         row = self.document.row_of(name)
-        if name == "client.ip" and after in ("==", "!=") and self.at(place + 2).kind == "string" and self.at(place - 1).text != "+":
+        is_compared = after in ("==", "!=") and self.at(place + 2).kind == "string"
+        if name == "client.ip" and is_compared and self.at(place - 1).text != "+":
             self.note(place, f"client.ip {after} ..", self.document.row("`client.ip =="))
         elif row or name not in self.document.here and not FIELD.fullmatch(name):
             self.note(place, name, row or ("", "a variable that docs/VCL.md doesn't have"))

@@ -1,7 +1,8 @@
 #!/usr/bin/env bash
 # Tries the built program as a user would: how it ends and with which status, the sessions of examples/, and `varn serve` on a
 # free loopback port before a backend of its own, asked by curl and, where a client has to be rude, by python3. A line for
-# each check; status 1 where one fails. What it starts it ends, also where it fails or is interrupted. On a free machine it takes some 20 seconds.
+# each check; status 1 where one fails. What it starts it ends, also where it fails or is interrupted. On a free machine it
+# takes some 20 seconds.
 #
 #   tools/smoke.sh [FILE]     the built program; without it the one that PROGRAM names, or else crates/varn/out/varn
 set -u

@@ -1,5 +1,5 @@
 #!/usr/bin/env python3
-"""A small site that stands behind the cache: `examples/serve.sh --demo` starts it. Prints its port, and serves until it is ended.
+"""A small site that stands behind the cache: `examples/serve.sh --demo` starts it. Prints its port, and serves until it ends.
 
   site.py [PORT]    without a port at one that is free
 
