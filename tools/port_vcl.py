@@ -70,13 +70,15 @@ class Document:
 
     def row(self, words):
         """The row whose left cell has these words."""
-        return next(row for row in self.rows if words in row[0])
+        found = next((row for row in self.rows if words in row[0]), None)
+        return found or sys.exit(f"port_vcl: no row of docs/VCL.md has {words}")
 
     def row_of(self, name):
         """The row of a name, or of what it is one of, as `storage.*`."""
         if name in self.by_code:
             return self.by_code[name]
-        return next((row for code, row in self.by_code.items() if code.endswith(".*") and name.startswith(code[:-1])), None)
+        wider = (code for code in self.by_code if code.endswith(".*") and name.startswith(code[:-1]))
+        return self.by_code.get(next(wider, None))
 
 
 def tokens_of(text):
@@ -127,7 +129,7 @@ class Finder:
         return sorted(self.found)
 
     def items(self):
-        """For each token the item of the text that it is of, as `acl` or the name of a subroutine, and how many braces are open."""
+        """For each token the item that it is of, as `acl` or the name of a subroutine, and how many braces are open there."""
         item, depth = "", 0
         for place, token in enumerate(self.tokens):
             if depth == 0 and token.text in ("import", "include", "backend", "probe", "acl", "sub"):
@@ -216,7 +218,7 @@ class Finder:
             self.search(self.second_argument(place + 1))
         elif name in ("ban", "std.ban"):
             self.ban(place)
-        elif name == "synth" and self.at(place + 2).kind == "number" and float(self.at(place + 2).text) > 999:
+        elif name == "synth" and re.fullmatch(r"[1-9]\d{3,}", self.at(place + 2).text):
             self.note(place, f"synth({self.at(place + 2).text})", self.document.row("`synth` with a status"))
         row = self.function_row(name)
         if row:
