@@ -7,7 +7,7 @@
 #                               page whether it was stored
 #
 # The program is the one that PROGRAM names, or the proved one where it was built, or else one that is made without proofs, by
-# tools/try_server.sh: with nothing but the toolchain that takes some 4 minutes the first time.
+# tools/try_server.sh: with nothing but the toolchain that takes some 5 minutes the first time.
 set -eu
 cd "$(dirname "$0")/.."
 proved=crates/varn/out/varn
@@ -28,7 +28,7 @@ elif [ -x "$proved" ]; then
   program=$proved
 else
   program=$(tools/try_server.sh)
-  echo "This program isn't proved. This proves it, and builds it at $proved: (cd crates/varn && rt run -- --version)"
+  echo "This program isn't proved, and is slow. This proves it, and builds it at $proved: (cd crates/varn && rt run -- --version)"
 fi
 
 work=$(mktemp -d)
