@@ -35,7 +35,7 @@ failed=0
 tell() { printf '%-5s %s\n' "$1" "$2"; }
 # runs STATUS COMMAND: the command ends so in the reader's folder
 runs() {
-  (cd "$work/here" && exec timeout 60 bash -c "$2") > "$work/said" 2>&1 < /dev/null
+  (cd "$work/here" && exec timeout 300 bash -c "$2") > "$work/said" 2>&1 < /dev/null
   local status=$?
   if [ $status = "$1" ]; then
     tell ok "$2"
@@ -50,7 +50,8 @@ runs() {
 serves() {
   local port
   port=$(python3 -c 'import socket; s = socket.socket(); s.bind(("127.0.0.1", 0)); print(s.getsockname()[1])')
-  (cd "$top" && PORT=$port exec bash -c "exec $1") > "$work/served" 2>&1 &
+  : > "$work/served"
+  (cd "$top" && PORT=$port exec bash -c "exec $1") >> "$work/served" 2>&1 &
   serving=$!
   for _ in {1..300}; do
     grep -q 'curl -i' "$work/served" && break
@@ -83,13 +84,12 @@ while read -r command; do
   case $command in
     .ci/run* | rt* | bench/* | tools/smoke.sh | tools/try_edits.sh* | tools/fail_alloc.sh | tools/session_limit.sh)
       tell - "$command (not run: it takes long)" ;;
-    'varn serve' | 'varn replay' | *[[\ ][A-Z]\ * | *SESSION* | \
-      contrib/check-vcl | tools/docs_run.sh | tools/try_server.sh | tools/examples.py)
-      tell - "$command (not run: a name or a form)" ;;
+    'varn serve' | 'varn replay' | *[[\ ][A-Z]\ * | *SESSION*) tell - "$command (not run: a form)" ;;
     examples/serve.sh*) serves "$command" ;;
     'tools/port_vcl.py FILE') runs 1 "${command/FILE/examples/port/blog.vcl}" ;;
-    varn* | out/try/varn* | contrib/check-vcl* | tools/examples.py*) runs 0 "$command" ;;
-    contrib/* | examples/*) [ -e "$command" ] || { tell FAIL "there is no $command"; failed=$((failed + 1)); } ;;
+    varn* | out/try/varn* | contrib/check-vcl\ * | tools/examples.py\ *) runs 0 "$command" ;;
+    contrib/* | examples/* | tools/*)
+      [ -e "$command" ] || { tell FAIL "there is no $command"; failed=$((failed + 1)); } ;;
     *)
       tell FAIL "$command: not known here"
       failed=$((failed + 1))
