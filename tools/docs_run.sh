@@ -100,5 +100,6 @@ done < <(commands | sort -u)
 # What the pages say of these files.
 runs 0 'contrib/check-vcl examples/vcl/*.vcl examples/port/*.varn.vcl contrib/*.vcl'
 runs 0 'tools/port_vcl.py examples/vcl/*.vcl examples/port/*.varn.vcl contrib/*.vcl'
+runs 0 'cd examples/port && ../../tools/port_vcl.py --places *.vcl | cmp - places'
 runs 0 'tools/examples.py'
 [ "$failed" = 0 ]

@@ -2,6 +2,7 @@
 """Lists what of VCL files for Varnish 7 isn't here or means something else, with what to write in its place.
 
   tools/port_vcl.py FILE..
+  tools/port_vcl.py --places FILE..    the places alone
 
 A line for each place: the file, the line, what stands there, and what docs/VCL.md has for it in the tables of its section 'From
 Varnish 7 to here'; then how many lines of each file are touched. The exit status is 1 where something was found. It looks at
@@ -301,6 +302,8 @@ def is_address(text):
 
 
 def main(names):
+    alone = names[:1] == ["--places"]
+    names = names[alone:]
     if not names or names[0].startswith("-"):
         print(__doc__, file=sys.stderr)
         return 2
@@ -309,9 +312,10 @@ def main(names):
         text = pathlib.Path(name).read_text(encoding="utf-8", errors="replace")
         found = Finder(document, text).find()
         for line, what, write in found:
-            print(f"{name}:{line}: {what}: {write}")
+            print(f"{name}:{line}: {what}" if alone else f"{name}:{line}: {what}: {write}")
         written = sum(bool(line.strip()) for line in text.splitlines())
-        print(f"{name}: {len(found)} places in {len({line for line, *_ in found})} of {written} lines")
+        if not alone:
+            print(f"{name}: {len(found)} places in {len({line for line, *_ in found})} of {written} lines")
         all_found += len(found)
     return 1 if all_found else 0
 
