@@ -3,6 +3,7 @@
 # the best of three runs each, and the ratio of each to 1,000, which is to be 2.5 at most. A row puts so many members in,
 # and another makes some thousands of calls more; the time of the first is taken off. Run it at the top of the repository.
 # The program, which is that of the rows, is built and proved first where it isn't there yet.
+# shellcheck source=bench/prepare.sh
 . "$(dirname "$0")/prepare.sh"
 prepare container_tests
 python3 - "$program" <<'PY'

@@ -2,13 +2,17 @@
 # How the time and the memory of `varn replay` grow with the length of a session: sessions of 1,000 to 300,000 lines over 64
 # pages, and sessions in which each request is for a page of its own and moments go on, so that objects expire. The best of
 # three runs each, the ratio of each step, and the peak memory a line beyond that of an empty session; and the memory that a
-# hit takes, by sessions of hits alone, beside what the history counts for its entries. Run it at the top of the repository.
-# The program is built and proved first where it isn't there yet.
+# hit takes, by sessions of hits alone, beside what the history counts for its entries. The program is built and proved first
+# where it isn't there yet.
+#
+#   bench/replay.sh [LINES]     sessions of at most so many lines; without a word of 300,000
+# shellcheck source=bench/prepare.sh
 . "$(dirname "$0")/prepare.sh"
 prepare varn
-python3 - "$work" "$program" <<'PY'
+python3 - "$work" "$program" "${1:-300000}" <<'PY'
 import os, sys, time
-work, program = sys.argv[1:]
+work, program = sys.argv[1:3]
+MOST = int(sys.argv[3])
 REPLY = ('HTTP/1.1 200 OK\\r\\nCache-Control: max-age=120, stale-while-revalidate=0'
          '\\r\\nContent-Length: 2\\r\\n\\r\\nhi')
 
@@ -74,16 +78,17 @@ _, least, _ = run(written('empty', ['end']))
 for name, session, counts in (('64 pages', few, (1000, 10000, 100000, 300000)),
                               ('a page a request', many, (1000, 10000, 100000))):
     before = None
-    for count in counts:
+    for count in [count for count in counts if count <= MOST] or [MOST]:
         path = written('%s%d' % (name[0], count), session(count))
         best, peak, lines = min(run(path) for _ in range(3))
         step = '' if before is None else '   %5.2f times as long for %g times the lines' % (best / before[0], count / before[1])
         print('%s: %7d lines   %8.4f s   %7d lines written   %5.0f bytes a line%s'
               % (name, count, best, lines, (peak - least) / count, step), flush=True)
         before = (best, count)
-fewer, more = (run(written('h%d' % count, hits(count)))[1] for count in (20000, 100000))
+FEWER, MORE = min(20000, MOST // 3), min(100000, MOST)
+fewer, more = (run(written('h%d' % count, hits(count)))[1] for count in (FEWER, MORE))
 # three entries, the texts of the key, the URL and the two fields
 counted = 3 * 64 + len('/page10' 'h' '/page10' 'Host' 'h' 'X-Forwarded-For' '10.0.0.1')
 print('a hit: %.0f bytes, %.2f times the %d that the history counts for its entries'
-      % ((more - fewer) / 80000, (more - fewer) / 80000 / counted, counted))
+      % ((more - fewer) / (MORE - FEWER), (more - fewer) / (MORE - FEWER) / counted, counted))
 PY

@@ -6,6 +6,7 @@
 # made by wrk, and where that isn't installed by a client in Python, which takes longer over a request than the programs do and so
 # brings ratios nearer to 1. Run it at the top of the repository. The program is built and proved first where it isn't there yet;
 # PROGRAM names another build of it.
+# shellcheck source=bench/prepare.sh
 . "$(dirname "$0")/prepare.sh"
 prepare varn
 python3 - "$work" "$program" "$@" <<'PY'

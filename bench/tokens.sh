@@ -1,13 +1,16 @@
 #!/usr/bin/env bash
 # How the time of reading the tokens of a VCL text grows with its length: texts of 64 KiB, 256 KiB and 1 MiB (the longest
 # that is read), the best of five runs each, and the ratio of each to 64 KiB, where 4 and 16 are linear. The time that a
-# run takes with an empty text is taken off. Run it at the top of the repository. The program is built and proved first
-# where it isn't there yet.
+# run takes with an empty text is taken off. The program is built and proved first where it isn't there yet.
+#
+#   bench/tokens.sh [BYTES]     texts of a sixteenth, a quarter and the whole of so many bytes; without a word of 1,048,576
+# shellcheck source=bench/prepare.sh
 . "$(dirname "$0")/prepare.sh"
 prepare measure
-python3 - "$work" "$program" <<'PY'
+python3 - "$work" "$program" "${1:-1048576}" <<'PY'
 import subprocess, sys, time
-work, program = sys.argv[1:]
+work, program, most = sys.argv[1:]
+MOST = int(most)
 SUB = b'''sub vcl_recv {
     # a comment on one line
     if (req.http.X-Forwarded-For != "10.0.0.1" && req.url ~ "^/static/") {
@@ -40,7 +43,7 @@ def best(content):
 
 start, _ = best(b'')
 base = None
-for size in (65536, 262144, 1048576):
+for size in (MOST // 16, MOST // 4, MOST):
     taken, count = best(text(size))
     taken -= start
     base = taken if base is None else base

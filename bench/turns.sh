@@ -3,13 +3,15 @@
 # written down and nothing more, and turns with some microseconds of work in each. Each rate stands beside two ratios: to
 # one thread, which shows what it costs that turns go from processor to processor, and, where there are more threads than
 # processors, to as many threads as processors, which shows what sleeping and waking costs and is to be a half at least.
-# The time that a run of no turns takes is taken off. Run it at the top of the repository. The program is built and proved
-# first where it isn't there yet.
+# The time that a run of no turns takes is taken off. The program is built and proved first where it isn't there yet.
+#
+#   bench/turns.sh [TURNS]     so many bare turns, and a sixteenth of them with work; without a word 1,048,576
+# shellcheck source=bench/prepare.sh
 . "$(dirname "$0")/prepare.sh"
 prepare turns
-python3 - "$program" <<'PY'
+python3 - "$program" "${1:-1048576}" <<'PY'
 import os, subprocess, sys, time
-program = sys.argv[1]
+program, most = sys.argv[1:]
 THREADS = (1, 2, 4, 8, 16)
 
 def best(threads, turns, work):
@@ -24,7 +26,7 @@ def best(threads, turns, work):
     return least
 
 print('%d processors' % os.cpu_count())
-for work, turns in ((0, 1 << 20), (100, 1 << 16)):
+for work, turns in ((0, int(most)), (100, int(most) // 16)):
     alone, full = None, None
     for threads in THREADS:
         rate = turns / (best(threads, turns, work) - best(threads, 0, work))

@@ -6,7 +6,8 @@
   tools/examples.py line FILE  prints the line of a session that loads the VCL of a file
 
 A session NAME.session loads examples/vcl/NAME.vcl by the line that `line` prints. It is a row of replay_tests,
-whose wanted answer is NAME.transcript, and the VCL is a row of vcl_run_tests. Transcripts are written by hand.
+whose wanted answer is NAME.transcript, and the VCL is a row of the crate of tests that has the line PROGRAMS_MARK.
+Transcripts are written by hand.
 """
 import pathlib
 import re
@@ -14,7 +15,7 @@ import sys
 
 TOP = pathlib.Path(__file__).resolve().parent.parent
 VCL, SESSIONS = TOP / "examples/vcl", TOP / "examples/sessions"
-RUNS, PROGRAMS = TOP / "crates/replay_tests", TOP / "crates/vcl_run_tests"
+RUNS = TOP / "crates/replay_tests"
 RUN_MARK = "@ example="
 PROGRAMS_MARK = "# the files of examples/vcl, each on one line without its comments"
 PROGRAM_WORDS = "program "
@@ -56,8 +57,8 @@ def run_rows(name, session, transcript):
 
 def program_row(text):
     """A VCL on one line, and what the test says of it: thirteen items are built in."""
-    lines = [line.strip() for line in text.splitlines() if not line.startswith("#")]
-    row = PROGRAM_WORDS + " ".join(line for line in lines if line)
+    lines = [line.strip() for line in text.splitlines()]
+    row = PROGRAM_WORDS + " ".join(line for line in lines if line and not line.startswith("#"))
     items, backends, directors = (
         len(re.findall(form, text, re.M))
         for form in ("^(import|backend|acl|probe|sub) ", "^backend ", "^  new ")
@@ -72,7 +73,7 @@ def parted(text, mark):
 
 
 def with_programs(text, rows):
-    """The rows of vcl_run_tests with these for the VCLs, behind their mark and before the others behind it."""
+    """The rows of a crate of tests with these for the VCLs, behind their mark and before the others behind it."""
     front, old = parted(text, PROGRAMS_MARK)
     others = [line for line in old.splitlines(keepends=True)[1:] if not line.startswith(PROGRAM_WORDS)]
     return front + PROGRAMS_MARK + "\n" + rows + "".join(others)
@@ -86,6 +87,14 @@ def count_of_runs(text):
 
 def count_of_programs(text):
     return sum(line != "" and not line.startswith("#") for line in text.splitlines())
+
+
+def programs_crate():
+    """The crate of tests that has the rows for the VCLs."""
+    for rows in sorted(TOP.glob("crates/*_tests/stdin")):
+        if PROGRAMS_MARK in rows.read_text(errors="replace").splitlines():
+            return rows.parent
+    sys.exit(f"no crate of tests has the line: {PROGRAMS_MARK}")
 
 
 def wanted():
@@ -103,8 +112,9 @@ def wanted():
         programs += program_row(vcl.read_text())
     made[RUNS / "stdin"] = parted((RUNS / "stdin").read_text(), RUN_MARK)[0] + runs
     made[RUNS / "stdout"] = f"{count_of_runs(made[RUNS / 'stdin'])} rows\n"
-    made[PROGRAMS / "stdin"] = with_programs((PROGRAMS / "stdin").read_text(), programs)
-    made[PROGRAMS / "stdout"] = f"{count_of_programs(made[PROGRAMS / 'stdin'])} rows\n"
+    rows = programs_crate() / "stdin"
+    made[rows] = with_programs(rows.read_text(), programs)
+    made[rows.parent / "stdout"] = f"{count_of_programs(made[rows])} rows\n"
     made[TOP / "crates/varn/stdin"] = (TOP / "examples/console.session").read_text()
     return made
 

@@ -1,7 +1,8 @@
 #!/usr/bin/env bash
-# Tries the built program as a user would: `varn serve` on a free loopback port before a backend of its own, asked by curl
-# and, where a client has to be rude, by python3. A line for each check; status 1 where one fails. What it starts it ends,
-# also where it fails or is interrupted, in under 20 seconds.
+# Tries the built program as a user would: how it ends and with which status, the sessions of examples/, and `varn serve` on a
+# free loopback port before a backend of its own, asked by curl and, where a client has to be rude, by python3. A line for
+# each check; status 1 where one fails. What it starts it ends, also where it fails or is interrupted. On a free machine it
+# takes some 20 seconds.
 #
 #   tools/smoke.sh [FILE]     the built program; without it the one that PROGRAM names, or else crates/varn/out/varn
 set -u
@@ -63,6 +64,45 @@ gets() {
   done
 }
 
+# ---- how it ends
+
+# ends STATUS TEXT WORDS..: the program ends with this status, and says a line that this pattern is found in
+ends() {
+  local wanted=$1 said=$2
+  shift 2
+  "$program" "$@" < "$work/stdin" > "$work/reply" 2>&1
+  [ $? = "$wanted" ] && grep --quiet -- "$said" "$work/reply"
+}
+# given LINE..: what the program is given at its standard input
+given() { printf '%s\n' "$@" > "$work/stdin"; }
+request='req 1 "GET / HTTP/1.1\r\nHost: h\r\n\r\n"'
+
+given 'cli ping' end
+check "help: status 0" ends 0 'usage: ' --help
+check "a session: status 0" ends 0 'PONG' replay
+check "no words: status 2" ends 2 'serve or replay'
+check "a word that isn't known: status 2" ends 2 '--rooms' replay --rooms 1
+check "an option is missing: status 2" ends 2 '--conns' serve --listen 8000 --vcl x --workers 1
+given "$request" 'nothing' end
+check "a line without a meaning: status 3" ends 3 'line 2 kind 2' replay
+given "$request" end
+check "an exchange under way at the end: status 3" ends 3 'line 2 kind 8' replay
+check "a history that gets full: status 9" ends 9 'history' replay --history 100
+"$program" replay < "$work/stdin" > /dev/full 2> "$work/reply"
+ended=$?
+check "standard output takes nothing: status 5" [ $ended = 5 ]
+check "a VCL that can't be read: status 4" ends 4 "can't be read" serve --listen 8000 --vcl "$work" --workers 1 --conns 1
+check "no such VCL: status 8" ends 8 'no such file' serve --listen 8000 --vcl "$work/none" --workers 1 --conns 1
+printf 'vcl 4.1;\nbackend default none;\nsub vcl_recv { return (pipe); }\n' > "$work/pipe.vcl"
+check "a VCL that is refused: status 8" ends 8 'line 3, column 24' serve --listen 8000 --vcl "$work/pipe.vcl" --workers 1 --conns 1
+check "its place and kind" grep --quiet --line-regexp 'place 54 kind 5' "$work/reply"
+check "a caret below it" grep --quiet --line-regexp ' *^' "$work/reply"
+
+plays() { "$program" replay < "$1" > "$work/reply" 2>&1 && cmp --silent "$work/reply" "${1%.session}.transcript"; }
+for session in examples/sessions/*.session; do
+  check "${session#examples/}" plays "$session"
+done
+
 # ---- the backend, and the program before it
 
 python3 tools/smoke_backend.py > "$work/port" &
@@ -73,6 +113,8 @@ done
 backend=$(cat "$work/port")
 nobody=$(free_port)
 port=$(free_port)
+printf 'vcl 4.1;\nbackend default none;\n' > "$work/none.vcl"
+check "a port that is taken: status 7" ends 7 'port' serve --listen "$backend" --vcl "$work/none.vcl" --workers 1 --conns 1
 site=http://127.0.0.1:$port
 
 cat > "$work/site.vcl" <<VCL
@@ -135,7 +177,7 @@ for _ in {1..200}; do
   sleep 0.05
 done
 check "the program listens, and a first page comes" gets 200 'X-Cache: MISS' '/first asked 1 times'
-[ $failed = 0 ] || { cat "$work/said" "$work/errors"; echo "$passed passed, $failed failed"; exit 1; }
+status 200 || { cat "$work/said" "$work/errors"; echo "$passed passed, $failed failed"; exit 1; }
 
 # ---- checks that take their time, beside the others
 

@@ -8,7 +8,11 @@
 set -euo pipefail
 cd "$(dirname "$0")/.."
 case ${1:-} in
-  --all) set -- $(ls edits) ;;
+  --all)
+    cd edits
+    set -- *
+    cd ..
+    ;;
   '' | -*) sed -n '/^#  /s/^# *//p' "$0" >&2; exit 2 ;;
 esac
 for crate in "$@"; do

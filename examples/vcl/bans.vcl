@@ -1,7 +1,8 @@
 # Bans of many pages at once: BAN with a field X-Ban-Request or X-Ban-Object, which has a pattern of URLs, without
 # blanks. A ban of the first kind is tested on a page when it is next asked for, with that request. One of the second
 # kind names no field of a request, so a lurker can test it while nobody asks: for that each page is stored with its
-# host and its URL, which clients aren't sent.
+# host and its URL, which clients aren't sent. Who may ban is told by the address alone: behind a proxy a key is wanted too,
+# as in purge.vcl.
 vcl 4.1;
 
 backend default {

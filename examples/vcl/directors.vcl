@@ -1,5 +1,5 @@
-# Two backends that take turns. One that is sick is passed over, and a fetch that fails is made once more with the
-# next one.
+# Two backends that take turns. One that is sick is passed over. A fetch by GET or HEAD that fails is made once more with
+# the next one; one by another method isn't, since the first backend may have done what it asks for.
 vcl 4.1;
 
 import directors;
@@ -25,7 +25,7 @@ sub vcl_recv {
 }
 
 sub vcl_backend_error {
-  if (bereq.retries == 0) {
+  if (bereq.retries == 0 && (bereq.method == "GET" || bereq.method == "HEAD")) {
     return (retry);
   }
 }

@@ -1,6 +1,7 @@
 # Old pages where the backend is sick: a page is kept for an hour behind its lifetime. While the backend answers, it is
 # sent for ten seconds of that at most, and fetched anew behind the response. Where a fetch fails, or the backend is
-# sick, the request begins once more without these ten seconds, so that whatever is left of the page is sent.
+# sick, a GET or HEAD begins once more without these ten seconds, so that whatever is left of the page is sent. Other
+# requests begin once alone: the backend may have done what a POST asked for though its reply didn't come.
 vcl 4.1;
 
 backend default {
@@ -19,7 +20,7 @@ sub vcl_backend_response {
 }
 
 sub vcl_deliver {
-  if (resp.status == 503 && req.restarts == 0) {
+  if (resp.status == 503 && req.restarts == 0 && (req.method == "GET" || req.method == "HEAD")) {
     return (restart);
   }
 }

@@ -1,6 +1,7 @@
 # Tags: the site names in a field `xkey` what a page is about, and PURGE takes all pages with one of the tags in X-Purge
 # out of the cache. Those with one in X-Softpurge are only over: they are sent in their grace, here of a minute, and
-# fetched anew behind the response. The answer says how many pages there were.
+# fetched anew behind the response. The answer says how many pages there were. Who may purge is told by the address alone:
+# behind a proxy a key is wanted too, as in purge.vcl.
 vcl 4.1;
 
 import xkey;
