@@ -27,6 +27,8 @@ use vmod_host::{
     toupper,
 };
 
+// The functions of `std`; behind them a second one of a name, and two that are named like the method by which a director takes a
+// backend. Rows read the signatures of these three alone, and never call them.
 fn main(rt: HostRuntime) -> io::Result<()> {
     let alloc = rt.alloc();
     let text = [Kind::String];
@@ -40,7 +42,8 @@ fn main(rt: HostRuntime) -> io::Result<()> {
         Kind::Int,
     )?;
     let length = Signature::of(alloc, b"std", b"strlen", &text, Kind::Int)?;
-    let usual = [
+    let (second, by_number, by_text) = uncalled(alloc)?;
+    let list = [
         Vmod {
             tag: TOLOWER,
             signature: lower,
@@ -61,43 +64,39 @@ fn main(rt: HostRuntime) -> io::Result<()> {
             signature: length,
             call: strlen,
         },
+        Vmod {
+            tag: 99,
+            signature: second,
+            call: no_answer,
+        },
+        Vmod {
+            tag: 100,
+            signature: by_number,
+            call: no_answer,
+        },
+        Vmod {
+            tag: 101,
+            signature: by_text,
+            call: no_answer,
+        },
     ];
-    with_more(&rt, Vec::from_array(alloc, usual)?)
+    with_list(&rt, Vec::from_array(alloc, list)?)
 }
 
-// Behind the functions of `std` there are a second one of a name, and two that are named like the method by which a director
-// takes a backend. Rows read their signatures alone, and never call them.
-fn with_more(rt: &HostRuntime, mut list: Vec<Vmod>) -> io::Result<()> {
-    let alloc = rt.alloc();
-    let text = [Kind::String];
-    list.push(Vmod {
-        tag: 99,
-        signature: Signature::of(alloc, b"std", b"toupper", &text, Kind::String)?,
-        call: no_answer,
-    })?;
-    list.push(Vmod {
-        tag: 100,
-        signature: Signature::of(
-            alloc,
-            b"m",
-            b"add_backend",
-            &[Kind::String, Kind::Int],
-            Kind::Int,
-        )?,
-        call: no_answer,
-    })?;
-    list.push(Vmod {
-        tag: 101,
-        signature: Signature::of(
-            alloc,
-            b"n",
-            b"add_backend",
-            &[Kind::String, Kind::String],
-            Kind::Int,
-        )?,
-        call: no_answer,
-    })?;
-    match VmodTable::of(alloc, list) {
+// The signatures of the functions that are never called.
+fn uncalled(alloc: Global) -> Result<(Signature, Signature, Signature), AllocError> {
+    let second = Signature::of(alloc, b"std", b"toupper", &[Kind::String], Kind::String)?;
+    let by_number = method_like(alloc, b"m", Kind::Int)?;
+    Ok((second, by_number, method_like(alloc, b"n", Kind::String)?))
+}
+
+fn method_like(alloc: Global, module_name: &[u8], weight: Kind) -> Result<Signature, AllocError> {
+    let takes = [Kind::String, weight];
+    Signature::of(alloc, module_name, b"add_backend", &takes, Kind::Int)
+}
+
+fn with_list(rt: &HostRuntime, list: Vec<Vmod>) -> io::Result<()> {
+    match VmodTable::of(rt.alloc(), list) {
         Ok(vmods) => read_rows(rt, &vmods),
         Err(_) => println!(rt; "no table of stored functions"),
     }
