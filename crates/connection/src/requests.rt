@@ -43,7 +43,8 @@ fn frame_request(head: &RequestHead) -> Result<Framing, Stop>
 
 /// Reads the next request, whose body has at most 1,048,576 bytes. What stands behind it is held. None is the end of the
 /// input between requests. `Early`, `BadHead`, `BadBody` and `TooLarge` say that no request stands there: the input ends
-/// inside it; its head is refused, has two Host fields or an absolute target without an authority; its fields frame no body, or the body breaks; it is too large.
+/// inside it; its head is refused, has two Host fields or an absolute target without an authority; its fields frame no body,
+/// or the body breaks; it is too large.
 pub fn read_request<L: Link>(
     alloc: Global,
     link: &mut L,
