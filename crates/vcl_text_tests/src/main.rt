@@ -1,23 +1,18 @@
-//! Rows for what reads a VCL text: values, tables of names, stored functions, tokens, trees and checks. A row's first word names
-//! the call, and behind ` => ` stands what is to be said of the rest; a row of `parse` or `check` has it in front of its text
-//! (`refusals.rt`). The program prints the rows that go otherwise, and how many rows there are.
+//! Rows for what reads a VCL text: tokens, trees and checks, with a table of stored functions. A row's first word names the call,
+//! and behind ` => ` stands what is to be said of the rest; a row of `parse` or `check` has it in front of its text (`refusals.rt`).
+//! The program prints the rows that go otherwise, and how many rows there are.
 #![tactic(auto)]
 
 ghost use Rattle.std.specs.Prelude.{IsErr};
 
 mod expressions;
 mod faults;
-mod functions;
 mod items;
-mod names;
-mod patterns;
 mod refusals;
 mod repeated;
-mod samples;
 mod statements;
-mod symbols;
+mod stored;
 mod tokens;
-mod values;
 
 use std::alloc::{AllocError, Global};
 use std::io;
@@ -27,8 +22,7 @@ use vmod_host::{
     toupper,
 };
 
-// The functions of `std`; behind them a second one of a name, and two that are named like the method by which a director takes a
-// backend. Rows read the signatures of these three alone, and never call them.
+// The functions of `std`, and behind them those that are never called, whose signatures alone rows read.
 fn main(rt: HostRuntime) -> io::Result<()> {
     let alloc = rt.alloc();
     let text = [Kind::String];
@@ -42,8 +36,7 @@ fn main(rt: HostRuntime) -> io::Result<()> {
         Kind::Int,
     )?;
     let length = Signature::of(alloc, b"std", b"strlen", &text, Kind::Int)?;
-    let (second, by_number, by_text) = uncalled(alloc)?;
-    let list = [
+    let usual = [
         Vmod {
             tag: TOLOWER,
             signature: lower,
@@ -64,35 +57,49 @@ fn main(rt: HostRuntime) -> io::Result<()> {
             signature: length,
             call: strlen,
         },
-        Vmod {
-            tag: 99,
-            signature: second,
-            call: no_answer,
-        },
-        Vmod {
-            tag: 100,
-            signature: by_number,
-            call: no_answer,
-        },
-        Vmod {
-            tag: 101,
-            signature: by_text,
-            call: no_answer,
-        },
     ];
-    with_list(&rt, Vec::from_array(alloc, list)?)
+    let mut list = Vec::from_array(alloc, usual)?;
+    let mut tag: u32 = 99;
+    for signature in uncalled(alloc)? {
+        list.push(Vmod {
+            tag,
+            signature,
+            call: no_answer,
+        })?;
+        tag = tag.wrapping_add(1);
+    }
+    with_list(&rt, list)
 }
 
-// The signatures of the functions that are never called.
-fn uncalled(alloc: Global) -> Result<(Signature, Signature, Signature), AllocError> {
-    let second = Signature::of(alloc, b"std", b"toupper", &[Kind::String], Kind::String)?;
-    let by_number = method_like(alloc, b"m", Kind::Int)?;
-    Ok((second, by_number, method_like(alloc, b"n", Kind::String)?))
+// A second function of a name, and two that are named like the method by which a director takes a backend.
+fn uncalled(alloc: Global) -> Result<Vec<Signature>, AllocError> {
+    let mut list = Vec::new(alloc);
+    push_function(
+        alloc,
+        &mut list,
+        b"std",
+        b"toupper",
+        &[Kind::String],
+        Kind::String,
+    )?;
+    let number = [Kind::String, Kind::Int];
+    push_function(alloc, &mut list, b"m", b"add_backend", &number, Kind::Int)?;
+    let text = [Kind::String, Kind::String];
+    push_function(alloc, &mut list, b"n", b"add_backend", &text, Kind::Int)?;
+    Ok(list)
 }
 
-fn method_like(alloc: Global, module_name: &[u8], weight: Kind) -> Result<Signature, AllocError> {
-    let takes = [Kind::String, weight];
-    Signature::of(alloc, module_name, b"add_backend", &takes, Kind::Int)
+fn push_function(
+    alloc: Global,
+    list: &mut Vec<Signature>,
+    module_name: &[u8],
+    name: &[u8],
+    takes: &[Kind],
+    gives: Kind,
+) -> Result<(), AllocError> {
+    let signature = Signature::of(alloc, module_name, name, takes, gives)?;
+    list.push(signature)?;
+    Ok(())
 }
 
 fn with_list(rt: &HostRuntime, list: Vec<Vmod>) -> io::Result<()> {
@@ -143,33 +150,14 @@ fn unless_same(said: String, wanted: &str) -> Option<String> {
 
 fn said(alloc: Global, vmods: &VmodTable, word: &str, row: &str) -> Result<String, AllocError> {
     match word {
-        "value" => values::value_shown(alloc, row),
-        "compare" => values::comparison_shown(alloc, row),
-        "sum" | "difference" => values::sum_shown(alloc, word, row),
-        "pattern" => patterns::pattern_shown(alloc, row),
-        "first" | "all" => patterns::replaced_shown(alloc, word, row),
-        "tolower" | "toupper" | "strlen" => functions::answer_shown(alloc, word, row),
-        "integer" => functions::integer_shown(alloc, row),
-        "copied" => functions::copies_shown(alloc, row),
-        "twice" => functions::table_shown(alloc),
-        "stored" | "tag" => functions::stored_shown(alloc, vmods, word, row),
+        "stored" | "tag" => stored::stored_shown(alloc, vmods, word, row),
         "expression" => expressions::expression_shown(alloc, row),
         "statement" => statements::statement_shown(alloc, row),
         "items" => items::items_shown(alloc, row),
-        _ => said_below(alloc, word, row),
-    }
-}
-
-// What is said where no text is parsed.
-fn said_below(alloc: Global, word: &str, row: &str) -> Result<String, AllocError> {
-    match word {
         "tokens" => tokens::tokens_shown(alloc, row),
         "alone" => tokens::alone_shown(alloc),
         "refusal" => faults::refusal_shown(alloc, row),
         "before" => faults::order_shown(alloc, row),
-        "find" => symbols::place_shown(alloc, row),
-        "reached" => symbols::reached_shown(alloc, row),
-        "circle" => symbols::circle_shown(alloc, row),
-        _ => names::name_shown(alloc, word, row),
+        _ => format!(in alloc; "no such row"),
     }
 }
