@@ -1,19 +1,13 @@
-//! Rows for the libraries of messages: `http_heads`, `http_bodies`, `freshness`, `seen_request` and `delivery`. Each line of the
-//! input has a call's name with what it gets and, behind ` => `, what is to be said of it. The program prints the rows that go
-//! otherwise, and how many rows there are.
+//! Rows for messages: heads of `http_heads`, `freshness`, `seen_request` and `delivery`. Each line of the input has a call's name
+//! with what it gets and, behind ` => `, what is to be said of it. The program prints the rows that go otherwise, and how many rows
+//! there are.
 #![tactic(auto)]
 
-mod bodies;
 mod changes;
 mod delivering;
-mod fields;
-mod framing;
 mod heads;
-mod lists;
-mod merging;
 mod seeing;
 mod serving;
-mod texts;
 
 use std::alloc::{AllocError, Global};
 use std::io;
@@ -40,19 +34,9 @@ fn said(alloc: Global, row: &str) -> Result<String, AllocError> {
         "request" => heads::request_shown(alloc, rest),
         "response" => heads::response_shown(alloc, rest),
         "asked" | "answered" => changes::changes_shown(alloc, word, rest),
-        "is_listed" => lists::is_listed_shown(alloc, rest),
-        "listed" => lists::listed_shown(alloc, rest),
-        "split" => lists::split_shown(alloc, rest),
-        "added" => fields::added_shown(alloc, rest),
-        "unframed" => framing::unframed_shown(alloc, rest),
-        "with_length" => framing::lengthened_shown(alloc, rest),
-        "fields" => framing::frames_shown(alloc, rest),
-        "status" => framing::kinds_shown(alloc, rest),
         "timing" => serving::timing_shown(alloc, rest),
         "unchanged" => serving::unchanged_shown(alloc, rest),
         "kept" => serving::kept_shown(alloc, rest),
-        "merged" => merging::merged_shown(alloc, rest),
-        "many" => merging::many_shown(alloc, rest),
         "see" => seeing::seen_shown(alloc, rest),
         "one_site" => seeing::one_site_shown(alloc, rest),
         "delivered" => delivering::delivered_shown(alloc, false, rest),
@@ -61,6 +45,6 @@ fn said(alloc: Global, row: &str) -> Result<String, AllocError> {
         "failure_page" => delivering::failure_page_shown(alloc),
         "age" => delivering::age_shown(alloc, rest),
         "reason" => delivering::reason_shown(alloc, rest),
-        _ => bodies::body_shown(alloc, word, rest),
+        _ => format!(in alloc; "no such row"),
     }
 }

@@ -1,5 +1,5 @@
 // Listeners in memory.
-use crate::settings::{number, numbers};
+use row_settings::{number, numbers};
 use std::alloc::{AllocError, Global};
 use std::collections::VecDeque;
 use wire::Plan;

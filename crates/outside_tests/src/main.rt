@@ -7,7 +7,6 @@ mod doors;
 mod listeners;
 mod memory_world;
 mod numbering;
-mod settings;
 mod system_world;
 mod together;
 mod working;

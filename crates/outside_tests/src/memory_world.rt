@@ -3,7 +3,7 @@ use crate::worlds::small_world;
 use std::alloc::{AllocError, Global};
 use units::Text;
 use wire::{Clock, Failed, FailingLink, Kept, write_link};
-use world::{Gate, Listener, OpenGate, Place, ShelfError, World};
+use world::{FailingWorld, Gate, Listener, OpenGate, Place, ShelfError, World};
 
 /// What each of the files is found to have.
 pub fn push_files<W: World>(
@@ -14,35 +14,30 @@ pub fn push_files<W: World>(
 ) -> Result<(), AllocError> {
     for name in names.split(' ') {
         let name = Text::of(alloc, name.as_bytes())?;
-        match world.shelf(&name) {
-            Ok(Some(text)) => write!(out, " {text:?}")?,
-            Ok(None) => out.push_str(" none")?,
-            Err(ShelfError::Failed) => out.push_str(" failed")?,
-            Err(ShelfError::NoMemory) => return Err(AllocError),
-        }
+        push_file(out, world.shelf(&name))?;
     }
     Ok(())
 }
 
-// What the small world's files have.
-fn files_shown(alloc: Global, row: &str) -> Result<String, AllocError> {
-    let mut world = small_world(alloc)?;
-    let mut out = String::new(alloc);
-    push_files(alloc, &mut out, &mut world, row)?;
-    Ok(out)
+fn push_file(out: &mut String, found: Result<Option<Text>, ShelfError>) -> Result<(), AllocError> {
+    match found {
+        Ok(Some(text)) => write!(out, " {text:?}"),
+        Ok(None) => out.push_str(" none"),
+        Err(ShelfError::Failed) => out.push_str(" failed"),
+        Err(ShelfError::NoMemory) => Err(AllocError),
+    }
 }
 
 // Whether a kit is told before one was handed back, what its clock tells, whether there is another one, and whether it is told
 // then.
-fn kits_shown(alloc: Global) -> Result<String, AllocError> {
-    let mut world = small_world(alloc)?;
+fn push_kits(out: &mut String, world: &mut FailingWorld) -> Result<(), AllocError> {
     let before = world.latest_kit().is_some();
     let mut kit = world.kit()?;
     let moment = kit.clock.now();
     world.keep_kit(kit);
     let another = world.kit().is_ok();
     let behind = world.latest_kit().is_some();
-    format!(in alloc; "{before} {moment} {another} {behind}")
+    write!(out, "{before} {moment} {another} {behind}")
 }
 
 // Greets each connection that comes, and hands it back. How often accepting failed.
@@ -74,12 +69,9 @@ fn push_greetings<W: World>(out: &mut String, world: &mut W, port: u16) -> Resul
 }
 
 // What comes of listening at each of the ports in turn.
-fn listeners_shown(alloc: Global, row: &str) -> Result<String, AllocError> {
-    OpenGate.point(1, Place::Called);
-    let mut world = small_world(alloc)?;
-    let mut out = String::new(alloc);
+fn push_listeners(out: &mut String, world: &mut FailingWorld, row: &str) -> Result<(), AllocError> {
     for port in row.split(' ') {
-        push_greetings(&mut out, &mut world, port.parse::<u16>().unwrap_or(0))?;
+        push_greetings(out, world, port.parse::<u16>().unwrap_or(0))?;
     }
     let (faults, ended) = (world.listen_faults(), world.ended());
     write!(
@@ -87,8 +79,7 @@ fn listeners_shown(alloc: Global, row: &str) -> Result<String, AllocError> {
         "ports {:?} faults {faults} ended {ended}",
         world.ports()
     )?;
-    push_links(&mut out, world.latest_link())?;
-    Ok(out)
+    push_links(out, world.latest_link())
 }
 
 // Adds what each link took, the one that was handed back last first.
@@ -110,12 +101,26 @@ fn push_links(out: &mut String, latest: Option<&Kept<FailingLink>>) -> Result<()
     Ok(())
 }
 
-/// What is said of the row.
+/// What is said of the row, by a small world of its own.
 pub fn memory_shown(alloc: Global, word: &str, row: &str) -> Result<String, AllocError> {
+    OpenGate.point(1, Place::Called);
+    let mut world = small_world(alloc)?;
+    let mut out = String::new(alloc);
+    push_said(alloc, &mut out, &mut world, word, row)?;
+    Ok(out)
+}
+
+fn push_said(
+    alloc: Global,
+    out: &mut String,
+    world: &mut FailingWorld,
+    word: &str,
+    row: &str,
+) -> Result<(), AllocError> {
     match word {
-        "files" => files_shown(alloc, row),
-        "kits" => kits_shown(alloc),
-        "listen" => listeners_shown(alloc, row),
-        _ => format!(in alloc; "no such row"),
+        "files" => push_files(alloc, out, world, row),
+        "kits" => push_kits(out, world),
+        "listen" => push_listeners(out, world, row),
+        _ => out.push_str("no such row"),
     }
 }

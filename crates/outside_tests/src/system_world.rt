@@ -105,58 +105,87 @@ fn push_waits<A: Link>(
     Ok(write!(out, "after {seconds} s faults {} ", near.read_faults)?)
 }
 
-// A connection comes, is used as the word says, and is handed back.
-fn connection_shown(
+// How a connection is used, as the word says.
+fn push_use<A: Link>(
     rt: HostRuntime,
+    out: &mut String,
+    far: &mut A,
+    near: &mut PortLink,
+    word: &str,
+) -> io::Result<()> {
+    match word {
+        "waits" => push_waits(rt, out, far, near),
+        _ => push_talk(out, far, near),
+    }
+}
+
+// A connection comes to the port, is used, and is handed back.
+fn push_connection(
+    rt: HostRuntime,
+    out: &mut String,
     world: &mut SystemWorld<HostRuntime>,
     listener: &mut PortListener<TcpListener>,
     word: &str,
-) -> io::Result<String> {
+) -> io::Result<()> {
     let port = listener.listener.local_addr()?.port();
     let mut kit = world.kit()?;
     let mut far = dialed(rt.alloc(), &mut kit.dialer, port)?;
     let (mut near, address) = accepted(listener)?;
-    let mut out = format!(in rt.alloc(); "{address:?} ")?;
-    match word {
-        "waits" => push_waits(rt, &mut out, &mut far, &mut near)?,
-        _ => push_talk(&mut out, &mut far, &mut near)?,
-    }
+    write!(out, "{address:?} ")?;
+    let used = push_use(rt, out, &mut far, &mut near, word);
     world.keep_link(near);
     kit.dialer.hang_up(far);
     world.keep_kit(kit);
-    Ok(out)
+    used
 }
 
-// The same behind a listener, whose port is taken meanwhile.
-fn port_shown(rt: HostRuntime, word: &str) -> io::Result<String> {
-    let mut world = SystemWorld::new(rt, HOME);
-    let mut listener = world.listen(0).map_err(|_| broken())?;
-    let mut out = connection_shown(rt, &mut world, &mut listener, word)?;
+// The same, and whether the port is taken meanwhile.
+fn push_listener(
+    rt: HostRuntime,
+    out: &mut String,
+    world: &mut SystemWorld<HostRuntime>,
+    listener: &mut PortListener<TcpListener>,
+    word: &str,
+) -> io::Result<()> {
+    push_connection(rt, out, world, listener, word)?;
     let port = listener.listener.local_addr()?.port();
     let taken = world.listen(port).is_err();
+    Ok(write!(out, "taken {taken} ")?)
+}
+
+// The same of a listener that is handed back.
+fn push_port(
+    rt: HostRuntime,
+    out: &mut String,
+    world: &mut SystemWorld<HostRuntime>,
+    word: &str,
+) -> io::Result<()> {
+    let mut listener = world.listen(0).map_err(|_| broken())?;
+    let used = push_listener(rt, out, world, &mut listener, word);
     world.retire(listener);
-    write!(
-        out,
-        "taken {taken} kept {} faults {}",
-        world.kept, world.listen_faults
-    )?;
-    Ok(out)
+    used
 }
 
-// What the files have, and how many of them failed.
-fn files_shown(rt: HostRuntime, row: &str) -> Result<String, AllocError> {
-    let mut world = SystemWorld::new(rt, HOME);
-    let mut out = String::new(rt.alloc());
-    push_files(rt.alloc(), &mut out, &mut world, row)?;
-    write!(out, " faults {}", world.shelf_faults)?;
-    Ok(out)
-}
-
-/// What is said of a connection or of files.
+/// What is said of a connection or of files, and what the world counts of it.
 pub fn system_shown(rt: HostRuntime, row: &str) -> io::Result<String> {
     let (word, rest) = row.split_once(' ').unwrap_or((row, ""));
-    match word {
-        "files" => Ok(files_shown(rt, rest)?),
-        _ => port_shown(rt, word),
+    let mut world = SystemWorld::new(rt, HOME);
+    let mut out = String::new(rt.alloc());
+    push_said(rt, &mut out, &mut world, word, rest)?;
+    Ok(out)
+}
+
+fn push_said(
+    rt: HostRuntime,
+    out: &mut String,
+    world: &mut SystemWorld<HostRuntime>,
+    word: &str,
+    row: &str,
+) -> io::Result<()> {
+    if word == "files" {
+        push_files(rt.alloc(), out, world, row)?;
+        return Ok(write!(out, " faults {}", world.shelf_faults)?);
     }
+    push_port(rt, out, world, word)?;
+    Ok(write!(out, "kept {} faults {}", world.kept, world.listen_faults)?)
 }

@@ -2,8 +2,8 @@
 ghost use Rattle.std.specs.Prelude.{◌≡◌, ◌+◌, ◌<◌};
 
 use crate::listeners::listener_of;
-use crate::settings::number;
 use entrance::{Door, Quota};
+use row_settings::number;
 use std::alloc::{AllocError, Global};
 use std::marker::Brand;
 use std::sync::Wait;
@@ -11,8 +11,8 @@ use std::sync::ledger::{Blank, Ledger, Share};
 use std::thread::{Threads, join};
 use world::{AcceptedLink, FailingListener};
 
-// A connection's number, the last part of its address.
-fn number_of(one: (AcceptedLink, [u8; 4])) -> u8 {
+/// A connection's number, the last part of its address.
+pub fn number_of(one: (AcceptedLink, [u8; 4])) -> u8 {
     let (_, address) = one;
     address[3]
 }
@@ -65,6 +65,13 @@ fn ask_together<R: Threads + Wait + Sync, A: Quota + Send, B: Ledger + Send>(
             requires { (0 < theirs.parts) × (0 < their_leaving.parts) }
         { ask_on(rt, alloc, shared, theirs, their_leaving) },
     );
+    in_order(first, second)
+}
+
+fn in_order(
+    first: Result<Vec<u8>, AllocError>,
+    second: Result<Vec<u8>, AllocError>,
+) -> Result<Vec<u8>, AllocError> {
     let mut all = first?;
     all.append(&mut second?)?;
     all.sort()?;

@@ -3,14 +3,14 @@
 ghost use Rattle.std.specs.Prelude.{◌≡◌, ◌<◌};
 
 use crate::listeners::listener_of;
-use crate::numbering::Numbering;
-use crate::settings::number;
+use crate::numbering::{Numbering, Told};
 use entrance::{Door, Quota};
+use row_settings::number;
 use std::alloc::{AllocError, Global};
 use std::marker::Brand;
 use std::sync::Wait;
 use std::sync::ledger::{Blank, Ledger};
-use workers::{Worker, serve_worker};
+use workers::{Leave, Worker, serve_worker};
 use world::{AcceptedLink, FailingListener};
 
 fn took_by(alloc: Global, links: &[AcceptedLink]) -> Result<Vec<Vec<u8>>, AllocError> {
@@ -46,8 +46,21 @@ fn serve<R: Wait, A: Quota, B: Ledger>(
         leave: None,
     };
     let leave = serve_worker(rt, &Numbering, &(), &door, &mut worker);
-    let took = took_by(alloc, worker.links.as_slice())?;
-    let told = &worker.transcripts;
+    served_shown(
+        alloc,
+        &leave,
+        worker.transcripts.as_slice(),
+        worker.links.as_slice(),
+    )
+}
+
+fn served_shown(
+    alloc: Global,
+    leave: &Result<Leave, AllocError>,
+    told: &[Told],
+    links: &[AcceptedLink],
+) -> Result<String, AllocError> {
+    let took = took_by(alloc, links)?;
     format!(in alloc; "{leave:?} {told:?} {took:?}")
 }
 

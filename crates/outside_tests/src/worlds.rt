@@ -22,13 +22,11 @@ fn arrivals(alloc: Global) -> Result<VecDeque<Coming>, AllocError> {
     Ok(arrivals)
 }
 
-fn listening(alloc: Global) -> Result<VecDeque<Listening>, AllocError> {
-    let mut listening = VecDeque::new(alloc);
-    listening.push_back(Listening {
+fn listening(alloc: Global) -> Result<Listening, AllocError> {
+    Ok(Listening {
         coming: arrivals(alloc)?,
         failing: vec![in alloc; 1]?,
-    })?;
-    Ok(listening)
+    })
 }
 
 fn file(alloc: Global) -> Result<File, AllocError> {
@@ -50,18 +48,49 @@ fn kit(alloc: Global) -> Result<PlannedKit, AllocError> {
     )
 }
 
-fn kits(alloc: Global) -> Result<VecDeque<PlannedKit>, AllocError> {
-    let mut kits = VecDeque::new(alloc);
-    kits.push_back(kit(alloc)?)?;
-    Ok(kits)
+// What a world is made of.
+#[derive(Drop)]
+struct Parts {
+    listening: VecDeque<Listening>,
+    failing_listens: Vec<u64>,
+    files: Vec<File>,
+    failing_shelves: Vec<u64>,
+    kits: VecDeque<PlannedKit>,
+}
+
+fn fill(alloc: Global, parts: &mut Parts) -> Result<(), AllocError> {
+    parts.listening.push_back(listening(alloc)?)?;
+    parts.failing_listens.push(1)?;
+    parts.files.push(file(alloc)?)?;
+    parts.failing_shelves.push(1)?;
+    parts.kits.push_back(kit(alloc)?)?;
+    Ok(())
 }
 
 /// One listener, to which two connections come and whose second call fails; one file; one kit, whose clock tells 5. The second
 /// listening and the second reading of a file fail.
 pub fn small_world(alloc: Global) -> Result<FailingWorld, AllocError> {
-    let listening = listening(alloc)?;
-    let kits = kits(alloc)?;
-    let files = vec![in alloc; file(alloc)?]?;
-    let second = vec![in alloc; 1]?;
-    Ok(FailingWorld::new(alloc, listening, vec![in alloc; 1]?, files, second, kits))
+    let mut parts = Parts {
+        listening: VecDeque::new(alloc),
+        failing_listens: Vec::new(alloc),
+        files: Vec::new(alloc),
+        failing_shelves: Vec::new(alloc),
+        kits: VecDeque::new(alloc),
+    };
+    fill(alloc, &mut parts)?;
+    let Parts {
+        listening,
+        failing_listens,
+        files,
+        failing_shelves,
+        kits,
+    } = parts;
+    Ok(FailingWorld::new(
+        alloc,
+        listening,
+        failing_listens,
+        files,
+        failing_shelves,
+        kits,
+    ))
 }

@@ -3,7 +3,7 @@ use crate::statements::first_statement;
 use std::alloc::{AllocError, Global};
 use units::Text;
 use vcl_parse::parse;
-use vcl_tree::{Action, Addend, Addition, Expression, Operation};
+use vcl_tree::{Action, Addend, Addition, Comparison, Expression, Operation};
 
 /// What an expression is made of.
 pub fn expression_shown(alloc: Global, text: &str) -> Result<String, AllocError> {
@@ -23,26 +23,20 @@ pub fn expression_shown(alloc: Global, text: &str) -> Result<String, AllocError>
 fn push_expression(out: &mut String, expression: &Expression) -> Result<(), AllocError> {
     out.push_str(word_of(expression))?;
     match &expression.operation {
-        Operation::Any(first, second, others) => {
-            push_pair(out, first, second)?;
-            push_all(out, others.as_slice())
-        }
-        Operation::All(first, second, others) => {
-            push_pair(out, first, second)?;
-            push_all(out, others.as_slice())
-        }
-        Operation::Compare(how, left, right) => {
-            write!(out, " {how:?}")?;
-            push_pair(out, left, right)
-        }
-        Operation::Sum(first, second, others) => {
-            push_part(out, first)?;
-            push_addend(out, second)?;
-            for addend in others.as_slice() {
-                push_addend(out, addend)?;
-            }
-            Ok(())
-        }
+        Operation::Any(first, second, others) => push_operands(
+            out,
+            first,
+            second,
+            others.as_slice(),
+        ),
+        Operation::All(first, second, others) => push_operands(
+            out,
+            first,
+            second,
+            others.as_slice(),
+        ),
+        Operation::Compare(how, left, right) => push_comparison(out, *how, left, right),
+        Operation::Sum(first, second, others) => push_sum(out, first, second, others.as_slice()),
         Operation::Not(_, operand) => push_part(out, operand),
         Operation::Group(_, operand) => push_part(out, operand),
         Operation::Call(_, _, arguments) => push_all(out, arguments.as_slice()),
@@ -57,9 +51,40 @@ fn push_all(out: &mut String, parts: &[Expression]) -> Result<(), AllocError> {
     Ok(())
 }
 
-fn push_pair(out: &mut String, left: &Expression, right: &Expression) -> Result<(), AllocError> {
+fn push_operands(
+    out: &mut String,
+    first: &Expression,
+    second: &Expression,
+    others: &[Expression],
+) -> Result<(), AllocError> {
+    push_part(out, first)?;
+    push_part(out, second)?;
+    push_all(out, others)
+}
+
+fn push_comparison(
+    out: &mut String,
+    how: Comparison,
+    left: &Expression,
+    right: &Expression,
+) -> Result<(), AllocError> {
+    write!(out, " {how:?}")?;
     push_part(out, left)?;
     push_part(out, right)
+}
+
+fn push_sum(
+    out: &mut String,
+    first: &Expression,
+    second: &Addend,
+    others: &[Addend],
+) -> Result<(), AllocError> {
+    push_part(out, first)?;
+    push_addend(out, second)?;
+    for addend in others {
+        push_addend(out, addend)?;
+    }
+    Ok(())
 }
 
 fn push_addend(out: &mut String, addend: &Addend) -> Result<(), AllocError> {

@@ -1,23 +1,18 @@
-//! Rows for what reads a VCL text: values, tables of names, stored functions, tokens, trees and checks. A row's first word names
-//! the call, and behind ` => ` stands what is to be said of the rest; a row of `parse` or `check` has it in front of its text
-//! (`refusals.rt`). The program prints the rows that go otherwise, and how many rows there are.
+//! Rows for what reads a VCL text: tokens, trees and checks, with a table of stored functions. A row's first word names the call,
+//! and behind ` => ` stands what is to be said of the rest; a row of `parse` or `check` has it in front of its text (`refusals.rt`).
+//! The program prints the rows that go otherwise, and how many rows there are.
 #![tactic(auto)]
 
 ghost use Rattle.std.specs.Prelude.{IsErr};
 
 mod expressions;
 mod faults;
-mod functions;
 mod items;
-mod names;
-mod patterns;
 mod refusals;
 mod repeated;
-mod samples;
 mod statements;
-mod symbols;
+mod stored;
 mod tokens;
-mod values;
 
 use std::alloc::{AllocError, Global};
 use std::io;
@@ -27,6 +22,7 @@ use vmod_host::{
     toupper,
 };
 
+// The functions of `std`, and behind them those that are never called, whose signatures alone rows read.
 fn main(rt: HostRuntime) -> io::Result<()> {
     let alloc = rt.alloc();
     let text = [Kind::String];
@@ -62,81 +58,67 @@ fn main(rt: HostRuntime) -> io::Result<()> {
             call: strlen,
         },
     ];
-    with_more(&rt, Vec::from_array(alloc, usual)?)
+    let mut list = Vec::from_array(alloc, usual)?;
+    let mut tag: u32 = 99;
+    for signature in uncalled(alloc)? {
+        list.push(Vmod {
+            tag,
+            signature,
+            call: no_answer,
+        })?;
+        tag = tag.wrapping_add(1);
+    }
+    with_list(&rt, list)
 }
 
-// Behind the functions of `std` there are a second one of a name, and two that are named like the method by which a director
-// takes a backend. Rows read their signatures alone, and never call them.
-fn with_more(rt: &HostRuntime, mut list: Vec<Vmod>) -> io::Result<()> {
-    let alloc = rt.alloc();
-    let text = [Kind::String];
-    list.push(Vmod {
-        tag: 99,
-        signature: Signature::of(alloc, b"std", b"toupper", &text, Kind::String)?,
-        call: no_answer,
-    })?;
-    list.push(Vmod {
-        tag: 100,
-        signature: Signature::of(
-            alloc,
-            b"m",
-            b"add_backend",
-            &[Kind::String, Kind::Int],
-            Kind::Int,
-        )?,
-        call: no_answer,
-    })?;
-    list.push(Vmod {
-        tag: 101,
-        signature: Signature::of(
-            alloc,
-            b"n",
-            b"add_backend",
-            &[Kind::String, Kind::String],
-            Kind::Int,
-        )?,
-        call: no_answer,
-    })?;
-    with_unreached(alloc, &mut list)?;
-    match VmodTable::of(alloc, list) {
-        Ok(vmods) => read_rows(rt, &vmods),
-        Err(_) => println!(rt; "no table of stored functions"),
-    }
+// A second function of a name, two that are named like the method by which a director takes a backend, and four that no text
+// reaches.
+fn uncalled(alloc: Global) -> Result<Vec<Signature>, AllocError> {
+    let mut list = Vec::new(alloc);
+    push_function(
+        alloc,
+        &mut list,
+        b"std",
+        b"toupper",
+        &[Kind::String],
+        Kind::String,
+    )?;
+    let number = [Kind::String, Kind::Int];
+    push_function(alloc, &mut list, b"m", b"add_backend", &number, Kind::Int)?;
+    let text = [Kind::String, Kind::String];
+    push_function(alloc, &mut list, b"n", b"add_backend", &text, Kind::Int)?;
+    push_unreached(alloc, &mut list)?;
+    Ok(list)
 }
 
 // Functions that no text reaches: three of modules that are the language's own, and one that takes four arguments.
-fn with_unreached(alloc: Global, list: &mut Vec<Vmod>) -> Result<(), AllocError> {
+fn push_unreached(alloc: Global, list: &mut Vec<Signature>) -> Result<(), AllocError> {
     let text = [Kind::String];
+    push_function(alloc, list, b"xkey", b"size", &text, Kind::Int)?;
+    push_function(alloc, list, b"directors", b"size", &text, Kind::Int)?;
+    push_function(alloc, list, b"directors", b"backend", &text, Kind::Int)?;
     let four = [Kind::String, Kind::String, Kind::String, Kind::String];
-    push_unreached(
-        list,
-        102,
-        Signature::of(alloc, b"xkey", b"size", &text, Kind::Int)?,
-    )?;
-    push_unreached(
-        list,
-        103,
-        Signature::of(alloc, b"directors", b"size", &text, Kind::Int)?,
-    )?;
-    push_unreached(
-        list,
-        104,
-        Signature::of(alloc, b"directors", b"backend", &text, Kind::Int)?,
-    )?;
-    push_unreached(
-        list,
-        105,
-        Signature::of(alloc, b"std", b"four", &four, Kind::Int)?,
-    )
+    push_function(alloc, list, b"std", b"four", &four, Kind::Int)
 }
 
-fn push_unreached(list: &mut Vec<Vmod>, tag: u32, signature: Signature) -> Result<(), AllocError> {
-    list.push(Vmod {
-        tag,
-        signature,
-        call: no_answer,
-    })?;
+fn push_function(
+    alloc: Global,
+    list: &mut Vec<Signature>,
+    module_name: &[u8],
+    name: &[u8],
+    takes: &[Kind],
+    gives: Kind,
+) -> Result<(), AllocError> {
+    let signature = Signature::of(alloc, module_name, name, takes, gives)?;
+    list.push(signature)?;
     Ok(())
+}
+
+fn with_list(rt: &HostRuntime, list: Vec<Vmod>) -> io::Result<()> {
+    match VmodTable::of(rt.alloc(), list) {
+        Ok(vmods) => read_rows(rt, &vmods),
+        Err(_) => println!(rt; "no table of stored functions"),
+    }
 }
 
 fn no_answer(_alloc: Global, _arguments: &[Value]) -> Result<Value, AllocError>
@@ -180,33 +162,14 @@ fn unless_same(said: String, wanted: &str) -> Option<String> {
 
 fn said(alloc: Global, vmods: &VmodTable, word: &str, row: &str) -> Result<String, AllocError> {
     match word {
-        "value" => values::value_shown(alloc, row),
-        "compare" => values::comparison_shown(alloc, row),
-        "sum" | "difference" => values::sum_shown(alloc, word, row),
-        "pattern" => patterns::pattern_shown(alloc, row),
-        "first" | "all" => patterns::replaced_shown(alloc, word, row),
-        "tolower" | "toupper" | "strlen" => functions::answer_shown(alloc, word, row),
-        "integer" => functions::integer_shown(alloc, row),
-        "copied" => functions::copies_shown(alloc, row),
-        "twice" => functions::table_shown(alloc),
-        "stored" | "tag" => functions::stored_shown(alloc, vmods, word, row),
+        "stored" | "tag" => stored::stored_shown(alloc, vmods, word, row),
         "expression" => expressions::expression_shown(alloc, row),
         "statement" => statements::statement_shown(alloc, row),
         "items" => items::items_shown(alloc, row),
-        _ => said_below(alloc, word, row),
-    }
-}
-
-// What is said where no text is parsed.
-fn said_below(alloc: Global, word: &str, row: &str) -> Result<String, AllocError> {
-    match word {
         "tokens" => tokens::tokens_shown(alloc, row),
         "alone" => tokens::alone_shown(alloc),
         "refusal" => faults::refusal_shown(alloc, row),
         "before" => faults::order_shown(alloc, row),
-        "find" => symbols::place_shown(alloc, row),
-        "reached" => symbols::reached_shown(alloc, row),
-        "circle" => symbols::circle_shown(alloc, row),
-        _ => names::name_shown(alloc, word, row),
+        _ => format!(in alloc; "no such row"),
     }
 }

@@ -1,4 +1,7 @@
 // Stored functions and tables of them.
+ghost use Rattle.std.specs.Prelude.{◌≡◌, map};
+ghost use Rattle.vcl_values.specs.Values.{kind_of};
+
 use crate::samples::text_of;
 use crate::values::shown;
 use std::alloc::{AllocError, Global};
@@ -39,18 +42,41 @@ pub fn integer_shown(alloc: Global, row: &str) -> Result<String, AllocError> {
 
 /// The tag and the name of a function's copy, and what the function and the copy answer.
 pub fn copies_shown(alloc: Global, row: &str) -> Result<String, AllocError> {
+    let text = some_text(alloc, row)?;
+    let signature = Signature::of(alloc, b"std", b"toupper", &[Kind::String], Kind::String)?;
     let vmod = Vmod {
         tag: TOUPPER,
-        signature: Signature::of(alloc, b"std", b"toupper", &[Kind::String], Kind::String)?,
+        signature,
         call: toupper,
     };
+    copy_shown(alloc, &vmod, &[Value::String(text)])
+}
+
+fn copy_shown(alloc: Global, vmod: &Vmod, arguments: &[Value]) -> Result<String, AllocError>
+    requires { map kind_of arguments.now ≡ vmod.now.signature.takes }
+{
     let copy = vmod.copy(alloc)?;
-    let arguments = [Value::String(some_text(alloc, row)?)];
-    let first = vmod.answer(alloc, &arguments)?.text(alloc)?;
-    let second = copy.answer(alloc, &arguments)?.text(alloc)?;
-    let name = &copy.signature.name;
-    let tag = copy.tag;
-    format!(in alloc; "{tag} {name:?} {first:?} {second:?}")
+    let mut out = format!(in alloc; "{} {:?}", copy.tag, copy.signature.name)?;
+    push_answer(alloc, &mut out, vmod, arguments)?;
+    push_answer(alloc, &mut out, &copy, arguments)?;
+    Ok(out)
+}
+
+fn push_answer(
+    alloc: Global,
+    out: &mut String,
+    vmod: &Vmod,
+    arguments: &[Value],
+) -> Result<(), AllocError>
+    requires { map kind_of arguments.now ≡ vmod.now.signature.takes }
+{
+    let answer = vmod.answer(alloc, arguments)?;
+    push_text(alloc, out, &answer)
+}
+
+fn push_text(alloc: Global, out: &mut String, value: &Value) -> Result<(), AllocError> {
+    let text = value.text(alloc)?;
+    write!(out, " {text:?}")
 }
 
 /// What comes of a list in which the first and the last function have one tag.
@@ -80,27 +106,5 @@ pub fn table_shown(alloc: Global) -> Result<String, AllocError> {
         Err(TableError::Twice) => format!(in alloc; "refused"),
         Err(TableError::NoMemory) => Err(AllocError),
         Ok(_) => format!(in alloc; "a table"),
-    }
-}
-
-/// The number and the tag of the function of a module and name, or of a tag.
-pub fn stored_shown(
-    alloc: Global,
-    vmods: &VmodTable,
-    word: &str,
-    row: &str,
-) -> Result<String, AllocError> {
-    let (module_name, name) = row.split_once('.').unwrap_or(("", row));
-    let found = if word == "tag" {
-        vmods.find_tag(row.parse::<u32>().unwrap_or(0))
-    } else {
-        vmods.find(module_name.as_bytes(), name.as_bytes())
-    };
-    match found {
-        Some(number) if number < vmods.stored.as_slice().len() => {
-            let tag = vmods.at(number).tag;
-            format!(in alloc; "{number} of tag {tag}")
-        }
-        _ => format!(in alloc; "none"),
     }
 }

@@ -1,6 +1,5 @@
 // The fields of a response that was confirmed.
-use crate::fields::fields_shown;
-use crate::heads::lines_of;
+use crate::fields::{fields_of, fields_shown};
 use freshness::merge;
 use http_heads::{Field, Fields};
 use std::alloc::{AllocError, Global};
@@ -9,7 +8,7 @@ use units::Text;
 /// The names and values of both messages' fields as one.
 pub fn merged_shown(alloc: Global, row: &str) -> Result<String, AllocError> {
     let (old, new) = row.split_once('|').unwrap_or((row, ""));
-    let (old, new) = (lines_of(alloc, old)?, lines_of(alloc, new)?);
+    let (old, new) = (fields_of(alloc, old)?, fields_of(alloc, new)?);
     match merge(alloc, &old, &new) {
         Err(error) => format!(in alloc; "{error:?}"),
         Ok(merged) => fields_shown(alloc, &merged),

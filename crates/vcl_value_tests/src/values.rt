@@ -1,11 +1,16 @@
 // What values are, and what comes of two.
 use crate::samples::{text_shown, value_of};
 use std::alloc::{AllocError, Global};
-use vcl_values::{Comparison, Value, compare, difference, sum};
+use vcl_values::{Comparison, Value, ValueError, compare, difference, sum};
 
 /// A value's type, the value as a text, and as a condition, as a copy of it has them.
 pub fn value_shown(alloc: Global, row: &str) -> Result<String, AllocError> {
-    let copy = value_of(alloc, row)?.copy()?;
+    let value = value_of(alloc, row)?;
+    copy_shown(alloc, &value)
+}
+
+fn copy_shown(alloc: Global, value: &Value) -> Result<String, AllocError> {
+    let copy = value.copy()?;
     shown(alloc, &copy)
 }
 
@@ -43,13 +48,25 @@ pub fn sum_shown(alloc: Global, word: &str, row: &str) -> Result<String, AllocEr
     let (left, right) = row.split_once('|').unwrap_or((row, ""));
     let left = value_of(alloc, left)?;
     let right = value_of(alloc, right)?;
-    let given = if word == "sum" {
-        sum(alloc, &left, &right)
+    given_shown(alloc, given(alloc, word, &left, &right))
+}
+
+fn given(alloc: Global, word: &str, left: &Value, right: &Value) -> Result<Value, ValueError> {
+    if word == "sum" {
+        sum(alloc, left, right)
     } else {
-        difference(&left, &right)
-    };
+        difference(left, right)
+    }
+}
+
+fn given_shown(alloc: Global, given: Result<Value, ValueError>) -> Result<String, AllocError> {
     match given {
-        Ok(value) => text_shown(alloc, &value.text(alloc)?),
+        Ok(value) => as_text(alloc, &value),
         Err(error) => format!(in alloc; "{error:?}"),
     }
+}
+
+fn as_text(alloc: Global, value: &Value) -> Result<String, AllocError> {
+    let text = value.text(alloc)?;
+    text_shown(alloc, &text)
 }
