@@ -59,7 +59,7 @@ pub fn forget_key(alloc: Global, context: &mut Context)
 
 /// With what the newest lookup said of markers.
 pub fn mark(is_hitmiss: bool, is_hitpass: bool, context: &mut Context)
-    ensures { context.new ≡ due.marked is_hitmiss is_hitpass context.old }
+    ensures { context.new ≡ due.with_markers is_hitmiss is_hitpass context.old }
 {
     context.request.is_hitmiss = is_hitmiss;
     context.request.is_hitpass = is_hitpass;

@@ -47,7 +47,7 @@ pub fn set_head(head: RequestHead, context: &mut Context)
 
 /// The number of tries behind the first.
 pub fn set_tries(retries: u32, context: &mut Context)
-    ensures { context.new ≡ due.tried retries context.old }
+    ensures { context.new ≡ due.with_retries retries context.old }
 {
     context.fetch_request.retries = i64::from(retries);
 }
@@ -97,7 +97,7 @@ pub fn hinted(text: &Text, hint: &Option<Target>) -> Result<Option<Backend>, All
 }
 
 fn named(picked: &Option<Text>) -> Result<Option<Backend>, AllocError>
-    ensures { IfOk result (λ backend. backend ≡ option_map due.named picked.now) }
+    ensures { IfOk result (λ backend. backend ≡ option_map due.backend_named picked.now) }
 {
     match picked {
         Some(name) => Ok(Some(Backend {
