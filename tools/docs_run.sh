@@ -82,7 +82,8 @@ commands() {
 
 while read -r command; do
   case $command in
-    .ci/run* | rt* | bench/* | tools/smoke.sh | tools/try_edits.sh* | tools/fail_alloc.sh | tools/session_limit.sh)
+    .ci/run* | rt* | bench/* | tools/beside_varnish.py | tools/fail_alloc.sh | tools/session_limit.sh | tools/smoke.sh | \
+      tools/try_edits.sh*)
       tell - "$command (not run: it takes long)" ;;
     'varn serve' | 'varn replay' | *[[\ ][A-Z]\ * | *SESSION*) tell - "$command (not run: a form)" ;;
     examples/serve.sh*) serves "$command" ;;
