@@ -1,5 +1,5 @@
 -- What is kept of the lines and of the numbers under keys, where a ban is issued and where the oldest line goes.
-use Rattle.std.proofs.Common.{◌≡◌, ◌<◌, ◌+◌, ℕ, Bool, true, false, cond, List, [], ◌∷◌, ◌++◌, map, Option, None, Some, refl, sym, ◌∙◌, ap, arith}
+use Rattle.std.proofs.Common.{◌≡◌, ◌<◌, ◌≤◌, ◌+◌, ℕ, Bool, true, false, cond, List, [], ◌∷◌, ◌++◌, map, Option, None, Some, refl, sym, ◌∙◌, ap, arith}
 use Rattle.std.specs.Str.{bytes_eq}
 use Rattle.indexmap.specs.IndexMap.{IndexMap, get}
 use Rattle.cache_law.specs.declared.ban.Ban.{Ban}
@@ -8,13 +8,13 @@ use Rattle.cache_law.specs.Bans.{is_equal}
 use Rattle.ban_list.specs.Bans.{completed_by}
 use Rattle.ban_list.specs.Keys.{equal_key}
 use Rattle.ban_list.specs.Kept.{number_of, has_key, newest_with, AreFalling, AreCompleted, IsIndexOf, completed_at, found_under, Puts, Forgets}
-use Rattle.ban_list.proofs.LineLemmas.{falling_done, completed_done, completes_equals, newest_done, newest_left, completed_found, found_below, done_older, by_key, without_key, without_number}
+use Rattle.ban_list.proofs.LineLemmas.{falling_weaker, falling_done, completed_done, completes_equals, newest_done, newest_left, completed_found, found_below, done_older, by_key, without_key, without_number}
 
-pub issued_falling : (line : BanLine) (lines : List BanLine) (ban : Ban) (issued : ℕ) → line.issued.number ≡ issued + 1 → AreFalling (issued + 1) lines
-    → AreFalling ((issued + 1) + 1) (line ∷ map (completed_by ban) lines)
-issued_falling line lines ban issued is falling =
-    let first : line.issued.number < (issued + 1) + 1 = omega (arith, is) in
-    (first, rw is (falling_done (λ older. is_equal older.issued.ban ban) (issued + 1) lines falling))
+pub issued_falling : (line : BanLine) (lines : List BanLine) (ban : Ban) (bound number : ℕ) → line.issued.number ≡ number → bound ≤ number → AreFalling bound lines
+    → AreFalling (number + 1) (line ∷ map (completed_by ban) lines)
+issued_falling line lines ban bound number is above falling =
+    let first : line.issued.number < number + 1 = omega (arith, is) in
+    (first, rw is (falling_done (λ older. is_equal older.issued.ban ban) number lines (falling_weaker bound number lines above falling)))
 
 pub issued_completed : (line : BanLine) (lines : List BanLine) (ban : Ban) → line.issued.ban ≡ ban → AreCompleted lines → AreCompleted (line ∷ map (completed_by ban) lines)
 issued_completed line lines ban is all =
@@ -50,12 +50,12 @@ module _ {S : Type 0} where
   earlier_below None lines bound number equals falling index found = cc
   earlier_below (Some key) lines bound number equals falling index found = found_below bound key lines number falling (sym (index key) ∙ found)
 
-  pub issued_lines : (line : BanLine) (lines : List BanLine) (ban : Ban) (issued : ℕ) (equals : IndexMap (List ℕ) ℕ S) (earlier : Option ℕ)
-      → line.issued.number ≡ issued + 1 → line.issued.ban ≡ ban → AreFalling (issued + 1) lines → AreCompleted lines → IsIndexOf lines equals
+  pub issued_lines : (line : BanLine) (lines : List BanLine) (ban : Ban) (bound : ℕ) (equals : IndexMap (List ℕ) ℕ S) (earlier : Option ℕ)
+      → bound ≤ line.issued.number → line.issued.ban ≡ ban → AreFalling bound lines → AreCompleted lines → IsIndexOf lines equals
       → earlier ≡ found_under (equal_key line.issued.ban) equals → completed_at earlier (line ∷ lines) ≡ line ∷ map (completed_by ban) lines
-  issued_lines line lines ban issued equals earlier number is falling all index found =
-      done_older line lines earlier (λ n same. omega (arith, number, earlier_below (equal_key line.issued.ban) lines (issued + 1) n equals falling index (sym found ∙ same)))
-      ∙ ap (λ (rest : List BanLine). line ∷ rest) (completes_all ban lines (issued + 1) equals earlier (found ∙ ap (λ (b : Ban). found_under (equal_key b) equals) is) falling all index)
+  issued_lines line lines ban bound equals earlier above is falling all index found =
+      done_older line lines earlier (λ n same. omega (arith, above, earlier_below (equal_key line.issued.ban) lines bound n equals falling index (sym found ∙ same)))
+      ∙ ap (λ (rest : List BanLine). line ∷ rest) (completes_all ban lines bound equals earlier (found ∙ ap (λ (b : Ban). found_under (equal_key b) equals) is) falling all index)
 
   pub left_index : (lines : List BanLine) (last : BanLine) (bound : ℕ) (old new : IndexMap (List ℕ) ℕ S) → AreFalling bound (lines ++ last ∷ []) → IsIndexOf (lines ++ last ∷ []) old
       → Forgets old (equal_key last.issued.ban) last.issued.number new → IsIndexOf lines new

@@ -61,17 +61,18 @@ pub newer_point : (number : ℕ) (lines : List BanLine) (at : ℕ) → at ≤ le
 newer_point number lines at within point =
     sym (count_at (is_newer number) lines at within (λ k d below. point.0 k d (omega arith) below) (λ k d from to. point.1 k d from to))
 
+pub falling_weaker : (low high : ℕ) (lines : List BanLine) → low ≤ high → AreFalling low lines → AreFalling high lines
+falling_weaker low high [] order falling = tt
+falling_weaker low high (line ∷ lines) order falling =
+    let first : number_of line < low = falling.0 in
+    let still : number_of line < high = omega arith in
+    (still, falling.1)
+
 pub none_newer : (bound : ℕ) (lines : List BanLine) → AreFalling bound lines → newer bound lines ≡ 0
 none_newer bound [] falling = refl
 none_newer bound (line ∷ lines) falling =
     filter_not_first (is_newer bound) line lines (le-ltb bound (number_of line) (omega (arith, falling.0)))
-    ∙ none_newer bound lines (falling_weaker (number_of line) bound lines (omega (arith, falling.0)) falling.1) where
-      falling_weaker : (low high : ℕ) (lines : List BanLine) → low ≤ high → AreFalling low lines → AreFalling high lines
-      falling_weaker low high [] order falling = tt
-      falling_weaker low high (line ∷ lines) order falling =
-          let first : number_of line < low = falling.0 in
-          let still : number_of line < high = omega arith in
-          (still, falling.1)
+    ∙ none_newer bound lines (falling_weaker (number_of line) bound lines (omega (arith, falling.0)) falling.1)
 
 -- ---- keys
 same_key_is : (a b : Option (List ℕ)) → same_key a b ≡ true → a ≡ b

@@ -7,9 +7,10 @@ use Rattle.cache_law.specs.declared.ban.BanLine.{BanLine}
 use Rattle.cache_law.specs.Bans.{is_equal, object_only}
 use Rattle.cache_law.specs.BansAtOnce.{open_line}
 
--- Bans are numbered from 1 on as they are issued. Those that are kept are lines, the newest first.
+-- Bans are numbered from 1 on as they are issued. Those that are kept are lines, the newest first, whose numbers may have
+-- gaps.
 pub record Bans : Type 0 where
-  -- how many bans were issued
+  -- how many bans were issued, which is the number of the newest
   pub issued : ℕ
   pub lines : List BanLine
   -- Of each line how many objects have their place there: at its ban, or at a newer one, while the next newer line is above
@@ -36,11 +37,12 @@ newer number lines = length (filter (is_newer number) lines)
 abbrev pub completed_by : Ban → BanLine → BanLine
 completed_by ban line = if is_equal line.issued.ban ban then record line { completed = true } else line
 
-abbrev pub with_issued : ℕ → Ban → Bans → Bans
-with_issued moment ban bans =
+-- a ban comes first, under a number above those of all others
+abbrev pub with_ban : ℕ → ℕ → Ban → Bans → Bans
+with_ban number moment ban bans =
     record {
-      issued = bans.issued + 1;
-      lines = open_line (record { number = bans.issued + 1; moment = moment; ban = ban }) ∷ map (completed_by ban) bans.lines;
+      issued = number;
+      lines = open_line (record { number = number; moment = moment; ban = ban }) ∷ map (completed_by ban) bans.lines;
       placed = 0 ∷ bans.placed;
       marked = 0 ∷ bans.marked;
       objects = bans.objects;

@@ -6,7 +6,7 @@ ghost use Rattle.std.specs.VecDeque.{deque_len};
 ghost use Rattle.indexmap.specs.IndexMap.{get};
 ghost use Rattle.cache_law.specs.Bans.{object_only as looks_at_objects};
 ghost use Rattle.ban_list.specs.Keys.{equal_key, same_key};
-ghost use Rattle.ban_list.specs.Bans.{IsCut, cut_to, departed, entered, is_needed as is_needed_at, is_wanted, newer, no_bans, standing, with_issued};
+ghost use Rattle.ban_list.specs.Bans.{IsCut, cut_to, departed, entered, is_needed as is_needed_at, is_wanted, newer, no_bans, standing, with_ban};
 ghost use Rattle.ban_list.specs.Kept.{AreFalling, IsSame, IsWhole, Puts, Forgets, completed_at, found_under};
 
 use crate::counts::{add_one, join_last, take_one};
@@ -108,10 +108,26 @@ impl BanList {
     /// For want of memory all is as before.
     pub fn issue(&mut self, alloc: Global, moment: u64, ban: &Shared<Ban>) -> Result<(), AllocError>
         requires { self.old.issued + 1 < 2 ^ 64 }
-        ensures ok { OnOk result (self.new ≡ with_issued moment ban.now self.old) }
+        ensures ok { OnOk result (self.new ≡ with_ban (self.old.issued + 1) moment ban.now self.old) }
         ensures err { OnErr result (self.new ≡ self.old) }
     {
         let number = self.issued + 1;
+        self.put_first(alloc, number, moment, ban)
+    }
+
+    /// Puts a ban first that was issued at the moment under this number, which is above those of all others, and
+    /// completes those that it equals. No object counts at it. For want of memory all is as before.
+    pub fn put_first(
+        &mut self,
+        alloc: Global,
+        number: u64,
+        moment: u64,
+        ban: &Shared<Ban>,
+    ) -> Result<(), AllocError>
+        requires { self.old.issued < number }
+        ensures ok { OnOk result (self.new ≡ with_ban number moment ban.now self.old) }
+        ensures err { OnErr result (self.new ≡ self.old) }
+    {
         let line = Line::new(alloc, number, moment, ban)?;
         self.lines.try_reserve(1)?;
         self.placed.try_reserve(1)?;
