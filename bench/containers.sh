@@ -3,7 +3,6 @@
 # the best of three runs each, and the ratio of each to 1,000, which is to be 2.5 at most. A row puts so many members in,
 # and another makes some thousands of calls more; the time of the first is taken off. Run it at the top of the repository.
 # The program, which is that of the rows, is built and proved first where it isn't there yet.
-# shellcheck source=bench/prepare.sh
 . "$(dirname "$0")/prepare.sh"
 prepare container_tests
 python3 - "$program" <<'PY'
@@ -13,45 +12,70 @@ SIZES = (1000, 10000, 100000)
 CALLS = 20000
 TOP = 1 << 40
 
+# steps with their answers
 def xkey_put(i):
-    return 'put %d k%d' % (TOP - i, i)
+    return ('put %d k%d' % (TOP - i, i), 'put')
+
+def xkeys(n):
+    return [xkey_put(i) for i in range(n)]
 
 def room_put(i):
-    return 'put %d %d 10 %d' % (i + 1, TOP - i, 1000 + i)
+    return ('put %d %d 10 %d' % (i + 1, TOP - i, 1000 + i), 'put')
+
+def rooms(n):
+    return [room_put(i) for i in range(n)]
+
 def head_put(i):
-    return 'put %d %d 0 k%d' % (TOP - i, i, i)
+    return ('put %d %d 0 k%d' % (TOP - i, i, i), 'put')
+
+def heads(n):
+    return [head_put(i) for i in range(n)]
 
 def head_item(i):
     return '%d [b"k%d"] 0 0 0' % (i, i)
 
-# of each call: the container, how a member is put in, the call for the i-th time at so many members, and its answer
+def ban(i, key):
+    return ('ban 0 req.url == /k%d' % key, 'ban %d' % (i + 1))
+
+def bans(n):
+    return [ban(i, i) for i in range(n)]
+
+def object_at(n):
+    return [('enter 0 0', '1 objects')] + bans(n)
+
+def ban_and_cut(i, n):
+    return [ban(n + i, n + i), ('enter %d %d' % (i + 1, i + 1), '2 objects'), ('depart %d %d' % (i, i), '1 objects'), ('cut', '%d left' % n)]
+
+# of each call: the container, how so many members are put in, and the steps of the i-th time at so many members
 CASES = {
-    'xkeys put': ('xkeys', xkey_put, lambda i, n: (xkey_put(n + i), 'put')),
-    'xkeys find': ('xkeys', xkey_put, lambda i, n: ('find k%d' % (i * 7919 % n), '%d' % (TOP - i * 7919 % n))),
-    'xkeys take, none there': ('xkeys', xkey_put, lambda i, n: ('take %d' % (i + 1), 'none')),
-    'room put_last': ('room', room_put, lambda i, n: (room_put(n + i), 'put')),
-    'room move_use': ('room', room_put, lambda i, n: ('use %d %d' % (i + 1, n + i + 1), 'used')),
-    'room move_end': ('room', room_put, lambda i, n: ('end %d %d' % (i * 7919 % n + 1, 1000 + 2 * n + i), 'ends')),
-    'room total': ('room', room_put, lambda i, n: ('total', '%d' % (10 * n))),
-    'room expired, none': ('room', room_put, lambda i, n: ('expired 999', 'none')),
-    'room expired': ('room', room_put, lambda i, n: ('expired %d' % (1000 + n), '%d' % TOP)),
-    'room least_out, 50 go': ('room', room_put, lambda i, n: ('out %d 10' % (10 * (n - 49)), ' '.join('%d' % (TOP - k) for k in range(50)))),
-    'room least_out, none go': ('room', room_put, lambda i, n: ('out %d 10 %d' % (10 * n, i * 7919 % n + 1), 'none')),
-    'heads put': ('heads', head_put, lambda i, n: (head_put(n + i), 'put')),
-    'heads find': ('heads', head_put, lambda i, n: ('find k%d' % (i * 7919 % n), '%d' % (TOP - i * 7919 % n))),
-    'heads number': ('heads', head_put, lambda i, n: ('number %d' % (i * 7919 % n), '%d' % (TOP - i * 7919 % n))),
-    'heads from': ('heads', head_put, lambda i, n: ('from %d' % (TOP - i * 7919 % n), '%d' % (TOP - i * 7919 % n))),
-    'heads get': ('heads', head_put, lambda i, n: ('get %d' % (TOP - i * 7919 % n), head_item(i * 7919 % n))),
-    'heads pay': ('heads', head_put, lambda i, n: ('pay %d 7' % (TOP - i * 7919 % n), 'done')),
-    'heads hit': ('heads', head_put, lambda i, n: ('hit %d' % (TOP - i * 7919 % n), 'done')),
-    'heads age': ('heads', head_put, lambda i, n: ('age %d 7' % (TOP - i * 7919 % n), 'done')),
-    'heads take, none there': ('heads', head_put, lambda i, n: ('take %d' % (i + 1), 'none')),
-}
-# half of the members go, from the oldest on
-PAIRS = {
-    'xkeys put and take': ('xkeys', xkey_put, lambda i: ('take %d' % (TOP - i), '[b"k%d"]' % i)),
-    'room put_last and take': ('room', room_put, lambda i: ('take %d' % (i + 1), '%d 10 %d' % (TOP - i, 1000 + i))),
-    'heads put and take': ('heads', head_put, lambda i: ('take %d' % (TOP - i), head_item(i))),
+    'xkeys put': ('xkeys', xkeys, lambda i, n: [xkey_put(n + i)]),
+    'xkeys find': ('xkeys', xkeys, lambda i, n: [('find k%d' % (i * 7919 % n), '%d' % (TOP - i * 7919 % n))]),
+    'xkeys take, none there': ('xkeys', xkeys, lambda i, n: [('take %d' % (i + 1), 'none')]),
+    'xkeys put and take': ('xkeys', xkeys, lambda i, n: [xkey_put(n + i), ('take %d' % (TOP - i), '[b"k%d"]' % i)]),
+    'room put_last': ('room', rooms, lambda i, n: [room_put(n + i)]),
+    'room move_use': ('room', rooms, lambda i, n: [('use %d %d' % (i + 1, n + i + 1), 'used')]),
+    'room move_end': ('room', rooms, lambda i, n: [('end %d %d' % (i * 7919 % n + 1, 1000 + 2 * n + i), 'ends')]),
+    'room total': ('room', rooms, lambda i, n: [('total', '%d' % (10 * n))]),
+    'room expired, none': ('room', rooms, lambda i, n: [('expired 999', 'none')]),
+    'room expired': ('room', rooms, lambda i, n: [('expired %d' % (1000 + n), '%d' % TOP)]),
+    'room least_out, 50 go': ('room', rooms, lambda i, n: [('out %d 10' % (10 * (n - 49)), ' '.join('%d' % (TOP - k) for k in range(50)))]),
+    'room least_out, none go': ('room', rooms, lambda i, n: [('out %d 10 %d' % (10 * n, i * 7919 % n + 1), 'none')]),
+    'room put_last and take': ('room', rooms, lambda i, n: [room_put(n + i), ('take %d' % (i + 1), '%d 10 %d' % (TOP - i, 1000 + i))]),
+    'heads put': ('heads', heads, lambda i, n: [head_put(n + i)]),
+    'heads find': ('heads', heads, lambda i, n: [('find k%d' % (i * 7919 % n), '%d' % (TOP - i * 7919 % n))]),
+    'heads number': ('heads', heads, lambda i, n: [('number %d' % (i * 7919 % n), '%d' % (TOP - i * 7919 % n))]),
+    'heads from': ('heads', heads, lambda i, n: [('from %d' % (TOP - i * 7919 % n), '%d' % (TOP - i * 7919 % n))]),
+    'heads get': ('heads', heads, lambda i, n: [('get %d' % (TOP - i * 7919 % n), head_item(i * 7919 % n))]),
+    'heads pay': ('heads', heads, lambda i, n: [('pay %d 7' % (TOP - i * 7919 % n), 'done')]),
+    'heads hit': ('heads', heads, lambda i, n: [('hit %d' % (TOP - i * 7919 % n), 'done')]),
+    'heads age': ('heads', heads, lambda i, n: [('age %d 7' % (TOP - i * 7919 % n), 'done')]),
+    'heads take, none there': ('heads', heads, lambda i, n: [('take %d' % (i + 1), 'none')]),
+    'heads put and take': ('heads', heads, lambda i, n: [head_put(n + i), ('take %d' % (TOP - i), head_item(i))]),
+    'bans ban': ('bans', bans, lambda i, n: [ban(n + i, n + i)]),
+    'bans ban, equal to one': ('bans', bans, lambda i, n: [ban(n + i, i * 7919 % n)]),
+    'bans newer': ('bans', bans, lambda i, n: [('newer %d' % (i * 7919 % n), '%d' % (n - i * 7919 % n))]),
+    'bans enter': ('bans', bans, lambda i, n: [('enter %d %d' % (i * 7919 % n, i * 104729 % n), '%d objects' % (i + 1))]),
+    'bans ban, move and cut': ('bans', object_at, ban_and_cut),
 }
 
 def best(container, steps):
@@ -70,18 +94,11 @@ def tell(name, times):
     for n, seconds in times:
         print('%-24s %7d members   %8.3f us a call   %5.2f times that at %d' % (name, n, seconds * 1e6, seconds / times[0][1], times[0][0]))
 
-for name, (container, put, call) in CASES.items():
+for name, (container, members_of, steps_of) in CASES.items():
     times = []
     for n in SIZES:
-        members = [(put(i), 'put') for i in range(n)]
-        calls = [call(i, n) for i in range(CALLS)]
-        times.append((n, (best(container, members + calls) - best(container, members)) / CALLS))
-    tell(name, times)
-for name, (container, put, take) in PAIRS.items():
-    times = []
-    for n in SIZES:
-        members = [(put(i), 'put') for i in range(n)]
-        calls = [pair for i in range(CALLS) for pair in ((put(n + i), 'put'), take(i))]
+        members = members_of(n)
+        calls = [step for i in range(CALLS) for step in steps_of(i, n)]
         times.append((n, (best(container, members + calls) - best(container, members)) / CALLS))
     tell(name, times)
 PY
