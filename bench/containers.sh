@@ -12,18 +12,36 @@ SIZES = (1000, 10000, 100000)
 CALLS = 20000
 TOP = 1 << 40
 
+# steps with their answers
 def xkey_put(i):
-    return 'put %d k%d' % (TOP - i, i)
+    return ('put %d k%d' % (TOP - i, i), 'put')
 
-# of each call: the container, how a member is put in, the call for the i-th time at so many members, and its answer
+def xkeys(n):
+    return [xkey_put(i) for i in range(n)]
+
+def ban(i, key):
+    return ('ban 0 req.url == /k%d' % key, 'ban %d' % (i + 1))
+
+def bans(n):
+    return [ban(i, i) for i in range(n)]
+
+def object_at(n):
+    return [('enter 0 0', '1 objects')] + bans(n)
+
+def ban_and_cut(i, n):
+    return [ban(n + i, n + i), ('enter %d %d' % (i + 1, i + 1), '2 objects'), ('depart %d %d' % (i, i), '1 objects'), ('cut', '%d left' % n)]
+
+# of each call: the container, how so many members are put in, and the steps of the i-th time at so many members
 CASES = {
-    'xkeys put': ('xkeys', xkey_put, lambda i, n: (xkey_put(n + i), 'put')),
-    'xkeys find': ('xkeys', xkey_put, lambda i, n: ('find k%d' % (i * 7919 % n), '%d' % (TOP - i * 7919 % n))),
-    'xkeys take, none there': ('xkeys', xkey_put, lambda i, n: ('take %d' % (i + 1), 'none')),
-}
-# half of the members go, from the oldest on
-PAIRS = {
-    'xkeys put and take': ('xkeys', xkey_put, lambda i: ('take %d' % (TOP - i), '[b"k%d"]' % i)),
+    'xkeys put': ('xkeys', xkeys, lambda i, n: [xkey_put(n + i)]),
+    'xkeys find': ('xkeys', xkeys, lambda i, n: [('find k%d' % (i * 7919 % n), '%d' % (TOP - i * 7919 % n))]),
+    'xkeys take, none there': ('xkeys', xkeys, lambda i, n: [('take %d' % (i + 1), 'none')]),
+    'xkeys put and take': ('xkeys', xkeys, lambda i, n: [xkey_put(n + i), ('take %d' % (TOP - i), '[b"k%d"]' % i)]),
+    'bans ban': ('bans', bans, lambda i, n: [ban(n + i, n + i)]),
+    'bans ban, equal to one': ('bans', bans, lambda i, n: [ban(n + i, i * 7919 % n)]),
+    'bans newer': ('bans', bans, lambda i, n: [('newer %d' % (i * 7919 % n), '%d' % (n - i * 7919 % n))]),
+    'bans enter': ('bans', bans, lambda i, n: [('enter %d %d' % (i * 7919 % n, i * 104729 % n), '%d objects' % (i + 1))]),
+    'bans ban, move and cut': ('bans', object_at, ban_and_cut),
 }
 
 def best(container, steps):
@@ -42,18 +60,11 @@ def tell(name, times):
     for n, seconds in times:
         print('%-24s %7d members   %8.3f us a call   %5.2f times that at %d' % (name, n, seconds * 1e6, seconds / times[0][1], times[0][0]))
 
-for name, (container, put, call) in CASES.items():
+for name, (container, members_of, steps_of) in CASES.items():
     times = []
     for n in SIZES:
-        members = [(put(i), 'put') for i in range(n)]
-        calls = [call(i, n) for i in range(CALLS)]
-        times.append((n, (best(container, members + calls) - best(container, members)) / CALLS))
-    tell(name, times)
-for name, (container, put, take) in PAIRS.items():
-    times = []
-    for n in SIZES:
-        members = [(put(i), 'put') for i in range(n)]
-        calls = [pair for i in range(CALLS) for pair in ((put(n + i), 'put'), take(i))]
+        members = members_of(n)
+        calls = [step for i in range(CALLS) for step in steps_of(i, n)]
         times.append((n, (best(container, members + calls) - best(container, members)) / CALLS))
     tell(name, times)
 PY

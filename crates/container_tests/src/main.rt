@@ -1,8 +1,9 @@
 //! Rows for the containers of the lazy cache: each line of the input names a container and has steps, with `; ` between
-//! them, and behind ` => ` what is to be said of each (`xkeys.rt`). The program prints the rows that go
+//! them, and behind ` => ` what is to be said of each (`xkeys.rt`, `bans.rt`). The program prints the rows that go
 //! otherwise, and how many rows there are.
 #![tactic(auto)]
 
+mod bans;
 mod words;
 mod xkeys;
 
@@ -28,6 +29,7 @@ fn main(rt: HostRuntime) -> io::Result<()> {
 fn said(alloc: Global, row: &str) -> Result<String, AllocError> {
     let (container, steps) = row.split_once(' ').unwrap_or((row, ""));
     match container {
+        "bans" => bans::said(alloc, steps),
         "xkeys" => xkeys::said(alloc, steps),
         _ => String::from_str(alloc, "no such container"),
     }

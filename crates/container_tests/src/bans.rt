@@ -1,0 +1,128 @@
+// Steps on a list of bans and the objects among them: `ban MOMENT WORDS`, `put NUMBER WORDS`, `enter PLACE MARK`,
+// `depart PLACE MARK`, `cut`, `lines`, `newer NUMBER` and `at NUMBER`.
+use crate::words::{first_word, number};
+use ban_expr::read;
+use ban_list::{BanList, Line, Stand};
+use cache_law::Ban;
+use cli_words::split;
+use std::alloc::{AllocError, Global};
+use units::{Shared, Text};
+
+pub fn said(alloc: Global, steps: &str) -> Result<String, AllocError> {
+    let mut bans = BanList::new(alloc)?;
+    let mut out = String::new(alloc);
+    for step in steps.split("; ") {
+        if !out.is_empty() {
+            out.push_str("; ")?;
+        }
+        say_step(alloc, &mut bans, step, &mut out)?;
+    }
+    Ok(out)
+}
+
+fn say_step(
+    alloc: Global,
+    bans: &mut BanList,
+    step: &str,
+    out: &mut String,
+) -> Result<(), AllocError> {
+    let (word, rest) = first_word(step);
+    match word {
+        "ban" => issue(alloc, bans, rest, out),
+        "put" => put_first(alloc, bans, rest, out),
+        "enter" => enter(bans, stand(rest), out),
+        "depart" => depart(bans, stand(rest), out),
+        "cut" => {
+            bans.cut();
+            write!(out, "{} left", bans.len())
+        }
+        "lines" => say_lines(bans, out),
+        "newer" => write!(out, "{}", bans.count_newer(number(rest))),
+        "at" => {
+            let at = number(rest);
+            write!(out, "{} {}", bans.placed_at(at), bans.marked_at(at))
+        }
+        _ => out.push_str("no such step"),
+    }
+}
+
+fn stand(words: &str) -> Stand {
+    let (place, mark) = first_word(words);
+    Stand {
+        place: number(place),
+        mark: number(mark),
+    }
+}
+
+fn ban_of(alloc: Global, words: &str) -> Result<Ban, AllocError> {
+    let words = split(alloc, &Text::of(alloc, words.as_bytes())?).map_err(|_| AllocError)?;
+    read(alloc, &words).map_err(|_| AllocError)
+}
+
+fn issue(
+    alloc: Global,
+    bans: &mut BanList,
+    rest: &str,
+    out: &mut String,
+) -> Result<(), AllocError> {
+    let (moment, words) = first_word(rest);
+    if bans.issued() == u64::MAX {
+        return out.push_str("no more bans");
+    }
+    let ban = Shared::new(alloc, ban_of(alloc, words)?)?;
+    bans.issue(alloc, number(moment), &ban)?;
+    write!(out, "ban {}", bans.issued())
+}
+
+fn put_first(
+    alloc: Global,
+    bans: &mut BanList,
+    rest: &str,
+    out: &mut String,
+) -> Result<(), AllocError> {
+    let (word, words) = first_word(rest);
+    let number = number(word);
+    if number <= bans.issued() {
+        return out.push_str("not newer");
+    }
+    let ban = Shared::new(alloc, ban_of(alloc, words)?)?;
+    bans.put_first(alloc, number, 0, &ban)?;
+    write!(out, "ban {}", bans.issued())
+}
+
+fn enter(bans: &mut BanList, stand: Stand, out: &mut String) -> Result<(), AllocError> {
+    if bans.objects() == u64::MAX {
+        return out.push_str("no more objects");
+    }
+    bans.enter(stand);
+    write!(out, "{} objects", bans.objects())
+}
+
+fn depart(bans: &mut BanList, stand: Stand, out: &mut String) -> Result<(), AllocError> {
+    if bans.placed_at(stand.place) == 0 || bans.marked_at(stand.mark) == 0 {
+        return out.push_str("nobody there");
+    }
+    bans.depart(stand);
+    write!(out, "{} objects", bans.objects())
+}
+
+// The numbers of the lines, the newest first, each with C where it is completed.
+fn say_lines(bans: &BanList, out: &mut String) -> Result<(), AllocError> {
+    if bans.len() == 0 {
+        return out.push_str("none");
+    }
+    for at in 0..bans.len() {
+        if at > 0 {
+            out.push(' ')?;
+        }
+        if let Some(line) = bans.line(at) {
+            say_line(line, out)?;
+        }
+    }
+    Ok(())
+}
+
+fn say_line(line: &Line, out: &mut String) -> Result<(), AllocError> {
+    let mark = if line.is_completed() { "C" } else { "" };
+    write!(out, "{}{mark}", line.number())
+}
