@@ -1,10 +1,10 @@
 // How the words of bans are read, and what the bans match.
 use crate::ban_objects::{marker, request, response};
-use ban_expr::{BanError, object_only, one_ban, read, test};
+use ban_expr::{BanError, object_only, one_ban, prepare, read, test};
 use cache_law::Ban;
 use cli_words::{Words, split};
 use std::alloc::{AllocError, Global};
-use units::{Text, quoted};
+use units::{Shared, Text, quoted};
 
 // When the bans are issued.
 const ISSUED: u64 = 11_000;
@@ -51,13 +51,14 @@ pub fn request_shown(alloc: Global, row: &str) -> Result<String, AllocError> {
     format!(in alloc; "{alone} {matched}")
 }
 
-/// Whether the ban looks at objects alone, and whether it matches the response and the marker.
+/// Whether the ban looks at objects alone, and whether it matches the response and the marker, once it was made ready.
 pub fn objects_shown(alloc: Global, row: &str) -> Result<String, AllocError> {
     let Ok(ban) = ban_of(alloc, row) else {
         return format!(in alloc; "no ban");
     };
-    let alone = object_only(&ban);
-    let of_response = test(alloc, &ban, ISSUED, &response(alloc)?, None)?;
-    let of_marker = test(alloc, &ban, ISSUED, &marker(alloc), None)?;
+    let ready = prepare(alloc, &Shared::new(alloc, ban)?)?;
+    let alone = object_only(ready.ban());
+    let of_response = ready.test(alloc, ISSUED, &response(alloc)?, None)?;
+    let of_marker = ready.test(alloc, ISSUED, &marker(alloc), None)?;
     format!(in alloc; "{alone} {of_response} {of_marker}")
 }
