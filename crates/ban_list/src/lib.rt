@@ -3,7 +3,7 @@
 //!
 //! Contract for the layer above: a `BanList` is seen by `specs/Bans.antt` as the list of its lines, the newest first, with
 //! how many objects have their place and their mark at each. A new ban comes first under the next number and completes
-//! the bans that equal it; `cut` takes the oldest lines that nothing needs, and `keep_needed` all of these.
+//! the bans that equal it; `cut` takes the oldest lines that nothing needs.
 #![tactic(auto)]
 
 mod counts;
