@@ -1,5 +1,5 @@
 -- A history that is legal from a state is legal from one that is alike, and reaches alike states.
-use Rattle.std.proofs.Common.{◌≡◌, ◌⊎◌, ℕ, Bool, true, false, cond, List, [], ◌∷◌, ◌+◌, ◌≤◌, ◌==◌, ◌&&◌, ◌||◌, nat_le, None, map, inl, inr, refl, arith, sym, ap, ◌∙◌, subst}
+use Rattle.std.proofs.Common.{◌≡◌, ◌⊎◌, ℕ, true, false, List, [], ◌∷◌, ◌+◌, ◌≤◌, ◌&&◌, ◌||◌, nat_le, map, inl, inr, refl, arith, sym, ap, ◌∙◌, subst}
 use Rattle.std.specs.List.{list_any, AllByRecursion}
 use Rattle.std.specs.Cmp.Lexicographic.{pointwise}
 use Rattle.std.proofs.lemmas.Bool.{true≢false, false≢true, and_parts, and_from, or_cases, or_left, or_right, leb-true, le-leb}
@@ -12,12 +12,11 @@ use Rattle.cache_law.specs.declared.call.Entry.{Entry}
 use Rattle.cache_law.specs.declared.setting.Params.{Params}
 use Rattle.cache_law.specs.Object.{in_time}
 use Rattle.cache_law.specs.Bans.{is_equal, is_on_time, is_shown, lasting, same_condition, stands_for}
-use Rattle.cache_law.specs.ShownBans.{AllShown, IsPartOf, ShowsBans}
-use Rattle.cache_law.specs.State.{State, Held, as_seen, at_moment, awaits, reserve, those_in_time}
-use Rattle.cache_law.specs.Beginning.{Beginning}
-use Rattle.cache_law.specs.Law.{Step, IsBanList, MayAnswer, after, answered, behind, refused, step_of}
+use Rattle.cache_law.specs.ShownBans.{AllShown, IsPartOf}
+use Rattle.cache_law.specs.State.{State, Held, as_seen, at_moment, awaits, reserve}
+use Rattle.cache_law.specs.Law.{IsBanList, MayAnswer, after, answered, behind, refused}
 use Rattle.cache_law.specs.History.{Fits, Follows, HasWaited, Legal, LegalFrom, bytes_of, is_numbered, next_state, reached_from}
-use Rattle.cache_law.specs.Bases.{AreAlike, AreAlikeAsSeen, AreHeldAlike, IsIn, IsThinned, is_completed}
+use Rattle.cache_law.specs.Bases.{AreAlike, AreAlikeAsSeen, AreHeldAlike, IsIn, is_completed}
 use Rattle.cache_law.proofs.BanLemmas.{one_list}
 use Rattle.cache_law.proofs.Lawful.{asks_bans}
 use Rattle.cache_law.proofs.Moments.{at_moment-later}

@@ -1,13 +1,12 @@
 -- Each call but that for the list of bans is answered alike in states that are the same but for bans, and leaves states that
 -- are so again.
-use Rattle.std.proofs.Common.{◌≡◌, ℕ, Bool, true, false, not, cond, List, [], ◌∷◌, ◌+◌, ◌==◌, Option, Some, None, filter, map, length, inl, inr, refl, sym, ap, ◌∙◌, subst}
+use Rattle.std.proofs.Common.{◌≡◌, ℕ, Bool, true, false, not, cond, List, ◌∷◌, ◌==◌, Option, Some, None, filter, map, length, inl, refl, sym, ap, subst}
 use Rattle.std.specs.List.{list_any}
 use Rattle.std.specs.Str.{bytes_eq}
 use Rattle.std.proofs.lemmas.Bool.{true≢false}
 use Rattle.cache_law.specs.declared.object.Object.{Object}
 use Rattle.cache_law.specs.declared.object.Object.TheVariants.{Ordinary, HitForMiss, HitForPass}
 use Rattle.cache_law.specs.declared.object.ObjectView.{ObjectView}
-use Rattle.cache_law.specs.declared.ban.Ban.{Ban as BanWords}
 use Rattle.cache_law.specs.declared.ban.Issued.{Issued}
 use Rattle.cache_law.specs.declared.call.Query.{Query}
 use Rattle.cache_law.specs.declared.call.Call.{Call}
@@ -19,15 +18,15 @@ use Rattle.cache_law.specs.declared.vcl.LoadedVcl.{LoadedVcl}
 use Rattle.cache_law.specs.Object.{in_time, size_of}
 use Rattle.cache_law.specs.Bans.{matches, object_only}
 use Rattle.cache_law.specs.ShownBans.{IsPartOf}
-use Rattle.cache_law.specs.BansAtOnce.{issued_behind, awaiting, ban_over}
+use Rattle.cache_law.specs.BansAtOnce.{issued_behind, awaiting}
 use Rattle.cache_law.specs.Purges.{has_key, has_xkey, softened, softening, xkey_over}
 use Rattle.cache_law.specs.State.{State, Held, has_round, has_fetch, least_token, without_stale, is_gone}
-use Rattle.cache_law.specs.Room.{has_no_room, stored_over}
+use Rattle.cache_law.specs.Room.{has_no_room}
 use Rattle.cache_law.specs.Lookup.{Scan, scanned, raised, counting, touching}
 use Rattle.cache_law.specs.Vcls.{called, is_taken}
 use Rattle.cache_law.specs.Targets.{chosen}
-use Rattle.cache_law.specs.Law.{Step, leaving, answered, found_fresh, found_grace, waited_or_missed, busy, found_other, found, sought, remembered, looked_up, stored, closing, placed, handed_over, inserted, purged, purged_by, picked_at, switched_to, discarded_of}
-use Rattle.cache_law.specs.Bases.{IsThinned, IsHeldAlike, AreHeldAlike, AreAlikeAsSeen}
+use Rattle.cache_law.specs.Law.{Step, leaving, answered, found_fresh, found_grace, waited_or_missed, busy, found_other, found, sought, remembered, looked_up, stored, closing, placed, inserted, picked_at, switched_to, discarded_of}
+use Rattle.cache_law.specs.Bases.{IsHeldAlike, AreHeldAlike, AreAlikeAsSeen}
 use Rattle.cache_law.proofs.Lawful.{asks_bans}
 use Rattle.cache_law.proofs.Alike.{AreScansAlike, alike-filter, alike-gone, alike-inherited, alike-length, alike-map, alike-no_room, alike-staying, alike-without, held_alike, one_more_thinned, scans_alike}
 
