@@ -71,7 +71,7 @@ one_condition (OnText f o a) (OnText g p b) e =
 one_condition (OnText f o a) (OnTime g k m) e = absurd (false≢true e)
 one_condition (OnTime f k m) d e = absurd (false≢true e)
 
-one_list : (cs ds : List Condition) → pointwise same_condition cs ds ≡ true → (cs ≡ ds) × (list_any is_on_time cs ≡ false)
+pub one_list : (cs ds : List Condition) → pointwise same_condition cs ds ≡ true → (cs ≡ ds) × (list_any is_on_time cs ≡ false)
 one_list [] [] e = (refl, refl)
 one_list [] (d ∷ ds) e = absurd (false≢true e)
 one_list (c ∷ cs) [] e = absurd (false≢true e)

@@ -19,6 +19,10 @@ pub mod Present
 pub mod Uses
 pub mod ByUse
 pub mod Making
+pub mod Alike
+pub mod AlikeSteps
+pub mod AlikeHistories
+pub mod GoingOn
 pub mod Struck
 pub mod Tested
 pub mod VclNumbers

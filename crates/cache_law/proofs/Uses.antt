@@ -1,5 +1,5 @@
 -- No two objects were last used at one place of the history.
-use Rattle.std.proofs.Common.{◌≡◌, ◌≢◌, ℕ, Bool, true, false, not, cond, List, [], ◌∷◌, ◌+◌, ◌<◌, ◌≤◌, ◌==◌, ◌⊎◌, Option, Some, None, filter, map, inl, inr, refl, arith, sym, ap, ◌∙◌}
+use Rattle.std.proofs.Common.{◌≡◌, ◌≢◌, ℕ, Bool, true, false, not, cond, List, [], ◌∷◌, ◌+◌, ◌≤◌, ◌==◌, ◌⊎◌, Option, Some, None, filter, map, inl, inr, refl, arith, sym, ap}
 use Rattle.std.specs.List.{AllByRecursion}
 use Rattle.std.proofs.lemmas.Bool.{cases_eq, eq-eqb, ne_eqb}
 use Rattle.cache_law.specs.declared.setting.Params.{Params}
@@ -9,17 +9,16 @@ use Rattle.cache_law.specs.declared.ban.Issued.{Issued}
 use Rattle.cache_law.specs.declared.call.Query.{Query}
 use Rattle.cache_law.specs.declared.call.Call.{Call}
 use Rattle.cache_law.specs.declared.call.Call.TheVariants.{Begin, Draw, Lookup, Pick, Insert, Ban, BanList, Purge, Xkey, SetHealth, Load, Switch, Discard, VclList, Drop, End}
-use Rattle.cache_law.specs.declared.call.Reply.{Reply}
 use Rattle.cache_law.specs.declared.call.Entry.{Entry}
 use Rattle.cache_law.specs.Object.{in_time, key_of, same_texts, size_of}
 use Rattle.cache_law.specs.State.{State, Held, at_moment, those_in_time, has_round, has_fetch, without_stale}
 use Rattle.cache_law.specs.Room.{AreUsedApart, outweighs, staying, stored_over}
-use Rattle.cache_law.specs.BansAtOnce.{is_met, cleared, issued_behind, awaiting, ban_over}
+use Rattle.cache_law.specs.BansAtOnce.{is_met, cleared, issued_behind, awaiting}
 use Rattle.cache_law.specs.Bans.{matches, object_only}
 use Rattle.cache_law.specs.Purges.{has_key, has_xkey, softening, xkey_over}
 use Rattle.cache_law.specs.Lookup.{Scan, scanned, counting, touching, is_chosen_by, is_fresh, ending, seeing, passing}
 use Rattle.cache_law.specs.Beginning.{Beginning, beginning_of}
-use Rattle.cache_law.specs.Law.{Step, answered, refused, after}
+use Rattle.cache_law.specs.Law.{Step, answered, refused}
 use Rattle.cache_law.specs.History.{next_state, reached_from, reached}
 use Rattle.cache_law.proofs.Growth.{behind_either}
 use Rattle.cache_law.proofs.Leaves.{either, inserted_leaf, picked_leaf, health_leaf, loaded_leaf, switched_leaf, discarded_leaf}

@@ -11,6 +11,8 @@ pub mod Beginning
 pub mod Lookup
 pub mod Law
 pub mod History
+pub mod Bases
+pub mod Segments
 pub mod Core
 pub mod LookedUp
 pub mod BanHistories

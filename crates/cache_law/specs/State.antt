@@ -1,8 +1,7 @@
 -- What a cache holds after some calls, as plain lists, and each change of these lists.
-use Rattle.std.specs.Prelude.{ℕ, Bool, false, List, [], ◌∷◌, ◌+◌, ◌*◌, ◌==◌, ◌&&◌, Option, Some, None, not, filter, find, fold, map, length, fold, min, sum_by, option_and_then, if◌then◌else◌}
+use Rattle.std.specs.Prelude.{ℕ, Bool, false, List, [], ◌+◌, ◌*◌, ◌==◌, ◌&&◌, Option, Some, None, not, filter, find, fold, map, length, fold, min, sum_by, option_and_then, if◌then◌else◌}
 use Rattle.std.specs.List.{list_any}
 use Rattle.std.specs.Option.{option_map_or}
-use Rattle.cache_law.specs.declared.object.Object.{Object}
 use Rattle.cache_law.specs.declared.object.ObjectView.{ObjectView}
 use Rattle.cache_law.specs.declared.ban.Issued.{Issued}
 use Rattle.cache_law.specs.declared.state.OpenFetch.{OpenFetch}

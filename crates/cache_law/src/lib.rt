@@ -9,6 +9,7 @@
 
 mod ban;
 mod ban_laws;
+mod base_laws;
 mod bytes;
 mod cache;
 mod call;
@@ -28,6 +29,7 @@ pub use ban_laws::{
     equal_bans_match_alike, given_objects_were_spared, given_objects_were_tested,
     no_request_matters, only_issued_bans_wait,
 };
+pub use base_laws::{alike_is_legal, segments_go_on};
 pub use bytes::{entry_bytes, object_size};
 pub use cache::{CacheCore, StepError, Told};
 pub use call::{Call, Entry, Options, Query, Reply, RequestView};
