@@ -1,3 +1,4 @@
 pub mod DecisionLemmas
 pub mod SignLemmas
 pub mod SoundnessLemmas
+pub mod FirstClash

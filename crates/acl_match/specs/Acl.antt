@@ -1,7 +1,9 @@
 -- Address lists (the Varnish Reference Manual, VCL, "Access Control List"), with networks as a prefix of
 -- the address (RFC 4632, section 3.1).
-use Rattle.std.specs.Prelude.{◌≡◌, ◌≢◌, ℕ, ◌-◌, ◌/◌, ◌^◌, ◌<◌, ◌≤◌, List, take, slice_get, Option, Some, None, Contains, Any, false}
+use Rattle.std.specs.Prelude.{◌≡◌, ◌≢◌, ℕ, ◌-◌, ◌/◌, ◌^◌, ◌<◌, ◌≤◌, ◌==◌, ◌&&◌, not, Bool, List, [], ◌∷◌, ◌++◌, length, take, slice_get, Option, Some, None, Contains, Any, false, if◌then◌else◌}
+use Rattle.std.specs.Bool.{beq}
 use Rattle.std.specs.Int.{w32, from_be_bytes}
+use Rattle.std.specs.List.{list_any}
 use Rattle.acl_match.specs.declared.entry.AclEntry.{AclEntry}
 
 -- the number that the first `mask` bits of an address spell, the address being four bytes with the
@@ -53,3 +55,15 @@ pub record IsFirstMask (entries : List AclEntry) (place : ℕ) : Type 0 where
 pub record IsFirstClash (entries : List AclEntry) (place : ℕ) : Type 0 where
   pub before : IsSound (take place entries)
   pub here : (entry : AclEntry) × (slice_get entries place ≡ Some entry) × Any (Clash entry) (take place entries)
+
+-- the test for a clash
+abbrev pub clashes : AclEntry → AclEntry → Bool
+clashes a b = (a.mask == b.mask) && ((network_number a.address a.mask == network_number b.address b.mask) && not (beq a.negated b.negated))
+
+abbrev pub clash_behind : List AclEntry → List AclEntry → Option ℕ
+clash_behind before [] = None
+clash_behind before (e ∷ es) = if list_any (clashes e) before then Some (length before) else clash_behind (before ++ e ∷ []) es
+
+-- the place of the first entry that clashes with one before it
+abbrev pub first_clash : List AclEntry → Option ℕ
+first_clash entries = clash_behind [] entries

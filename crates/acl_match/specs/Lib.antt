@@ -1,2 +1,3 @@
 pub mod Acl
+pub mod Address
 pub mod Signs

@@ -6,10 +6,12 @@
 #![tactic(auto)]
 
 mod acl;
+mod address;
 mod deciding;
 mod entry;
 mod faults;
 mod network;
 
 pub use acl::{Acl, AclError};
+pub use address::address_of;
 pub use entry::{AclEntries, AclEntry};

@@ -8,7 +8,8 @@ ghost use Rattle.backend_link.specs.Replies.{BehindInterim, ReplyAt};
 ghost use Rattle.backend_link.specs.Said.{SaidBy};
 
 use crate::replies::read_reply;
-use http_heads::{BackendRequest, Exchange, ResponseHead, print_request};
+use http_bodies::{Framing, frame, kind_of_reply};
+use http_heads::{BackendRequest, Exchange, Fields, ResponseHead, is_listed, print_request};
 use message_reader::{Intake, Stop};
 use std::alloc::Global;
 use units::Text;
@@ -79,14 +80,31 @@ pub fn answered(outcome: Result<(ResponseHead, Text), Stop>) -> Exchange
     }
 }
 
-// Reads the reply to a request, which was HEAD or not.
+// Whether a message with these fields ends its connection (RFC 9112, section 9.6).
+fn says_close(fields: &Fields) -> bool {
+    is_listed(fields, b"Connection", b"close")
+}
+
+// Whether another exchange may follow this reply over the same stream: it ends by its framing, nothing stands behind it, and the
+// backend keeps the stream open (RFC 9112, section 9.3).
+fn leaves_stream(head: &ResponseHead, to_head: bool, held: &Intake) -> bool {
+    match frame(&head.fields, kind_of_reply(head.status, to_head)) {
+        Ok(framing) => framing != Framing::UntilEnd
+            && held.bytes().is_empty()
+            && head.version == 11
+            && !says_close(&head.fields),
+        Err(_) => false,
+    }
+}
+
+// Reads the reply to a request. The link is told where its stream may serve another exchange.
 fn receive<L: Link>(
     alloc: Global,
     link: &mut L,
-    to_head: bool,
+    request: &BackendRequest,
 ) -> Result<(ResponseHead, Text), Stop>
     ensures told { Hears (L.flow link.old) (L.flow link.new) [] (λ read. (rest : List ℕ)
-        × BehindInterim (λ passed text. ReplyAt to_head (L.flow link.new) rest passed result text) read) }
+        × BehindInterim (λ passed text. ReplyAt (asks_head request.now) (L.flow link.new) rest passed result text) read) }
     ensures later { L.read_faults link.old ≤ L.read_faults link.new }
     ensures failed { IsErrOf result Stop.Read → Rose (L.read_faults link.old) (L.read_faults link.new) }
     ensures other { L.write_faults link.new ≡ L.write_faults link.old }
@@ -94,7 +112,14 @@ fn receive<L: Link>(
 {
     let mut held = Intake::new(alloc);
     let mut room = [0u8; ROOM];
-    read_reply(alloc, link, &mut held, &mut room, to_head)
+    let to_head = asks_for_head(request);
+    let reply = read_reply(alloc, link, &mut held, &mut room, to_head);
+    if let Ok((head, _)) = &reply {
+        if !says_close(&request.head.fields) && leaves_stream(head, to_head, &held) {
+            link.allow_reuse();
+        }
+    }
+    reply
 }
 
 /// Sends a request over a link and reads its reply. The answer is a reply, the faults 2 to 7 of `Exchange`, or want of
@@ -117,5 +142,5 @@ pub fn converse<L: Link>(alloc: Global, link: &mut L, request: &BackendRequest) 
     if !send(link, &text, &request.body) {
         return Exchange::Fault(2);
     }
-    answered(receive(alloc, link, asks_for_head(request)))
+    answered(receive(alloc, link, request))
 }

@@ -7,7 +7,7 @@ ghost use Rattle.backend_link.specs.Said.{IsSaid};
 use crate::converse;
 use http_heads::{Backend, BackendRequest, Exchange};
 use std::alloc::Global;
-use wire::{DialError, Dialer};
+use wire::{DialError, Dialer, Link};
 
 /// Sends a request to a backend over a link of its own, and reads its reply. The link is handed back in every case.
 /// Where no call failed and memory was there, the answer is the one that the link's bytes say.
@@ -31,6 +31,7 @@ pub fn exchange<D: Dialer>(
         Err(DialError::NoMemory) => return Exchange::NoMemory,
     };
     let answer = converse(alloc, &mut link, request);
+    link.shut();
     dialer.hang_up(link);
     answer
 }

@@ -3,3 +3,4 @@ pub mod LineLemmas
 pub mod CountLemmas
 pub mod IssueLemmas
 pub mod CutLemmas
+pub mod NeededLemmas

@@ -75,7 +75,7 @@ none_newer bound (line ∷ lines) falling =
     ∙ none_newer bound lines (falling_weaker (number_of line) bound lines (omega (arith, falling.0)) falling.1)
 
 -- ---- keys
-same_key_is : (a b : Option (List ℕ)) → same_key a b ≡ true → a ≡ b
+pub same_key_is : (a b : Option (List ℕ)) → same_key a b ≡ true → a ≡ b
 same_key_is None b e = cc
 same_key_is (Some a) None e = cc
 same_key_is (Some a) (Some b) e = ap (λ (k : List ℕ). Some k) ((bytes_eq-Decides a b).0 e)
@@ -260,7 +260,7 @@ last_step : (key : List ℕ) (line : BanLine) (h : Bool) → has_key key line �
 last_step key line true e = rw e (ap (λ (b : Bool). cond b None (Some (number_of line))) (eq-eqb (number_of line) (number_of line) refl))
 last_step key line false e = rw e refl
 
-other_number : (own : Bool) (number other : ℕ) → (number ≡ other → ⊥) → without_number own (Some number) other ≡ Some number
+pub other_number : (own : Bool) (number other : ℕ) → (number ≡ other → ⊥) → without_number own (Some number) other ≡ Some number
 other_number true number other apart = ap (λ (b : Bool). cond b None (Some number)) (ne_eqb number other apart)
 other_number false number other apart = refl
 

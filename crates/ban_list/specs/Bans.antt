@@ -103,3 +103,36 @@ pub record IsCut (old : Bans) (new : Bans) : Type 0 where
   pub is : new ≡ cut_to left old
   pub gone : (at : ℕ) → left ≤ at → at < length old.lines → is_needed old at ≡ false
   pub oldest : 0 < left → is_needed old (left - 1) ≡ true
+
+-- ---- all that nothing needs goes, wherever it stands
+-- of each line whether it is needed
+abbrev pub are_needed : List BanLine → List ℕ → List ℕ → List Bool
+are_needed [] placed marked = []
+are_needed (line ∷ lines) placed marked = is_wanted line (below 0 placed) (below 0 marked) ∷ are_needed lines (drop 1 placed) (drop 1 marked)
+
+-- the line before older ones, where it stays
+abbrev pub line_before : Bool → BanLine → List BanLine → List BanLine
+line_before stays line lines = if stays then line ∷ lines else lines
+
+abbrev pub lines_left : List Bool → List BanLine → List BanLine
+lines_left [] lines = lines
+lines_left (stays ∷ others) [] = []
+lines_left (stays ∷ others) (line ∷ lines) = line_before stays line (lines_left others lines)
+
+-- What counts at a line that stays counts there, and at another it counts at the next older one that stays, or below all.
+abbrev pub count_before : Bool → ℕ → List ℕ → List ℕ
+count_before true count counts = count ∷ counts
+count_before false count [] = count ∷ []
+count_before false count (older ∷ counts) = (count + older) ∷ counts
+
+abbrev pub counts_left : List Bool → List ℕ → List ℕ
+counts_left [] counts = counts
+counts_left (stays ∷ others) [] = []
+counts_left (stays ∷ others) (count ∷ counts) = count_before stays count (counts_left others counts)
+
+-- the lines that are needed are left
+abbrev pub with_needed : List Bool → Bans → Bans
+with_needed stays bans = record bans { lines = lines_left stays bans.lines; placed = counts_left stays bans.placed; marked = counts_left stays bans.marked }
+
+abbrev pub only_needed : Bans → Bans
+only_needed bans = with_needed (are_needed bans.lines bans.placed bans.marked) bans

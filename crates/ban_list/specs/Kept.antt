@@ -1,5 +1,5 @@
 -- What a list of bans keeps beside its lines, as functions of keys and of lines.
-use Rattle.std.specs.Prelude.{◌≡◌, ◌<◌, ◌+◌, ℕ, zero, suc, Bool, true, false, ◌&&◌, cond, nat_eq, List, [], ◌∷◌, ⊤, length, sum, find, Option, None, Some}
+use Rattle.std.specs.Prelude.{◌≡◌, ◌<◌, ◌+◌, ◌^◌, ℕ, zero, suc, Bool, true, false, ◌&&◌, cond, nat_eq, List, [], ◌∷◌, ⊤, length, sum, find, Option, None, Some}
 use Rattle.std.specs.List.{AllByRecursion}
 use Rattle.std.specs.Option.{option_map}
 use Rattle.std.specs.Str.{bytes_eq}
@@ -42,6 +42,11 @@ pub record AreCounts (lines : List BanLine) (counts : List ℕ) (objects : ℕ) 
   pub one_each : length counts ≡ length lines + 1
   pub all : sum counts ≡ objects
 
+-- the same of counts whose sum is a number of 64 bits
+pub record AreFew (lines : List BanLine) (counts : List ℕ) : Type 0 where
+  pub one_each : length counts ≡ length lines + 1
+  pub few : sum counts < 2 ^ 64
+
 -- the same of a value
 pub record IsWhole (bans : Bans) : Type 0 where
   pub places : length bans.placed ≡ length bans.lines + 1
@@ -78,3 +83,8 @@ module _ {S : Type 0} where
 
   abbrev pub IsSame : IndexMap (List ℕ) ℕ S → IndexMap (List ℕ) ℕ S → Type 0
   IsSame old new = (key : List ℕ) → get bytes_eq new key ≡ get bytes_eq old key
+
+  -- the same, unless the line stays
+  abbrev pub ForgetsUnless : Bool → IndexMap (List ℕ) ℕ S → Option (List ℕ) → ℕ → IndexMap (List ℕ) ℕ S → Type 0
+  ForgetsUnless true old own number new = IsSame old new
+  ForgetsUnless false old own number new = Forgets old own number new

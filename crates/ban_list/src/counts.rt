@@ -1,6 +1,6 @@
 // How many objects stand where, as counts in a row.
-ghost use Rattle.std.specs.Prelude.{◌≡◌, ◌+◌, ◌-◌, ◌<◌, ◌≤◌, ◌^◌, get_or, length, sum};
-ghost use Rattle.ban_list.specs.Bans.{one_less, one_more, summed};
+ghost use Rattle.std.specs.Prelude.{◌≡◌, ◌+◌, ◌-◌, ◌<◌, ◌≤◌, ◌^◌, ◌∷◌, ◌++◌, [], ℕ, List, get_or, length, sum};
+ghost use Rattle.ban_list.specs.Bans.{count_before, one_less, one_more, summed};
 
 use std::collections::VecDeque;
 
@@ -31,4 +31,20 @@ pub(crate) fn join_last(counts: &mut VecDeque<u64>)
     let behind = counts.pop_back().unwrap_or(0);
     let last = counts.len() - 1;
     counts[last] += behind;
+}
+
+/// Takes the last count, and gives it: it comes first where it stays, and else is added to the first.
+pub(crate) fn turn_last(counts: &mut VecDeque<u64>, stays: bool) -> u64
+    requires some { 0 < length counts.old.items }
+    requires few { sum counts.old.items < 2 ^ 64 }
+    ensures { (others : List ℕ) (last : ℕ) → counts.old.items ≡ others ++ last ∷ []
+        → (result ≡ last) × (counts.new.items ≡ count_before stays last others) }
+{
+    let last = counts.pop_back().unwrap_or(0);
+    if stays || counts.is_empty() {
+        counts.push_front_reserved(last);
+    } else {
+        counts[0] += last;
+    }
+    last
 }

@@ -1,15 +1,16 @@
 // Bans in the order of their issue, with the objects that stand among them.
-ghost use Rattle.std.specs.Prelude.{◌≡◌, ◌+◌, ◌-◌, ◌<◌, ◌^◌, ℕ, true, not, length, get_or, slice_get, IfOk, OnOk, OnErr};
+ghost use Rattle.std.specs.Prelude.{◌≡◌, ◌+◌, ◌-◌, ◌<◌, ◌^◌, ◌∷◌, ◌++◌, [], ℕ, List, true, not, length, get_or, slice_get, IfOk, OnOk, OnErr};
+ghost use Rattle.cache_law.specs.declared.ban.BanLine.{BanLine as Shown};
 ghost use Rattle.std.specs.Option.{option_copied};
 ghost use Rattle.std.specs.Str.{bytes_eq};
 ghost use Rattle.std.specs.VecDeque.{deque_len};
 ghost use Rattle.indexmap.specs.IndexMap.{get};
 ghost use Rattle.cache_law.specs.Bans.{object_only as looks_at_objects};
 ghost use Rattle.ban_list.specs.Keys.{equal_key, same_key};
-ghost use Rattle.ban_list.specs.Bans.{IsCut, cut_to, departed, entered, is_needed as is_needed_at, is_wanted, newer, no_bans, standing, with_ban};
-ghost use Rattle.ban_list.specs.Kept.{AreFalling, IsSame, IsWhole, Puts, Forgets, completed_at, found_under};
+ghost use Rattle.ban_list.specs.Bans.{IsCut, are_needed, counts_left, cut_to, departed, entered, is_needed as is_needed_at, is_wanted, line_before, lines_left, newer, no_bans, only_needed, standing, with_ban};
+ghost use Rattle.ban_list.specs.Kept.{AreCompleted, AreFalling, AreFew, IsIndexOf, IsSame, IsWhole, Puts, Forgets, ForgetsUnless, completed_at, found_under};
 
-use crate::counts::{add_one, join_last, take_one};
+use crate::counts::{add_one, join_last, take_one, turn_last};
 use crate::line::Line;
 use cache_law::{Ban, BanLine};
 use indexmap::IndexMap;
@@ -220,6 +221,19 @@ impl BanList {
         }
     }
 
+    /// Takes out all lines that nothing needs, wherever they stand. What counted at one counts at the next older one
+    /// that is left, or below all. It goes over the whole list and takes no memory.
+    pub fn keep_needed(&mut self)
+        ensures { self.new ≡ only_needed self.old }
+    {
+        keep_needed(
+            &mut self.lines,
+            &mut self.equals,
+            &mut self.placed,
+            &mut self.marked,
+        );
+    }
+
     /// The lines as a reply shows them.
     pub fn shown(&self, alloc: Global) -> Result<Sequence<BanLine>, AllocError>
         ensures { IfOk result (λ lines. lines ≡ self.now.lines) }
@@ -249,6 +263,61 @@ fn is_wanted(line: &Line, placed_below: u64, marked_below: u64) -> bool
         placed_below
     };
     !line.is_completed() && below > 0
+}
+
+// Goes over the lines from the oldest on: one that is needed comes first, before the newer ones, and another goes.
+fn keep_needed(
+    lines: &mut VecDeque<Line>,
+    equals: &mut IndexMap<Text, u64>,
+    placed: &mut VecDeque<u64>,
+    marked: &mut VecDeque<u64>,
+)
+    requires falling { (bound : ℕ) × AreFalling bound lines.old.items }
+    requires completed { AreCompleted lines.old.items }
+    requires index { IsIndexOf lines.old.items equals.old }
+    requires places { AreFew lines.old.items placed.old.items }
+    requires marks { AreFew lines.old.items marked.old.items }
+    ensures lines { lines.new.items ≡ lines_left (are_needed lines.old.items placed.old.items marked.old.items) lines.old.items }
+    ensures index { IsIndexOf lines.new.items equals.new }
+    ensures places { placed.new.items ≡ counts_left (are_needed lines.old.items placed.old.items marked.old.items) placed.old.items }
+    ensures marks { marked.new.items ≡ counts_left (are_needed lines.old.items placed.old.items marked.old.items) marked.old.items }
+{
+    let mut placed_below = turn_last(placed, true);
+    let mut marked_below = turn_last(marked, true);
+    let mut left = lines.len();
+    while left > 0 {
+        let stays = turn_oldest(lines, equals, placed_below, marked_below);
+        placed_below += turn_last(placed, stays);
+        marked_below += turn_last(marked, stays);
+        left -= 1;
+    }
+}
+
+// The oldest line comes first where it is needed, with so many below it, and else goes. Says which.
+fn turn_oldest(
+    lines: &mut VecDeque<Line>,
+    equals: &mut IndexMap<Text, u64>,
+    placed_below: u64,
+    marked_below: u64,
+) -> bool
+    requires { 0 < length lines.old.items }
+    ensures needed { (others : List Shown) (oldest : Shown) → lines.old.items ≡ others ++ oldest ∷ []
+        → result ≡ is_wanted oldest placed_below marked_below }
+    ensures lines { (others : List Shown) (oldest : Shown) → lines.old.items ≡ others ++ oldest ∷ []
+        → lines.new.items ≡ line_before result oldest others }
+    ensures index { (others : List Shown) (oldest : Shown) → lines.old.items ≡ others ++ oldest ∷ []
+        → ForgetsUnless result equals.old (equal_key oldest.issued.ban) oldest.issued.number equals.new }
+{
+    let Some(oldest) = lines.pop_back() else {
+        return false;
+    };
+    if is_wanted(&oldest, placed_below, marked_below) {
+        lines.push_front_reserved(oldest);
+        return true;
+    }
+    forget(equals, &oldest);
+    let_go(oldest);
+    false
 }
 
 fn last_of(counts: &VecDeque<u64>) -> u64

@@ -10,7 +10,7 @@ use units::{Sequence, Text};
 use vcl_store::checked;
 use vcl_tree::{Item, VclError};
 use vmod_host::VmodTable;
-use world::{ShelfError, World};
+use world::{ShelfError, World, read_file};
 
 // The name of the backend that the item declares.
 fn backend_of(item: &Item) -> Option<&Text>
@@ -64,12 +64,13 @@ pub fn read_boot<W: World>(
     ensures ports { W.ports world.new ≡ W.ports world.old }
     ensures links { W.links world.new ≡ W.links world.old }
     ensures kept { W.kept world.new ≡ W.kept world.old }
+    ensures given { W.given world.new ≡ W.given world.old }
     ensures kits { W.kits world.new ≡ W.kits world.old }
     ensures files { W.files world.new ≡ W.files world.old }
     ensures listens { W.listen_faults world.new ≡ W.listen_faults world.old }
     ensures ended { W.ended world.new ≡ W.ended world.old }
 {
-    match world.shelf(name) {
+    match read_file(world, name) {
         Ok(Some(text)) => boot_of(alloc, text, vmods),
         Ok(None) => Err(BootError::Missing),
         Err(ShelfError::Failed) => Err(BootError::Unreadable),

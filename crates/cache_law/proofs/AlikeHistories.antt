@@ -13,9 +13,9 @@ use Rattle.cache_law.specs.declared.setting.Params.{Params}
 use Rattle.cache_law.specs.Object.{in_time}
 use Rattle.cache_law.specs.Bans.{is_equal, is_on_time, is_shown, lasting, same_condition, stands_for}
 use Rattle.cache_law.specs.ShownBans.{AllShown, IsPartOf}
-use Rattle.cache_law.specs.State.{State, Held, as_seen, at_moment, awaits, reserve}
+use Rattle.cache_law.specs.State.{State, Held, as_seen, at_moment, awaits, count_open}
 use Rattle.cache_law.specs.Law.{IsBanList, MayAnswer, after, answered, behind, refused}
-use Rattle.cache_law.specs.History.{Fits, Follows, HasWaited, Legal, LegalFrom, bytes_of, is_numbered, next_state, reached_from}
+use Rattle.cache_law.specs.History.{Fits, FollowAll, Follows, HasWaited, Legal, WithinAll, bytes_of, is_numbered, next_state, reached_from}
 use Rattle.cache_law.specs.Bases.{AreAlike, AreAlikeAsSeen, AreHeldAlike, IsIn, is_completed}
 use Rattle.cache_law.proofs.BanLemmas.{one_list}
 use Rattle.cache_law.proofs.Lawful.{asks_bans}
@@ -143,9 +143,9 @@ step_states room less more caller BanList alike = alike
 step_states room less more caller call alike = (steps_alike room less more caller call alike refl).states
 
 -- what an entry leaves
-after_alike : (params : Params) (one two less more : State) (caller moment : ℕ) (call : Call) (reply : Reply) → less.moment ≤ moment → AreAlike less more
-    → AreAlike (after (record { params = params; base = one }) less caller moment call reply) (after (record { params = params; base = two }) more caller moment call reply)
-after_alike params one two less more caller moment call reply order alike =
+after_alike : (params : Params) (less more : State) (caller moment : ℕ) (call : Call) (reply : Reply) → less.moment ≤ moment → AreAlike less more
+    → AreAlike (after params less caller moment call reply) (after params more caller moment call reply)
+after_alike params less more caller moment call reply order alike =
     let now = alike_at moment less more order alike in
     alike_seen _ _ (entries_alike _ _ (less.entries + 1) (more.entries + 1) (ap (λ (s : State). s.entries + 1) alike.rest)
     (behind_alike reply _ _ _ _ (refused_alike (at_moment moment less) (at_moment moment more) call now) (step_states params.room (at_moment moment less) (at_moment moment more) caller call now)))
@@ -154,8 +154,8 @@ waited_alike : (less more : State) (caller : ℕ) (call : Call) → AreAlike les
 waited_alike less more caller (Lookup query) alike waited = sym (ap (λ (s : State). awaits s caller) alike.rest) ∙ waited
 waited_alike less more caller call alike waited = tt
 
-pub follows_alike : (params : Params) (one two less more : State) (entry : Entry) → AreAlike less more → Follows (record { params = params; base = one }) less entry → Follows (record { params = params; base = two }) more entry
-follows_alike params one two less more entry alike follows =
+pub follows_alike : (params : Params) (less more : State) (entry : Entry) → AreAlike less more → Follows params less entry → Follows params more entry
+follows_alike params less more entry alike follows =
     record {
       no_earlier = omega (arith, follows.no_earlier, same_moment less more alike);
       waited = waited_alike less more entry.caller entry.call alike follows.waited;
@@ -166,27 +166,46 @@ number_alike : (room : ℕ) (less more : State) (caller : ℕ) (call : Call) →
 number_alike room less more caller BanList alike numbered = refl
 number_alike room less more caller call alike numbered = ap is_numbered (sym (steps_alike room less more caller call alike refl).reply) ∙ numbered
 
-pub fits_alike : (params : Params) (one two less more : State) (used caller moment : ℕ) (call : Call) → less.moment ≤ moment → AreAlike less more
-    → Fits (record { params = params; base = one }) less used caller moment call → Fits (record { params = params; base = two }) more used caller moment call
-fits_alike params one two less more used caller moment call order alike fits =
+pub fits_alike : (params : Params) (less more : State) (used caller moment : ℕ) (call : Call) → less.moment ≤ moment → AreAlike less more
+    → Fits params less used caller moment call → Fits params more used caller moment call
+fits_alike params less more used caller moment call order alike fits =
     let now = alike_at moment less more order alike in
-    let same = ap reserve (step_states params.room (at_moment moment less) (at_moment moment more) caller call now).rest in
-    record { number = number_alike params.room (at_moment moment less) (at_moment moment more) caller call now fits.number; within = omega (arith, fits.within, same) }
+    let same = ap count_open (step_states params.room (at_moment moment less) (at_moment moment more) caller call now).rest in
+    let entries = ap (λ (s : State). s.entries) alike.rest in
+    record {
+      number = number_alike params.room (at_moment moment less) (at_moment moment more) caller call now fits.number;
+      within = omega (arith, fits.within, same);
+      counted = omega (arith, fits.counted, same, entries);
+    }
 
-pub legal_from_alike : (params : Params) (one two less more : State) (used : ℕ) (entries : List Entry) → AreAlike less more → LegalFrom (record { params = params; base = one }) less used entries
-    → LegalFrom (record { params = params; base = two }) more used entries × AreAlike (reached_from (record { params = params; base = one }) less entries) (reached_from (record { params = params; base = two }) more entries)
-legal_from_alike params one two less more used [] alike legal = (tt, alike)
-legal_from_alike params one two less more used (e ∷ es) alike legal =
-    let order = legal.0.no_earlier in
-    let next = after_alike params one two less more e.caller e.moment e.call e.reply order alike in
-    let later = legal_from_alike params one two (next_state (record { params = params; base = one }) less e) (next_state (record { params = params; base = two }) more e) (used + bytes_of e.call) es next legal.2 in
-    ((follows_alike params one two less more e alike legal.0, fits_alike params one two less more used e.caller e.moment e.call order alike legal.1, later.0), later.1)
+pub follow_alike : (params : Params) (less more : State) (entries : List Entry) → AreAlike less more → FollowAll params less entries
+    → FollowAll params more entries × AreAlike (reached_from params less entries) (reached_from params more entries)
+follow_alike params less more [] alike follow = (tt, alike)
+follow_alike params less more (e ∷ es) alike follow =
+    let next = after_alike params less more e.caller e.moment e.call e.reply follow.0.no_earlier alike in
+    let later = follow_alike params (next_state params less e) (next_state params more e) es next follow.1 in
+    ((follows_alike params less more e alike follow.0, later.0), later.1)
+
+pub within_alike : (params : Params) (less more : State) (used : ℕ) (entries : List Entry) → AreAlike less more → FollowAll params less entries → WithinAll params less used entries → WithinAll params more used entries
+within_alike params less more used [] alike follow within = tt
+within_alike params less more used (e ∷ es) alike follow within =
+    let order = follow.0.no_earlier in
+    let next = after_alike params less more e.caller e.moment e.call e.reply order alike in (
+      fits_alike params less more used e.caller e.moment e.call order alike within.0,
+      within_alike params (next_state params less e) (next_state params more e) (used + bytes_of e.call) es next follow.1 within.1,
+    )
 
 -- what is legal from a base is legal from one that is alike
 pub legal_alike : (params : Params) (less more : State) (entries : List Entry) → AreAlike less more → Legal (record { params = params; base = less }) entries → Legal (record { params = params; base = more }) entries
 legal_alike params less more entries alike legal =
-    record { opens = omega (arith, legal.opens, ap reserve alike.rest); each = (legal_from_alike params less more less more 0 entries alike legal.each).0 }
+    let same = ap count_open alike.rest in
+    let count = ap (λ (s : State). s.entries) alike.rest in
+    record {
+      opens = omega (arith, legal.opens, same);
+      counts = omega (arith, legal.counts, same, count);
+      follow = (follow_alike params less more entries alike legal.follow).0;
+      within = within_alike params less more 0 entries alike legal.follow legal.within;
+    }
 
-pub reached_alike : (params : Params) (less more : State) (entries : List Entry) → AreAlike less more → Legal (record { params = params; base = less }) entries
-    → AreAlike (reached_from (record { params = params; base = less }) less entries) (reached_from (record { params = params; base = more }) more entries)
-reached_alike params less more entries alike legal = (legal_from_alike params less more less more 0 entries alike legal.each).1
+pub reached_alike : (params : Params) (less more : State) (entries : List Entry) → AreAlike less more → FollowAll params less entries → AreAlike (reached_from params less entries) (reached_from params more entries)
+reached_alike params less more entries alike follow = (follow_alike params less more entries alike follow).1

@@ -10,9 +10,9 @@ use Rattle.cache_law.specs.declared.setting.Params.{Params}
 use Rattle.cache_law.specs.Bans.{is_equal, same_condition}
 use Rattle.cache_law.specs.ShownBans.{IsPartOf}
 use Rattle.cache_law.specs.State.{State, Held, as_seen}
-use Rattle.cache_law.specs.History.{Legal, next_state, reached, reached_from}
-use Rattle.cache_law.specs.Bases.{AreAlike, AreAlikeAsSeen, AreHeldAlike, IsHeldAlike, IsIn, IsThinned, is_completed}
-use Rattle.cache_law.specs.Segments.{GoesOn, IsClosed, Segmented, from, joined}
+use Rattle.cache_law.specs.History.{Legal, reached}
+use Rattle.cache_law.specs.Bases.{AreAlike, AreAlikeAsSeen, AreHeldAlike, IsClosed, IsHeldAlike, IsIn, IsThinned, is_completed}
+use Rattle.cache_law.specs.Segments.{GoesOn, Segmented, from, joined}
 use Rattle.cache_law.proofs.BanLemmas.{one_list}
 use Rattle.cache_law.proofs.Numbers.{reached_from-append}
 use Rattle.cache_law.proofs.AlikeHistories.{legal_alike, part_of_part, reached_alike}
@@ -30,7 +30,7 @@ all_in kept (ban ∷ whole) each = (inl (each ban (inl refl)), all_in kept whole
 own_thinned : (bans : List Issued) → IsThinned bans bans
 own_thinned bans = record { part = own_part bans; covers = all_in bans bans (λ ban p. p) }
 
-own_held : (objects : List Held) → AreHeldAlike objects objects
+pub own_held : (objects : List Held) → AreHeldAlike objects objects
 own_held [] = tt
 own_held (held ∷ objects) = (record { rest = refl; pending = own_thinned held.pending }, own_held objects)
 
@@ -125,15 +125,9 @@ joined-push : (segments : List (List Entry)) (entries : List Entry) → joined (
 joined-push [] entries = append_none entries
 joined-push (segment ∷ segments) entries = ap (λ (es : List Entry). segment ++ es) (joined-push segments entries) ∙ sym (append_assoc segment (joined segments) entries)
 
--- what entries reach depends on where they begin, and on no base beside that
-other_base : (params : Params) (one two state : State) (entries : List Entry) → reached_from (from params one) state entries ≡ reached_from (from params two) state entries
-other_base params one two state [] = refl
-other_base params one two state (e ∷ es) = other_base params one two (next_state (from params one) state e) es
-
 -- what entries reach behind others
 reached_behind : (params : Params) (state : State) (before entries : List Entry) → reached (from params state) (before ++ entries) ≡ reached (from params (reached (from params state) before)) entries
-reached_behind params state before entries =
-    reached_from-append (from params state) state before entries ∙ other_base params state (reached (from params state) before) (reached (from params state) before) entries
+reached_behind params state before entries = reached_from-append params state before entries
 
 -- one segment more, from the state that all before reach
 segmented_push : (params : Params) (state : State) (segments : List (List Entry)) (entries : List Entry) → Segmented params state segments → (segments ≢ [] → IsClosed (reached (from params state) (joined segments)))
@@ -160,7 +154,7 @@ more_go_on params first base next segments entries goes legal closed alike =
     let all : State = reached (from params first) (joined segments) in
     let there : reached (from params first) (joined (segments ++ entries ∷ [])) ≡ reached (from params all) entries =
     ap (reached (from params first)) (joined-push segments entries) ∙ reached_behind params first (joined segments) entries in
-    let mid : AreAlike (reached (from params base) entries) (reached (from params all) entries) = reached_alike params base all entries goes.alike legal in
+    let mid : AreAlike (reached (from params base) entries) (reached (from params all) entries) = reached_alike params base all entries goes.alike legal.follow in
     let end_ : AreAlike next (reached (from params first) (joined (segments ++ entries ∷ []))) =
     subst (AreAlike next) (sym there) (alike_of_alike (as_seen next) (as_seen (reached (from params base) entries)) (as_seen (reached (from params all) entries)) alike mid) in
     let shut : IsClosed (reached (from params first) (joined (segments ++ entries ∷ []))) =

@@ -5,7 +5,7 @@ use Rattle.cache_law.specs.declared.call.Call.TheVariants.{Begin, Draw, Lookup, 
 use Rattle.cache_law.specs.declared.call.Reply.{Reply}
 use Rattle.cache_law.specs.declared.call.Reply.TheVariants.{Refused}
 use Rattle.cache_law.specs.State.{State, at_moment, has_round, has_fetch}
-use Rattle.cache_law.specs.Beginning.{Beginning}
+use Rattle.cache_law.specs.declared.setting.Params.{Params}
 use Rattle.cache_law.specs.Law.{Step, answered, refused, behind, after}
 use Rattle.cache_law.proofs.Leaves.{either, looked_leaf, inserted_leaf, picked_leaf, health_leaf, loaded_leaf, switched_leaf, discarded_leaf}
 
@@ -68,7 +68,7 @@ pub behind_either : (P : State → Type 0) (reply : Reply) (refusal law : State)
 behind_either P Refused refusal law r l = r
 behind_either P reply refusal law r l = l
 
-pub after_grows : (beginning : Beginning) (state : State) (caller moment : ℕ) (call : Call) (answer : Reply) → Grows (at_moment moment state) (after beginning state caller moment call answer)
-after_grows beginning state caller moment call answer =
-    let grows = behind_either (Grows (at_moment moment state)) answer _ _ (refused_grows (at_moment moment state) call) (answered_grows beginning.params.room (at_moment moment state) caller call) in
+pub after_grows : (params : Params) (state : State) (caller moment : ℕ) (call : Call) (answer : Reply) → Grows (at_moment moment state) (after params state caller moment call answer)
+after_grows params state caller moment call answer =
+    let grows = behind_either (Grows (at_moment moment state)) answer _ _ (refused_grows (at_moment moment state) call) (answered_grows params.room (at_moment moment state) caller call) in
     record { moment = grows.moment; rises = grows.rises; next = grows.next }

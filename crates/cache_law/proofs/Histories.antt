@@ -6,14 +6,14 @@ use Rattle.cache_law.specs.declared.setting.Boot.{Boot}
 use Rattle.cache_law.specs.declared.call.Entry.{Entry}
 use Rattle.cache_law.specs.State.{State}
 use Rattle.cache_law.specs.Beginning.{Beginning, beginning_of}
-use Rattle.cache_law.specs.History.{bytes_of, bytes_of_all, Fits, Follows, next_state, reached_from, reached, LegalFrom, Legal}
+use Rattle.cache_law.specs.History.{bytes_of, bytes_of_all, Fits, FollowAll, Follows, Legal, WithinAll, next_state, reached_from, reached}
 
-pub reached_from-push : (beginning : Beginning) (state : State) (entries : List Entry) (entry : Entry) → reached_from beginning state (entries ++ entry ∷ []) ≡ next_state beginning (reached_from beginning state entries) entry
-reached_from-push beginning state [] entry = refl
-reached_from-push beginning state (e ∷ es) entry = reached_from-push beginning (next_state beginning state e) es entry
+pub reached_from-push : (params : Params) (state : State) (entries : List Entry) (entry : Entry) → reached_from params state (entries ++ entry ∷ []) ≡ next_state params (reached_from params state entries) entry
+reached_from-push params state [] entry = refl
+reached_from-push params state (e ∷ es) entry = reached_from-push params (next_state params state e) es entry
 
-pub reached-push : (beginning : Beginning) (entries : List Entry) (entry : Entry) → reached beginning (entries ++ entry ∷ []) ≡ next_state beginning (reached beginning entries) entry
-reached-push beginning entries entry = reached_from-push beginning beginning.base entries entry
+pub reached-push : (beginning : Beginning) (entries : List Entry) (entry : Entry) → reached beginning (entries ++ entry ∷ []) ≡ next_state beginning.params (reached beginning entries) entry
+reached-push beginning entries entry = reached_from-push beginning.params beginning.base entries entry
 
 pub bytes_of_all-push : (entries : List Entry) (entry : Entry) → bytes_of_all (entries ++ entry ∷ []) ≡ bytes_of_all entries + bytes_of entry.call
 bytes_of_all-push entries entry = sum_by_push (λ (e : Entry). bytes_of e.call) entries entry
@@ -26,22 +26,28 @@ pub bytes_of_all-least : (entries : List Entry) → 64 * length entries ≤ byte
 bytes_of_all-least [] = omega arith
 bytes_of_all-least (e ∷ es) = omega (arith, bytes_of_all-least es, bytes_of_all-cons e es)
 
-pub LegalFrom-push : (beginning : Beginning) (state : State) (used : ℕ) (entries : List Entry) (entry : Entry) → LegalFrom beginning state used entries → Follows beginning (reached_from beginning state entries) entry → Fits beginning (reached_from beginning state entries) (used + bytes_of_all entries) entry.caller entry.moment entry.call → LegalFrom beginning state used (entries ++ entry ∷ [])
-LegalFrom-push beginning state used [] entry legal follows fits =
-    let e : used + bytes_of_all [] ≡ used = omega arith in
-    (follows, subst (λ (n : ℕ). Fits beginning state n entry.caller entry.moment entry.call) e fits, tt)
-LegalFrom-push beginning state used (e ∷ es) entry legal follows fits =
-    let same : used + bytes_of_all (e ∷ es) ≡ used + bytes_of e.call + bytes_of_all es = omega (arith, bytes_of_all-cons e es) in
-    (legal.0, legal.1, LegalFrom-push beginning (next_state beginning state e) (used + bytes_of e.call) es entry legal.2 follows (subst (λ (n : ℕ). Fits beginning (reached_from beginning state (e ∷ es)) n entry.caller entry.moment entry.call) same fits))
+pub FollowAll-push : (params : Params) (state : State) (entries : List Entry) (entry : Entry) → FollowAll params state entries → Follows params (reached_from params state entries) entry → FollowAll params state (entries ++ entry ∷ [])
+FollowAll-push params state [] entry follow follows = (follows, tt)
+FollowAll-push params state (e ∷ es) entry follow follows = (follow.0, FollowAll-push params (next_state params state e) es entry follow.1 follows)
 
-pub Legal-push : (beginning : Beginning) (entries : List Entry) (entry : Entry) → Legal beginning entries → Follows beginning (reached beginning entries) entry → Fits beginning (reached beginning entries) (bytes_of_all entries) entry.caller entry.moment entry.call → Legal beginning (entries ++ entry ∷ [])
+pub WithinAll-push : (params : Params) (state : State) (used : ℕ) (entries : List Entry) (entry : Entry) → WithinAll params state used entries → Fits params (reached_from params state entries) (used + bytes_of_all entries) entry.caller entry.moment entry.call → WithinAll params state used (entries ++ entry ∷ [])
+WithinAll-push params state used [] entry within fits =
+    let e : used + bytes_of_all [] ≡ used = omega arith in
+    (subst (λ (n : ℕ). Fits params state n entry.caller entry.moment entry.call) e fits, tt)
+WithinAll-push params state used (e ∷ es) entry within fits =
+    let same : used + bytes_of_all (e ∷ es) ≡ used + bytes_of e.call + bytes_of_all es = omega (arith, bytes_of_all-cons e es) in
+    (within.0, WithinAll-push params (next_state params state e) (used + bytes_of e.call) es entry within.1 (subst (λ (n : ℕ). Fits params (reached_from params state (e ∷ es)) n entry.caller entry.moment entry.call) same fits))
+
+pub Legal-push : (beginning : Beginning) (entries : List Entry) (entry : Entry) → Legal beginning entries → Follows beginning.params (reached beginning entries) entry → Fits beginning.params (reached beginning entries) (bytes_of_all entries) entry.caller entry.moment entry.call → Legal beginning (entries ++ entry ∷ [])
 Legal-push beginning entries entry legal follows fits =
     let e : bytes_of_all entries ≡ 0 + bytes_of_all entries = omega arith in
     record {
       opens = legal.opens;
-      each = LegalFrom-push beginning beginning.base 0 entries entry legal.each follows (subst (λ (n : ℕ). Fits beginning (reached beginning entries) n entry.caller entry.moment entry.call) e fits);
+      counts = legal.counts;
+      follow = FollowAll-push beginning.params beginning.base entries entry legal.follow follows;
+      within = WithinAll-push beginning.params beginning.base 0 entries entry legal.within (subst (λ (n : ℕ). Fits beginning.params (reached beginning entries) n entry.caller entry.moment entry.call) e fits);
     }
 
 -- the empty history of a run is legal
 pub Legal-beginning_of : (params : Params) (boot : Boot) → Legal (beginning_of params boot) []
-Legal-beginning_of params boot = record { opens = omega arith; each = tt }
+Legal-beginning_of params boot = record { opens = omega arith; counts = omega arith; follow = tt; within = tt }

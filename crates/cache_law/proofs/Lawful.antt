@@ -6,7 +6,7 @@ use Rattle.cache_law.specs.declared.call.Call.TheVariants.{Begin, Draw, Lookup, 
 use Rattle.cache_law.specs.declared.call.Reply.{Reply}
 use Rattle.cache_law.specs.declared.call.Reply.TheVariants.{NotOpen, Refused, Bans}
 use Rattle.cache_law.specs.State.{State, at_moment, has_round, has_fetch}
-use Rattle.cache_law.specs.Beginning.{Beginning}
+use Rattle.cache_law.specs.declared.setting.Params.{Params}
 use Rattle.cache_law.specs.Law.{Step, step_of, answered, leaving, after, behind, MayAnswer, IsBanList}
 use Rattle.cache_law.proofs.Leaves.{either, looked_leaf, inserted_leaf, picked_leaf, health_leaf, loaded_leaf, switched_leaf, discarded_leaf}
 
@@ -52,9 +52,9 @@ behind_lawful Refused refusal law h = absurd (true≢false h)
 behind_lawful reply refusal law h = refl
 
 -- behind the law's reply is the law's state, with one more entry
-pub after-lawful : (beginning : Beginning) (state : State) (caller moment : ℕ) (call : Call) (answer : Reply) → answer ≡ (step_of beginning state caller moment call).reply → after beginning state caller moment call answer ≡ record (step_of beginning state caller moment call).state { entries = state.entries + 1 }
-after-lawful beginning state caller moment call answer e =
-    ap (λ (s : State). record s { entries = state.entries + 1 }) (behind_lawful answer _ _ (ap is_refusal e ∙ answers_lawfully beginning.params.room (at_moment moment state) caller call))
+pub after-lawful : (params : Params) (state : State) (caller moment : ℕ) (call : Call) (answer : Reply) → answer ≡ (step_of params state caller moment call).reply → after params state caller moment call answer ≡ record (step_of params state caller moment call).state { entries = state.entries + 1 }
+after-lawful params state caller moment call answer e =
+    ap (λ (s : State). record s { entries = state.entries + 1 }) (behind_lawful answer _ _ (ap is_refusal e ∙ answers_lawfully params.room (at_moment moment state) caller call))
 
 -- the insertion of a fetch that isn't open is answered so
 pub not_open : (state : State) (opened : Bool) (step : Step) → (cond opened step (leaving state NotOpen)).reply ≢ NotOpen → opened ≡ true
@@ -80,6 +80,6 @@ lawful_if_not_refused state BanList law answer one may other = absurd (true≢fa
 lawful_if_not_refused state call law answer one may other = may
 
 -- behind a list of bans is the law's state, with one more entry
-pub after-listed : (beginning : Beginning) (state : State) (caller moment : ℕ) (answer : Reply) → IsBanList (at_moment moment state) answer → after beginning state caller moment BanList answer ≡ record (step_of beginning state caller moment BanList).state { entries = state.entries + 1 }
-after-listed beginning state caller moment (Bans lines) shows = refl
-after-listed beginning state caller moment answer shows = absurd shows
+pub after-listed : (params : Params) (state : State) (caller moment : ℕ) (answer : Reply) → IsBanList (at_moment moment state) answer → after params state caller moment BanList answer ≡ record (step_of params state caller moment BanList).state { entries = state.entries + 1 }
+after-listed params state caller moment (Bans lines) shows = refl
+after-listed params state caller moment answer shows = absurd shows

@@ -23,8 +23,14 @@ pub mod Alike
 pub mod AlikeSteps
 pub mod AlikeHistories
 pub mod GoingOn
-pub mod Struck
-pub mod Tested
 pub mod VclNumbers
 pub mod RoundVcls
 pub mod VclsRise
+pub mod Sound
+pub mod Cut
+pub mod Within
+pub mod Reopened
+pub mod Struck
+pub mod Drawing
+pub mod Waiting
+pub mod Tested

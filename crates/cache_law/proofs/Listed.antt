@@ -2,7 +2,6 @@
 use Rattle.std.proofs.Common.{◌==◌, ℕ, Bool, true, false, cond, not, List, [], ◌∷◌, Option, Some, None, filter, map, find}
 use Rattle.std.specs.Option.{option_map_or}
 use Rattle.cache_law.specs.declared.setting.Params.{Params}
-use Rattle.cache_law.specs.declared.setting.Boot.{Boot}
 use Rattle.cache_law.specs.declared.ban.Issued.{Issued}
 use Rattle.cache_law.specs.declared.call.Query.{Query}
 use Rattle.cache_law.specs.declared.call.Call.{Call}
@@ -10,17 +9,16 @@ use Rattle.cache_law.specs.declared.call.Call.TheVariants.{Begin, Draw, Lookup, 
 use Rattle.cache_law.specs.declared.call.Entry.{Entry}
 use Rattle.cache_law.specs.Object.{in_time, key_of, same_texts}
 use Rattle.cache_law.specs.State.{State, Held, at_moment, has_round, has_fetch, inherited, without_stale}
-use Rattle.cache_law.specs.ShownBans.{IsPartOf, ShowsBans}
-use Rattle.cache_law.specs.BansAtOnce.{AwaitIssued, is_met, cleared, issued_behind, open_lines}
+use Rattle.cache_law.specs.ShownBans.{IsPartOf}
+use Rattle.cache_law.specs.BansAtOnce.{AwaitIssued, is_met, cleared, issued_behind}
 use Rattle.cache_law.specs.Purges.{has_key, has_xkey, softening, xkey_over}
 use Rattle.cache_law.specs.Lookup.{Scan, scanned, counting, touching, is_chosen_by, is_fresh, ending, seeing, passing}
-use Rattle.cache_law.specs.Beginning.{Beginning, beginning_of}
 use Rattle.cache_law.specs.Law.{Step, answered, refused}
-use Rattle.cache_law.specs.History.{next_state, reached_from, reached}
+use Rattle.cache_law.specs.History.{next_state, reached_from}
 use Rattle.cache_law.proofs.Leaves.{either, inserted_leaf, picked_leaf, health_leaf, loaded_leaf, switched_leaf, discarded_leaf}
 use Rattle.cache_law.proofs.ScanLeaves.{looked_leaf_of}
 use Rattle.cache_law.proofs.Growth.{behind_either}
-use Rattle.cache_law.proofs.WaitingBans.{ban_over_await, all_bans_shown}
+use Rattle.cache_law.proofs.WaitingBans.{ban_over_await}
 
 filter_step : (bans : List Issued) (held : Held) (objects : List Held) (b : Bool) → IsPartOf held.pending bans → AwaitIssued bans objects → AwaitIssued bans (cond b (held ∷ objects) objects)
 filter_step bans held objects true p rest = (p, rest)
@@ -128,20 +126,13 @@ refused_await : (state : State) (call : Call) → AwaitIssued state.bans state.o
 refused_await state (Insert token object stale) await = await
 refused_await state call await = await
 
-at_await : (state : State) (moment : ℕ) → AwaitIssued state.bans state.objects → AwaitIssued state.bans (at_moment moment state).objects
+pub at_await : (state : State) (moment : ℕ) → AwaitIssued state.bans state.objects → AwaitIssued state.bans (at_moment moment state).objects
 at_await state moment await = filter_await state.bans (λ (held : Held). in_time moment held.view.object) state.objects await
 
-await_from : (beginning : Beginning) (state : State) (entries : List Entry) → AwaitIssued state.bans state.objects
-    → AwaitIssued (reached_from beginning state entries).bans (reached_from beginning state entries).objects
-await_from beginning state [] await = await
-await_from beginning state (e ∷ es) await =
+pub await_from : (params : Params) (state : State) (entries : List Entry) → AwaitIssued state.bans state.objects
+    → AwaitIssued (reached_from params state entries).bans (reached_from params state entries).objects
+await_from params state [] await = await
+await_from params state (e ∷ es) await =
     let here = at_await state e.moment await in
-    await_from beginning (next_state beginning state e) es
-    (behind_either (λ (s : State). AwaitIssued s.bans s.objects) e.reply _ _ (refused_await (at_moment e.moment state) e.call here) (answered_await beginning.params.room (at_moment e.moment state) e.caller e.call here))
-
--- in a run's history all bans that were issued show, at any moment, what objects have still to be tested on
-pub bans_listed : (params : Params) (boot : Boot) (entries : List Entry) (moment : ℕ)
-    → ShowsBans (reached (beginning_of params boot) entries).bans (at_moment moment (reached (beginning_of params boot) entries)).objects (open_lines (reached (beginning_of params boot) entries).bans)
-bans_listed params boot entries moment =
-    let state : State = reached (beginning_of params boot) entries in
-    all_bans_shown state.bans (at_moment moment state).objects (at_await state moment (await_from (beginning_of params boot) (beginning_of params boot).base entries tt))
+    await_from params (next_state params state e) es
+    (behind_either (λ (s : State). AwaitIssued s.bans s.objects) e.reply _ _ (refused_await (at_moment e.moment state) e.call here) (answered_await params.room (at_moment e.moment state) e.caller e.call here))

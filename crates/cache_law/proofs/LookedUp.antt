@@ -7,6 +7,7 @@ use Rattle.cache_law.specs.declared.call.Reply.{Reply}
 use Rattle.cache_law.specs.declared.call.Reply.TheVariants.{Bans}
 use Rattle.cache_law.specs.declared.call.Entry.{Entry}
 use Rattle.cache_law.specs.State.{State, at_moment, has_round, has_fetch}
+use Rattle.cache_law.specs.declared.setting.Params.{Params}
 use Rattle.cache_law.specs.Beginning.{Beginning}
 use Rattle.cache_law.specs.Law.{Step, answered, MayAnswer, IsBanList}
 use Rattle.cache_law.specs.History.{Legal, Follows, reached}
@@ -60,9 +61,9 @@ is_looked_up : (room : ℕ) (state : State) (moment caller : ℕ) (call : Call) 
 is_looked_up room state moment caller (Lookup query) answer may says = record { query = query; called = refl; looked = may }
 is_looked_up room state moment caller call answer may says = absurd (true≢false (sym says ∙ quiet_answer room (at_moment moment state) caller call answer refl may))
 
-pub entry_looked_up : (beginning : Beginning) (state : State) (entry : Entry) → Follows beginning state entry → says_found entry.reply ≡ true → IsLookedUp state entry
-entry_looked_up beginning state entry follows says = is_looked_up beginning.params.room state entry.moment entry.caller entry.call entry.reply follows.answer says
+pub entry_looked_up : (params : Params) (state : State) (entry : Entry) → Follows params state entry → says_found entry.reply ≡ true → IsLookedUp state entry
+entry_looked_up params state entry follows says = is_looked_up params.room state entry.moment entry.caller entry.call entry.reply follows.answer says
 
 pub legal_looked_up : (beginning : Beginning) (before behind : List Entry) (entry : Entry) → Legal beginning (before ++ entry ∷ behind) → says_found entry.reply ≡ true → IsLookedUp (reached beginning before) entry
 legal_looked_up beginning before behind entry legal says =
-    entry_looked_up beginning (reached beginning before) entry (follows_from beginning beginning.base 0 before behind entry legal.each) says
+    entry_looked_up beginning.params (reached beginning before) entry (follows_from beginning.params beginning.base before behind entry legal.follow) says

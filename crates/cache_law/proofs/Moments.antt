@@ -6,7 +6,7 @@ use Rattle.cache_law.specs.declared.call.Call.{Call}
 use Rattle.cache_law.specs.declared.call.Reply.{Reply}
 use Rattle.cache_law.specs.Object.{in_time}
 use Rattle.cache_law.specs.State.{State, Held, those_in_time, at_moment, as_seen}
-use Rattle.cache_law.specs.Beginning.{Beginning}
+use Rattle.cache_law.specs.declared.setting.Params.{Params}
 use Rattle.cache_law.specs.Law.{step_of, answered, after, behind, refused}
 
 earlier_below : (earlier later : ℕ) (bound : ℤ) → earlier ≤ later → lt_z (pos later) bound ≡ true → lt_z (pos earlier) bound ≡ true
@@ -30,10 +30,10 @@ at_moment-later earlier later order state =
     ap (λ (objects : List Held). record state { moment = later; objects = objects }) (those_in_time-later earlier later order state.objects)
 
 -- a call is answered, and leaves, the same where the state is first read as it is at its own moment
-pub after-as_seen : (beginning : Beginning) (state : State) (caller moment : ℕ) (call : Call) (answer : Reply) → state.moment ≤ moment → after beginning (as_seen state) caller moment call answer ≡ after beginning state caller moment call answer
-after-as_seen beginning state caller moment call answer order =
-    ap (λ (now : State). record (behind answer (refused now call) (answered beginning.params.room now caller call).state) { entries = state.entries + 1 }) (at_moment-later state.moment moment order state)
+pub after-as_seen : (params : Params) (state : State) (caller moment : ℕ) (call : Call) (answer : Reply) → state.moment ≤ moment → after params (as_seen state) caller moment call answer ≡ after params state caller moment call answer
+after-as_seen params state caller moment call answer order =
+    ap (λ (now : State). record (behind answer (refused now call) (answered params.room now caller call).state) { entries = state.entries + 1 }) (at_moment-later state.moment moment order state)
 
-pub step_of-as_seen : (beginning : Beginning) (state : State) (caller moment : ℕ) (call : Call) → state.moment ≤ moment → step_of beginning (as_seen state) caller moment call ≡ step_of beginning state caller moment call
-step_of-as_seen beginning state caller moment call order =
-    ap (λ (now : State). answered beginning.params.room now caller call) (at_moment-later state.moment moment order state)
+pub step_of-as_seen : (params : Params) (state : State) (caller moment : ℕ) (call : Call) → state.moment ≤ moment → step_of params (as_seen state) caller moment call ≡ step_of params state caller moment call
+step_of-as_seen params state caller moment call order =
+    ap (λ (now : State). answered params.room now caller call) (at_moment-later state.moment moment order state)

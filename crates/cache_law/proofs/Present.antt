@@ -2,7 +2,6 @@
 use Rattle.std.proofs.Common.{◌≡◌, ◌≢◌, ℕ, Bool, true, false, not, cond, List, [], ◌∷◌, ◌+◌, ◌<◌, ◌≤◌, ◌||◌, ◌&&◌, ◌==◌, Option, Some, None, filter, map, refl, arith, sym, ap, ◌∙◌, subst, inl, inr}
 use Rattle.std.proofs.lemmas.Bool.{true≢false, false≢true, eq-eqb, ne_eqb, eqb-true}
 use Rattle.cache_law.specs.declared.setting.Params.{Params}
-use Rattle.cache_law.specs.declared.setting.Boot.{Boot}
 use Rattle.cache_law.specs.declared.object.Object.{Object}
 use Rattle.cache_law.specs.declared.call.Query.{Query}
 use Rattle.cache_law.specs.declared.call.Call.{Call}
@@ -18,9 +17,8 @@ use Rattle.cache_law.specs.Bans.{matches, object_only}
 use Rattle.cache_law.specs.declared.ban.Issued.{Issued}
 use Rattle.cache_law.specs.Purges.{has_key, has_xkey, softening, xkey_over}
 use Rattle.cache_law.specs.Lookup.{Scan, scanned, counting, touching, is_chosen_by, is_fresh, ending, seeing, passing}
-use Rattle.cache_law.specs.Beginning.{Beginning, beginning_of}
 use Rattle.cache_law.specs.Law.{Step, answered, refused, after}
-use Rattle.cache_law.specs.History.{next_state, reached_from, reached}
+use Rattle.cache_law.specs.History.{next_state, reached_from}
 use Rattle.cache_law.proofs.Growth.{after_grows, behind_either}
 use Rattle.cache_law.proofs.Numbers.{none-filter, shut_from}
 use Rattle.cache_law.specs.BanHistories.{IsAmong}
@@ -231,20 +229,14 @@ once_refused n state call held = held
 pub once_at : (n moment : ℕ) (state : State) → HeldOnce n state → HeldOnce n (at_moment moment state)
 once_at n moment state held = with_less n state _ held (count-filter n (λ (held : Held). in_time moment held.view.object) state.objects) (λ shut. shut) refl
 
-pub once_after : (n : ℕ) (beginning : Beginning) (state : State) (caller moment : ℕ) (call : Call) (answer : Reply) → HeldOnce n state → HeldOnce n (after beginning state caller moment call answer)
-once_after n beginning state caller moment call answer held =
-    let once = behind_either (HeldOnce n) answer _ _ (once_refused n (at_moment moment state) call (once_at n moment state held)) (once_behind n beginning.params.room (at_moment moment state) caller call (once_at n moment state held)) in
+pub once_after : (n : ℕ) (params : Params) (state : State) (caller moment : ℕ) (call : Call) (answer : Reply) → HeldOnce n state → HeldOnce n (after params state caller moment call answer)
+once_after n params state caller moment call answer held =
+    let once = behind_either (HeldOnce n) answer _ _ (once_refused n (at_moment moment state) call (once_at n moment state held)) (once_behind n params.room (at_moment moment state) caller call (once_at n moment state held)) in
     record { once = once.once; while_open = once.while_open; undrawn = once.undrawn; unopened = once.unopened }
 
-pub once_from : (n : ℕ) (beginning : Beginning) (state : State) (entries : List Entry) → HeldOnce n state → HeldOnce n (reached_from beginning state entries)
-once_from n beginning state [] held = held
-once_from n beginning state (e ∷ es) held = once_from n beginning (next_state beginning state e) es (once_after n beginning state e.caller e.moment e.call e.reply held)
-
--- in a run's history each number is held once at most
-pub once_in_run : (n : ℕ) (params : Params) (boot : Boot) (entries : List Entry) → HeldOnce n (reached (beginning_of params boot) entries)
-once_in_run n params boot entries =
-    once_from n (beginning_of params boot) (beginning_of params boot).base entries
-    (record { once = omega arith; while_open = λ opened. omega arith; undrawn = λ above. omega arith; unopened = λ above. refl })
+pub once_from : (n : ℕ) (params : Params) (state : State) (entries : List Entry) → HeldOnce n state → HeldOnce n (reached_from params state entries)
+once_from n params state [] held = held
+once_from n params state (e ∷ es) held = once_from n params (next_state params state e) es (once_after n params state e.caller e.moment e.call e.reply held)
 
 -- behind a step no more objects have the number
 abbrev NoMore : ℕ → State → Step → Type 0
@@ -299,22 +291,22 @@ count_refused n state call = omega arith
 pub count_at : (n moment : ℕ) (state : State) → count n (at_moment moment state).objects ≤ count n state.objects
 count_at n moment state = count-filter n (λ (held : Held). in_time moment held.view.object) state.objects
 
-count_after : (n : ℕ) (beginning : Beginning) (state : State) (caller moment : ℕ) (call : Call) (answer : Reply) → is_open state.fetches n ≡ false → count n (after beginning state caller moment call answer).objects ≤ count n state.objects
-count_after n beginning state caller moment call answer shut =
-    let law = count_behind n beginning.params.room (at_moment moment state) caller call shut in
+count_after : (n : ℕ) (params : Params) (state : State) (caller moment : ℕ) (call : Call) (answer : Reply) → is_open state.fetches n ≡ false → count n (after params state caller moment call answer).objects ≤ count n state.objects
+count_after n params state caller moment call answer shut =
+    let law = count_behind n params.room (at_moment moment state) caller call shut in
     let refusal = count_refused n (at_moment moment state) call in
     behind_either (λ (s : State). count n s.objects ≤ count n state.objects) answer _ _ (omega (arith, refusal, count_at n moment state)) (omega (arith, law, count_at n moment state))
 
 -- a number that was drawn and whose fetch is closed isn't held by more objects later
-pub count_from : (n : ℕ) (beginning : Beginning) (state : State) (entries : List Entry) → n < state.next → is_open state.fetches n ≡ false → count n (reached_from beginning state entries).objects ≤ count n state.objects
-count_from n beginning state [] drawn shut = omega arith
-count_from n beginning state (e ∷ es) drawn shut =
-    let here = (after_grows beginning state e.caller e.moment e.call e.reply).rises in
-    let later = count_from n beginning (next_state beginning state e) es (omega (arith, drawn, here)) (shut_from beginning state (e ∷ []) n drawn shut) in
-    omega (arith, later, count_after n beginning state e.caller e.moment e.call e.reply shut)
+pub count_from : (n : ℕ) (params : Params) (state : State) (entries : List Entry) → n < state.next → is_open state.fetches n ≡ false → count n (reached_from params state entries).objects ≤ count n state.objects
+count_from n params state [] drawn shut = omega arith
+count_from n params state (e ∷ es) drawn shut =
+    let here = (after_grows params state e.caller e.moment e.call e.reply).rises in
+    let later = count_from n params (next_state params state e) es (omega (arith, drawn, here)) (shut_from params state (e ∷ []) n drawn shut) in
+    omega (arith, later, count_after n params state e.caller e.moment e.call e.reply shut)
 
 -- objects of one number are one
-one_of : (n : ℕ) (held : Held) (objects : List Held) → IsAmong held objects → held.view.number ≡ n → 1 ≤ count n objects
+pub one_of : (n : ℕ) (held : Held) (objects : List Held) → IsAmong held objects → held.view.number ≡ n → 1 ≤ count n objects
 one_of n held [] among e = absurd among
 one_of n held (other ∷ objects) (inl same) e =
     let here : one_if (other.view.number == n) ≡ one_if true = ap one_if (eq-eqb other.view.number n (sym (ap (λ (h : Held). h.view.number) same) ∙ e)) in

@@ -10,10 +10,11 @@ use Rattle.cache_law.specs.declared.call.Reply.TheVariants.{NoRound, NotOpen, Dr
 use Rattle.cache_law.specs.declared.call.Entry.{Entry}
 use Rattle.cache_law.specs.declared.state.OpenRound.{OpenRound}
 use Rattle.cache_law.specs.declared.state.OpenFetch.{OpenFetch}
-use Rattle.cache_law.specs.State.{State, at_moment, reserve, has_round, has_fetch, without_fetch, without_round_of}
+use Rattle.cache_law.specs.State.{State, at_moment, count_open, reserve, has_round, has_fetch, without_fetch, without_round_of}
+use Rattle.cache_law.specs.declared.setting.Params.{Params}
 use Rattle.cache_law.specs.Beginning.{Beginning}
 use Rattle.cache_law.specs.Law.{Step, step_of, leaving, closing, closed_of, inserted, after, MayAnswer}
-use Rattle.cache_law.specs.History.{bytes_of, bytes_of_all, is_numbered, next_state, reached_from, reached, LegalFrom, Legal}
+use Rattle.cache_law.specs.History.{FollowAll, Legal, WithinAll, bytes_of, bytes_of_all, is_numbered, most_entries, next_state, reached_from, reached}
 use Rattle.cache_law.specs.Core.{FitsBehind}
 use Rattle.cache_law.proofs.Histories.{bytes_of_all-cons}
 use Rattle.cache_law.proofs.Lawful.{after-lawful, after-listed}
@@ -72,30 +73,42 @@ refused_reserves room state caller token object stale =
       stores = omega arith;
     })
 
-by_law : (beginning : Beginning) (state : State) (caller moment : ℕ) (call : Call) (answer : Reply) → answer ≡ (step_of beginning state caller moment call).reply → reserve (after beginning state caller moment call answer) ≤ reserve (step_of beginning state caller moment call).state
-by_law beginning state caller moment call answer e = omega (arith, ap reserve (after-lawful beginning state caller moment call answer e))
+by_law : (params : Params) (state : State) (caller moment : ℕ) (call : Call) (answer : Reply) → answer ≡ (step_of params state caller moment call).reply → reserve (after params state caller moment call answer) ≤ reserve (step_of params state caller moment call).state
+by_law params state caller moment call answer e = omega (arith, ap reserve (after-lawful params state caller moment call answer e))
 
 -- what is reserved after an answer is at most what is reserved after the law's
-pub reserve-after : (beginning : Beginning) (state : State) (caller moment : ℕ) (call : Call) (answer : Reply) → MayAnswer (at_moment moment state) call (step_of beginning state caller moment call).reply answer → reserve (after beginning state caller moment call answer) ≤ reserve (step_of beginning state caller moment call).state
-reserve-after beginning state caller moment (Insert token object stale) answer (inl lawful) = by_law beginning state caller moment (Insert token object stale) answer lawful
-reserve-after beginning state caller moment (Insert token object stale) answer (inr free) =
-    subst (λ (r : Reply). reserve (after beginning state caller moment (Insert token object stale) r) ≤ reserve (step_of beginning state caller moment (Insert token object stale)).state) (sym free.0)
-    (refused_reserves beginning.params.room (at_moment moment state) caller token object stale)
-reserve-after beginning state caller moment BanList answer may = omega (arith, ap reserve (after-listed beginning state caller moment answer may))
-reserve-after beginning state caller moment call answer may = by_law beginning state caller moment call answer may
+pub reserve-after : (params : Params) (state : State) (caller moment : ℕ) (call : Call) (answer : Reply) → MayAnswer (at_moment moment state) call (step_of params state caller moment call).reply answer → reserve (after params state caller moment call answer) ≤ reserve (step_of params state caller moment call).state
+reserve-after params state caller moment (Insert token object stale) answer (inl lawful) = by_law params state caller moment (Insert token object stale) answer lawful
+reserve-after params state caller moment (Insert token object stale) answer (inr free) =
+    subst (λ (r : Reply). reserve (after params state caller moment (Insert token object stale) r) ≤ reserve (step_of params state caller moment (Insert token object stale)).state) (sym free.0)
+    (refused_reserves params.room (at_moment moment state) caller token object stale)
+reserve-after params state caller moment BanList answer may = omega (arith, ap reserve (after-listed params state caller moment answer may))
+reserve-after params state caller moment call answer may = by_law params state caller moment call answer may
 
 -- a legal history leaves room for the closing of what is open
-pub within_from : (beginning : Beginning) (state : State) (used : ℕ) (entries : List Entry) → LegalFrom beginning state used entries → used + reserve state ≤ beginning.params.history → used + bytes_of_all entries + reserve (reached_from beginning state entries) ≤ beginning.params.history
-within_from beginning state used [] legal room = omega arith
-within_from beginning state used (e ∷ es) legal room =
-    let least = reserve-after beginning state e.caller e.moment e.call e.reply legal.0.answer in
-    let here : used + bytes_of e.call + reserve (next_state beginning state e) ≤ beginning.params.history = omega (arith, legal.1.within, least) in
-    let rest = within_from beginning (next_state beginning state e) (used + bytes_of e.call) es legal.2 here in
+pub within_from : (params : Params) (state : State) (used : ℕ) (entries : List Entry) → FollowAll params state entries → WithinAll params state used entries → used + reserve state ≤ params.history → used + bytes_of_all entries + reserve (reached_from params state entries) ≤ params.history
+within_from params state used [] follow fit room = omega arith
+within_from params state used (e ∷ es) follow fit room =
+    let least = reserve-after params state e.caller e.moment e.call e.reply follow.0.answer in
+    let here : used + bytes_of e.call + reserve (next_state params state e) ≤ params.history = omega (arith, fit.0.within, least) in
+    let rest = within_from params (next_state params state e) (used + bytes_of e.call) es follow.1 fit.1 here in
     omega (arith, rest, bytes_of_all-cons e es)
 
 pub within : (beginning : Beginning) (entries : List Entry) → Legal beginning entries → bytes_of_all entries + reserve (reached beginning entries) ≤ beginning.params.history
 within beginning entries legal =
-    let h = within_from beginning beginning.base 0 entries legal.each (omega (arith, legal.opens)) in omega (arith, h)
+    let h = within_from beginning.params beginning.base 0 entries legal.follow legal.within (omega (arith, legal.opens)) in omega (arith, h)
+
+-- and the number of a run's entries leaves it too
+pub counted_from : (params : Params) (state : State) (used : ℕ) (entries : List Entry) → FollowAll params state entries → WithinAll params state used entries → state.entries + count_open state ≤ most_entries → (reached_from params state entries).entries + count_open (reached_from params state entries) ≤ most_entries
+counted_from params state used [] follow fit room = room
+counted_from params state used (e ∷ es) follow fit room =
+    let least = reserve-after params state e.caller e.moment e.call e.reply follow.0.answer in
+    let one : (next_state params state e).entries ≡ state.entries + 1 = refl in
+    let here : (next_state params state e).entries + count_open (next_state params state e) ≤ most_entries = omega (arith, fit.0.counted, least, one) in
+    counted_from params (next_state params state e) (used + bytes_of e.call) es follow.1 fit.1 here
+
+pub counted : (beginning : Beginning) (entries : List Entry) → Legal beginning entries → (reached beginning entries).entries + count_open (reached beginning entries) ≤ most_entries
+counted beginning entries legal = counted_from beginning.params beginning.base 0 entries legal.follow legal.within legal.counts
 
 -- the end of an open round takes what is reserved for it
 pub ending_takes : (state : State) (caller : ℕ) (open_ : Bool) → open_ ≡ has_round state.rounds caller → open_ ≡ true → reserve (cond open_ (record { reply = Ended; state = closed_of state caller }) (leaving state NoRound)).state + 64 ≤ reserve state
@@ -113,6 +126,7 @@ ending_fits beginning entries caller moment legal opened =
     record {
       number = ending_numbered (at_moment moment (reached beginning entries)) caller (has_round (reached beginning entries).rounds caller);
       within = omega (arith, within beginning entries legal, ending_takes (at_moment moment (reached beginning entries)) caller _ refl opened);
+      counted = omega (arith, counted beginning entries legal, ending_takes (at_moment moment (reached beginning entries)) caller _ refl opened);
     }
 
 -- the drop of an open fetch takes what is reserved for it
@@ -130,4 +144,5 @@ dropping_fits beginning entries caller moment token legal opened =
     record {
       number = dropping_numbered (at_moment moment (reached beginning entries)) token (has_fetch (reached beginning entries).fetches caller token);
       within = omega (arith, within beginning entries legal, dropping_takes (at_moment moment (reached beginning entries)) caller token _ refl opened);
+      counted = omega (arith, counted beginning entries legal, dropping_takes (at_moment moment (reached beginning entries)) caller token _ refl opened);
     }

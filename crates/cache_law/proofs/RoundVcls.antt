@@ -3,7 +3,6 @@ use Rattle.std.proofs.Common.{◌≡◌, ℕ, Bool, true, false, not, cond, List
 use Rattle.std.specs.List.{list_any}
 use Rattle.std.proofs.lemmas.Bool.{true≢false, false≢true, eq-eqb, eqb-true, and_parts, or_right}
 use Rattle.cache_law.specs.declared.setting.Params.{Params}
-use Rattle.cache_law.specs.declared.setting.Boot.{Boot}
 use Rattle.cache_law.specs.declared.state.OpenRound.{OpenRound}
 use Rattle.cache_law.specs.declared.vcl.Vcl.{Vcl}
 use Rattle.cache_law.specs.declared.vcl.LoadedVcl.{LoadedVcl}
@@ -14,9 +13,10 @@ use Rattle.cache_law.specs.declared.call.Reply.TheVariants.{Began, Bans}
 use Rattle.cache_law.specs.declared.call.Entry.{Entry}
 use Rattle.cache_law.specs.State.{State, at_moment, has_round, has_fetch, remembering, with_wait, without_round_of}
 use Rattle.cache_law.specs.Vcls.{is_called, called, is_under, stays, those_staying, discarding}
-use Rattle.cache_law.specs.Beginning.{Beginning, beginning_of}
+use Rattle.cache_law.specs.Beginning.{Beginning}
 use Rattle.cache_law.specs.Law.{Step, answered, refused, after, step_of, switched_to, discarded_of, MayAnswer, IsBanList}
 use Rattle.cache_law.specs.History.{Legal, next_state, reached_from, reached}
+use Rattle.cache_law.specs.Bases.{IsSound}
 use Rattle.cache_law.specs.RoundVcls.{IsOneOf, RunsUnder, StaysOpen, is_end}
 use Rattle.cache_law.proofs.Growth.{behind_either}
 use Rattle.cache_law.proofs.Numbers.{reached-append}
@@ -249,15 +249,15 @@ module _ (caller vcl : ℕ) (text : List ℕ) where
   runs_refused state (Insert token object stale) runs = runs_on state _ runs refl refl
   runs_refused state call runs = runs
 
-  runs_from : (beginning : Beginning) (state : State) (entries : List Entry) → StaysOpen caller entries → RunsUnder state caller vcl text → RunsUnder (reached_from beginning state entries) caller vcl text
-  runs_from beginning state [] open_ runs = runs
-  runs_from beginning state (e ∷ es) open_ runs =
+  runs_from : (params : Params) (state : State) (entries : List Entry) → StaysOpen caller entries → RunsUnder state caller vcl text → RunsUnder (reached_from params state entries) caller vcl text
+  runs_from params state [] open_ runs = runs
+  runs_from params state (e ∷ es) open_ runs =
       let now : RunsUnder (at_moment e.moment state) caller vcl text = runs_on state _ runs refl refl in
-      runs_from beginning (next_state beginning state e) es open_.1
-      (runs_on _ _ (behind_either (λ (s : State). RunsUnder s caller vcl text) e.reply _ _ (runs_refused (at_moment e.moment state) e.call now) (runs_behind beginning.params.room (at_moment e.moment state) e.caller e.call open_.0 now)) refl refl)
+      runs_from params (next_state params state e) es open_.1
+      (runs_on _ _ (behind_either (λ (s : State). RunsUnder s caller vcl text) e.reply _ _ (runs_refused (at_moment e.moment state) e.call now) (runs_behind params.room (at_moment e.moment state) e.caller e.call open_.0 now)) refl refl)
 
 -- the active VCL is one of the VCLs, and isn't discarded
-record ActiveIsThere (state : State) : Type 0 where
+pub record ActiveIsThere (state : State) : Type 0 where
   pub loaded : LoadedVcl
   pub there : IsOneOf loaded state.vcls
   pub active : loaded.vcl ≡ state.active
@@ -350,12 +350,12 @@ active_refused : (state : State) (call : Call) → ActiveIsThere state → Activ
 active_refused state (Insert token object stale) is = active_on state _ is refl refl
 active_refused state call is = is
 
-active_from : (beginning : Beginning) (state : State) (entries : List Entry) → ActiveIsThere state → ActiveIsThere (reached_from beginning state entries)
-active_from beginning state [] is = is
-active_from beginning state (e ∷ es) is =
+pub active_from : (params : Params) (state : State) (entries : List Entry) → ActiveIsThere state → ActiveIsThere (reached_from params state entries)
+active_from params state [] is = is
+active_from params state (e ∷ es) is =
     let now : ActiveIsThere (at_moment e.moment state) = active_on state _ is refl refl in
-    active_from beginning (next_state beginning state e) es
-    (active_on _ _ (behind_either ActiveIsThere e.reply _ _ (active_refused (at_moment e.moment state) e.call now) (active_behind beginning.params.room (at_moment e.moment state) e.caller e.call now)) refl refl)
+    active_from params (next_state params state e) es
+    (active_on _ _ (behind_either ActiveIsThere e.reply _ _ (active_refused (at_moment e.moment state) e.call now) (active_behind params.room (at_moment e.moment state) e.caller e.call now)) refl refl)
 
 -- a step that says that a round began left it under the VCL that it names
 abbrev BeginsUnder : ℕ → ℕ → ℕ → List ℕ → Step → Type 0
@@ -412,18 +412,18 @@ began_by_law state (Insert token object stale) law answer number vcl text (inr f
 began_by_law state BanList law answer number vcl text may e = absurd (no_list state answer number vcl text may e)
 began_by_law state call law answer number vcl text may e = sym may ∙ e
 
-pub round_keeps : (params : Params) (boot : Boot) (before between behind : List Entry) (begin : Entry) (number vcl : ℕ) (text : List ℕ)
-    → Legal (beginning_of params boot) (before ++ begin ∷ (between ++ behind)) → begin.reply ≡ Began number vcl text → StaysOpen begin.caller between
-    → RunsUnder (reached (beginning_of params boot) (before ++ begin ∷ between)) begin.caller vcl text
-round_keeps params boot before between behind begin number vcl text legal told open_ =
-    let beginning : Beginning = beginning_of params boot in
+pub round_keeps : (beginning : Beginning) (before between behind : List Entry) (begin : Entry) (number vcl : ℕ) (text : List ℕ) → IsSound beginning.base
+    → Legal beginning (before ++ begin ∷ (between ++ behind)) → begin.reply ≡ Began number vcl text → StaysOpen begin.caller between
+    → RunsUnder (reached beginning (before ++ begin ∷ between)) begin.caller vcl text
+round_keeps beginning before between behind begin number vcl text sound legal told open_ =
+    let params : Params = beginning.params in
     let state : State = reached beginning before in
     let now : State = at_moment begin.moment state in
-    let follows = follows_from beginning beginning.base 0 before (between ++ behind) begin legal.each in
-    let is : ActiveIsThere state = active_from beginning beginning.base before (record { loaded = record { vcl = beginning.base.active; is_discarded = false }; there = inl refl; active = refl; kept = refl }) in
-    let law = began_by_law now begin.call (step_of beginning state begin.caller begin.moment begin.call).reply begin.reply number vcl text follows.answer told in
-    let here = begins_under beginning.params.room now begin.caller begin.call number vcl text (active_on state _ is refl refl) law in
-    let next : RunsUnder (next_state beginning state begin) begin.caller vcl text =
-    subst (λ (r : Reply). RunsUnder (after beginning state begin.caller begin.moment begin.call r) begin.caller vcl text) (sym told) (runs_on begin.caller vcl text _ _ here refl refl) in
+    let follows = follows_from params beginning.base before (between ++ behind) begin legal.follow in
+    let is : ActiveIsThere state = active_from params beginning.base before (record { loaded = record { vcl = beginning.base.active; is_discarded = false }; there = sound.active; active = refl; kept = refl }) in
+    let law = began_by_law now begin.call (step_of params state begin.caller begin.moment begin.call).reply begin.reply number vcl text follows.answer told in
+    let here = begins_under params.room now begin.caller begin.call number vcl text (active_on state _ is refl refl) law in
+    let next : RunsUnder (next_state params state begin) begin.caller vcl text =
+    subst (λ (r : Reply). RunsUnder (after params state begin.caller begin.moment begin.call r) begin.caller vcl text) (sym told) (runs_on begin.caller vcl text _ _ here refl refl) in
     subst (λ (s : State). RunsUnder s begin.caller vcl text) (sym (reached-append beginning before (begin ∷ between)))
-    (runs_from begin.caller vcl text beginning (next_state beginning state begin) between open_ next)
+    (runs_from begin.caller vcl text params (next_state params state begin) between open_ next)

@@ -1,5 +1,5 @@
 -- The object of a hit is in time, matches the request and is fresh for it.
-use Rattle.std.proofs.Common.{◌≡◌, ℕ, Bool, true, false, cond, List, [], ◌∷◌, ◌++◌, ◌+◌, Option, Some, None, refl, sym, ◌∙◌, subst}
+use Rattle.std.proofs.Common.{◌≡◌, ℕ, Bool, true, false, cond, List, [], ◌∷◌, ◌++◌, Option, Some, None, refl, sym, ◌∙◌, subst}
 use Rattle.std.proofs.lemmas.Bool.{and_from}
 use Rattle.cache_law.specs.declared.object.Object.{Object}
 use Rattle.cache_law.specs.declared.object.Object.TheVariants.{Ordinary, HitForMiss, HitForPass}
@@ -12,9 +12,10 @@ use Rattle.cache_law.specs.Object.{in_time, key_of, same_texts}
 use Rattle.cache_law.specs.State.{State, Held, at_moment, those_in_time, has_round, least_token}
 use Rattle.cache_law.specs.BansAtOnce.{is_met, cleared}
 use Rattle.cache_law.specs.Lookup.{Scan, scanned, raised, is_chosen_by, is_fresh, ending, seeing, passing}
+use Rattle.cache_law.specs.declared.setting.Params.{Params}
 use Rattle.cache_law.specs.Beginning.{Beginning}
 use Rattle.cache_law.specs.Law.{leaving, missed, found_fresh, found_grace, waited_or_missed, busy, found_other, found, found_by, sought, looked_up, remembered, MayAnswer, step_of}
-use Rattle.cache_law.specs.History.{Follows, Legal, LegalFrom, next_state, reached_from, reached, bytes_of}
+use Rattle.cache_law.specs.History.{FollowAll, Follows, Legal, next_state, reached_from, reached}
 use Rattle.cache_law.specs.Core.{Serves}
 
 -- an object of which the tests come out so, before others that are scanned
@@ -78,13 +79,13 @@ looked_hit moment state caller query true hit e = sought_hit moment state caller
 looked_hit moment state caller query false hit e = cc
 
 -- an entry of a legal history follows those before it
-pub follows_from : (beginning : Beginning) (state : State) (used : ℕ) (before behind : List Entry) (entry : Entry) → LegalFrom beginning state used (before ++ entry ∷ behind) → Follows beginning (reached_from beginning state before) entry
-follows_from beginning state used [] behind entry legal = legal.0
-follows_from beginning state used (e ∷ es) behind entry legal = follows_from beginning (next_state beginning state e) (used + bytes_of e.call) es behind entry legal.2
+pub follows_from : (params : Params) (state : State) (before behind : List Entry) (entry : Entry) → FollowAll params state (before ++ entry ∷ behind) → Follows params (reached_from params state before) entry
+follows_from params state [] behind entry follow = follow.0
+follows_from params state (e ∷ es) behind entry follow = follows_from params (next_state params state e) es behind entry follow.1
 
 pub hit_serves : (beginning : Beginning) (before behind : List Entry) (entry : Entry) (query : Query) (view : ObjectView) → Legal beginning (before ++ entry ∷ behind) → entry.call ≡ Lookup query → entry.reply ≡ Hit view → Serves entry.moment query view.object
 hit_serves beginning before behind entry query view legal asked told =
     let state : State = reached beginning before in
-    let answer = (follows_from beginning beginning.base 0 before behind entry legal.each).answer in
-    let lawful : entry.reply ≡ (looked_up (at_moment entry.moment state) entry.caller query).reply = subst (λ call. MayAnswer (at_moment entry.moment state) call (step_of beginning state entry.caller entry.moment call).reply entry.reply) asked answer in
+    let answer = (follows_from beginning.params beginning.base before behind entry legal.follow).answer in
+    let lawful : entry.reply ≡ (looked_up (at_moment entry.moment state) entry.caller query).reply = subst (λ call. MayAnswer (at_moment entry.moment state) call (step_of beginning.params state entry.caller entry.moment call).reply entry.reply) asked answer in
     looked_hit entry.moment state entry.caller query (has_round state.rounds entry.caller) view (sym lawful ∙ told)

@@ -1,10 +1,9 @@
 -- An object that is given was spared by each ban on objects alone that was issued behind its insertion.
-use Rattle.std.proofs.Common.{◌≡◌, ℕ, Bool, true, false, not, cond, List, [], ◌∷◌, ◌++◌, ◌+◌, ◌<◌, ◌≤◌, ◌==◌, ◌⊎◌, Some, filter, map, refl, arith, sym, ap, ◌∙◌, subst, inl, inr}
+use Rattle.std.proofs.Common.{◌≡◌, ℕ, Bool, true, false, not, cond, List, [], ◌∷◌, ◌++◌, ◌<◌, ◌≤◌, ◌==◌, ◌⊎◌, Some, filter, map, refl, arith, sym, ap, ◌∙◌, subst, inl, inr}
 use Rattle.std.specs.List.{AllByRecursion}
 use Rattle.std.proofs.lemmas.Bool.{true≢false, false≢true, eq-eqb, eqb-true}
 use Rattle.std.proofs.Math.Nat.{lt_of_not-le}
 use Rattle.cache_law.specs.declared.setting.Params.{Params}
-use Rattle.cache_law.specs.declared.setting.Boot.{Boot}
 use Rattle.cache_law.specs.declared.ban.Ban.{Ban as BanWords}
 use Rattle.cache_law.specs.declared.ban.Issued.{Issued}
 use Rattle.cache_law.specs.declared.object.ObjectView.{ObjectView}
@@ -16,10 +15,11 @@ use Rattle.cache_law.specs.declared.call.Entry.{Entry}
 use Rattle.cache_law.specs.State.{State, Held, at_moment, has_round, has_fetch, is_open}
 use Rattle.cache_law.specs.Bans.{matches, object_only}
 use Rattle.cache_law.specs.BansAtOnce.{issued_behind, awaiting, ban_over}
-use Rattle.cache_law.specs.Beginning.{Beginning, beginning_of}
+use Rattle.cache_law.specs.Beginning.{Beginning}
 use Rattle.cache_law.specs.Law.{Step, answered, after, step_of, MayAnswer, IsBanList}
-use Rattle.cache_law.specs.History.{Follows, Legal, LegalFrom, next_state, reached_from, reached, bytes_of}
+use Rattle.cache_law.specs.History.{FollowAll, Follows, Legal, next_state, reached_from, reached}
 use Rattle.cache_law.specs.LookedUp.{IsLookedUp, says_found}
+use Rattle.cache_law.specs.Bases.{IsSound}
 use Rattle.cache_law.specs.BanHistories.{IsAmong, WasSpared, WasStored, given, issued_in}
 use Rattle.cache_law.proofs.Growth.{after_grows}
 use Rattle.cache_law.proofs.Numbers.{reached-append, rises_from, shut_from}
@@ -28,7 +28,8 @@ use Rattle.cache_law.proofs.Serving.{follows_from}
 use Rattle.cache_law.proofs.LookedUp.{legal_looked_up}
 use Rattle.cache_law.proofs.Given.{looked_gives}
 use Rattle.cache_law.proofs.Held.{all-weaken}
-use Rattle.cache_law.proofs.Present.{count, one_if, count_at, count_from, HeldOnce, once_in_run, once_after, opened_by, shut_without}
+use Rattle.cache_law.proofs.Present.{count, one_if, count_at, count_from, HeldOnce, once_after, opened_by, shut_without}
+use Rattle.cache_law.proofs.Sound.{once_of_sound}
 
 -- the number was drawn and its fetch is closed
 pub record IsShut (n : ℕ) (state : State) : Type 0 where
@@ -97,28 +98,28 @@ drawn_of next n true none_ e = lt_of_not-le (λ above. true≢false (none_ above
 drawn_of next n false none_ e = absurd (false≢true e)
 
 -- behind an entry that stored an object, its number was drawn and its fetch is closed
-pub shut_behind_stored : (beginning : Beginning) (state : State) (entry : Entry) (n : ℕ) → Follows beginning state entry → entry.reply ≡ Stored n → HeldOnce n state → IsShut n (next_state beginning state entry)
-shut_behind_stored beginning state entry n follows told held =
+pub shut_behind_stored : (params : Params) (state : State) (entry : Entry) (n : ℕ) → Follows params state entry → entry.reply ≡ Stored n → HeldOnce n state → IsShut n (next_state params state entry)
+shut_behind_stored params state entry n follows told held =
     let now : State = at_moment entry.moment state in
-    let law = stored_by_law now entry.call (step_of beginning state entry.caller entry.moment entry.call).reply entry.reply n follows.answer told in
-    let open_ = stores_open n beginning.params.room now entry.caller entry.call law in
-    let grows = after_grows beginning state entry.caller entry.moment entry.call entry.reply in
+    let law = stored_by_law now entry.call (step_of params state entry.caller entry.moment entry.call).reply entry.reply n follows.answer told in
+    let open_ = stores_open n params.room now entry.caller entry.call law in
+    let grows = after_grows params state entry.caller entry.moment entry.call entry.reply in
     record {
       drawn = omega (arith, grows.rises, drawn_of state.next n (is_open state.fetches n) held.unopened open_.0);
-      shut = subst (λ (r : Reply). is_open (after beginning state entry.caller entry.moment entry.call r).fetches n ≡ false) (sym told) open_.1;
+      shut = subst (λ (r : Reply). is_open (after params state entry.caller entry.moment entry.call r).fetches n ≡ false) (sym told) open_.1;
     }
 
-pub shut_later : (beginning : Beginning) (state : State) (entries : List Entry) (n : ℕ) → IsShut n state → IsShut n (reached_from beginning state entries)
-shut_later beginning state entries n is =
-    record { drawn = omega (arith, is.drawn, rises_from beginning state entries); shut = shut_from beginning state entries n is.drawn is.shut }
+pub shut_later : (params : Params) (state : State) (entries : List Entry) (n : ℕ) → IsShut n state → IsShut n (reached_from params state entries)
+shut_later params state entries n is =
+    record { drawn = omega (arith, is.drawn, rises_from params state entries); shut = shut_from params state entries n is.drawn is.shut }
 
 -- once an object was stored under a number, its fetch is closed
-pub shut_once_stored : (beginning : Beginning) (state : State) (used n : ℕ) (entries behind : List Entry) → LegalFrom beginning state used (entries ++ behind) → HeldOnce n state → WasStored n entries → IsShut n (reached_from beginning state entries)
-shut_once_stored beginning state used n [] behind legal held stored = absurd stored
-shut_once_stored beginning state used n (e ∷ es) behind legal held (inl here) =
-    shut_later beginning (next_state beginning state e) es n (shut_behind_stored beginning state e n legal.0 here held)
-shut_once_stored beginning state used n (e ∷ es) behind legal held (inr later) =
-    shut_once_stored beginning (next_state beginning state e) (used + bytes_of e.call) n es behind legal.2 (once_after n beginning state e.caller e.moment e.call e.reply held) later
+pub shut_once_stored : (params : Params) (state : State) (n : ℕ) (entries behind : List Entry) → FollowAll params state (entries ++ behind) → HeldOnce n state → WasStored n entries → IsShut n (reached_from params state entries)
+shut_once_stored params state n [] behind legal held stored = absurd stored
+shut_once_stored params state n (e ∷ es) behind legal held (inl here) =
+    shut_later params (next_state params state e) es n (shut_behind_stored params state e n legal.0 here held)
+shut_once_stored params state n (e ∷ es) behind legal held (inr later) =
+    shut_once_stored params (next_state params state e) n es behind legal.1 (once_after n params state e.caller e.moment e.call e.reply held) later
 
 -- an object of the number that the ban doesn't match
 abbrev Spared : ℕ → Issued → List Held → Type 0
@@ -178,44 +179,44 @@ pub append_behind : (before between : List Entry) (ban : Entry) (behind : List E
 append_behind [] between ban behind = refl
 append_behind (e ∷ es) between ban behind = ap (λ (l : List Entry). e ∷ l) (append_behind es between ban behind)
 
--- what is legal from a state on, behind some entries
-pub legal_behind : (beginning : Beginning) (state : State) (used : ℕ) (entries behind : List Entry) → LegalFrom beginning state used (entries ++ behind) → (all_used : ℕ) × LegalFrom beginning (reached_from beginning state entries) all_used behind
-legal_behind beginning state used [] behind legal = (used, legal)
-legal_behind beginning state used (e ∷ es) behind legal = legal_behind beginning (next_state beginning state e) (used + bytes_of e.call) es behind legal.2
+-- what follows a state, behind some entries
+pub follow_behind : (params : Params) (state : State) (entries behind : List Entry) → FollowAll params state (entries ++ behind) → FollowAll params (reached_from params state entries) behind
+follow_behind params state [] behind follow = follow
+follow_behind params state (e ∷ es) behind follow = follow_behind params (next_state params state e) es behind follow.1
 
 -- behind a ban the objects are those that it leaves
-pub banned_after : (beginning : Beginning) (state : State) (entry : Entry) (words : BanWords) → Follows beginning state entry → entry.call ≡ Ban words
-    → (next_state beginning state entry).objects ≡ ban_over (issued_in state entry words) (at_moment entry.moment state).objects
-banned_after beginning state entry words follows called =
-    let told : entry.reply ≡ Banned = subst (λ (call : Call). MayAnswer (at_moment entry.moment state) call (step_of beginning state entry.caller entry.moment call).reply entry.reply) called follows.answer in
-    subst (λ (call : Call). (after beginning state entry.caller entry.moment call entry.reply).objects ≡ ban_over (issued_in state entry words) (at_moment entry.moment state).objects) (sym called)
-    (subst (λ (reply : Reply). (after beginning state entry.caller entry.moment (Ban words) reply).objects ≡ ban_over (issued_in state entry words) (at_moment entry.moment state).objects) (sym told) refl)
+pub banned_after : (params : Params) (state : State) (entry : Entry) (words : BanWords) → Follows params state entry → entry.call ≡ Ban words
+    → (next_state params state entry).objects ≡ ban_over (issued_in state entry words) (at_moment entry.moment state).objects
+banned_after params state entry words follows called =
+    let told : entry.reply ≡ Banned = subst (λ (call : Call). MayAnswer (at_moment entry.moment state) call (step_of params state entry.caller entry.moment call).reply entry.reply) called follows.answer in
+    subst (λ (call : Call). (after params state entry.caller entry.moment call entry.reply).objects ≡ ban_over (issued_in state entry words) (at_moment entry.moment state).objects) (sym called)
+    (subst (λ (reply : Reply). (after params state entry.caller entry.moment (Ban words) reply).objects ≡ ban_over (issued_in state entry words) (at_moment entry.moment state).objects) (sym told) refl)
 
-pub given_spared : (params : Params) (boot : Boot) (before between behind : List Entry) (ban entry : Entry) (words : BanWords) (view : ObjectView)
-    → Legal (beginning_of params boot) (before ++ ban ∷ (between ++ entry ∷ behind)) → ban.call ≡ Ban words → object_only words ≡ true
+pub given_spared : (beginning : Beginning) (before between behind : List Entry) (ban entry : Entry) (words : BanWords) (view : ObjectView) → IsSound beginning.base
+    → Legal beginning (before ++ ban ∷ (between ++ entry ∷ behind)) → ban.call ≡ Ban words → object_only words ≡ true
     → WasStored view.number before → given entry.reply ≡ Some view
-    → WasSpared (reached (beginning_of params boot) before) ban words view.number
-given_spared params boot before between behind ban entry words view legal called alone stored told =
-    let beginning : Beginning = beginning_of params boot in
+    → WasSpared (reached beginning before) ban words view.number
+given_spared beginning before between behind ban entry words view sound legal called alone stored told =
+    let params : Params = beginning.params in
     let state : State = reached beginning before in
     let now : State = at_moment ban.moment state in
     let issued : Issued = issued_behind state.issued ban.moment words in
-    let next : State = next_state beginning state ban in
-    let follows = follows_from beginning beginning.base 0 before (between ++ entry ∷ behind) ban legal.each in
-    let shut = shut_once_stored beginning beginning.base 0 view.number before (ban ∷ (between ++ entry ∷ behind)) legal.each (once_in_run view.number params boot []) stored in
-    let shut_next = shut_later beginning state (ban ∷ []) view.number shut in
+    let next : State = next_state params state ban in
+    let follows = follows_from params beginning.base before (between ++ entry ∷ behind) ban legal.follow in
+    let shut = shut_once_stored params beginning.base view.number before (ban ∷ (between ++ entry ∷ behind)) legal.follow (once_of_sound view.number beginning.base sound) stored in
+    let shut_next = shut_later params state (ban ∷ []) view.number shut in
     let is = legal_looked_up beginning (before ++ ban ∷ between) behind entry (subst (Legal beginning) (sym (append_behind before between ban (entry ∷ behind))) legal) (given_says entry.reply view told) in
-    let there : reached beginning (before ++ ban ∷ between) ≡ reached_from beginning next between = reached-append beginning before (ban ∷ between) in
-    let less = count_from view.number beginning next between shut_next.drawn shut_next.shut in
+    let there : reached beginning (before ++ ban ∷ between) ≡ reached_from params next between = reached-append beginning before (ban ∷ between) in
+    let less = count_from view.number params next between shut_next.drawn shut_next.shut in
     let held = given_is_held (reached beginning (before ++ ban ∷ between)) entry view is told in
     let found : Spared view.number issued now.objects = by_ban state now issued next less (ap (λ (s : State). count view.number s.objects) there) held
-    (ap (count view.number) (banned_after beginning state ban words follows called))
+    (ap (count view.number) (banned_after params state ban words follows called))
     (over_or_spared view.number issued now.objects alone) in
     record { held = found.0; there = found.1; numbered = found.2; spared = found.3 }
   where
-    by_ban : (state now : State) (issued : Issued) (next : State) → count view.number (reached_from (beginning_of params boot) next between).objects ≤ count view.number next.objects
-        → count view.number (reached (beginning_of params boot) (before ++ ban ∷ between)).objects ≡ count view.number (reached_from (beginning_of params boot) next between).objects
-        → (count view.number (reached (beginning_of params boot) (before ++ ban ∷ between)).objects ≤ 0 → ⊥)
+    by_ban : (state now : State) (issued : Issued) (next : State) → count view.number (reached_from beginning.params next between).objects ≤ count view.number next.objects
+        → count view.number (reached beginning (before ++ ban ∷ between)).objects ≡ count view.number (reached_from beginning.params next between).objects
+        → (count view.number (reached beginning (before ++ ban ∷ between)).objects ≤ 0 → ⊥)
         → count view.number next.objects ≡ count view.number (ban_over issued now.objects)
         → (count view.number (ban_over issued now.objects) ≤ 0) ⊎ Spared view.number issued now.objects → Spared view.number issued now.objects
     by_ban state now issued next less same held is (inl none_) = absurd (held (omega (arith, less, same, is, none_)))

@@ -4,7 +4,6 @@ use Rattle.std.specs.List.{AllByRecursion, list_any}
 use Rattle.std.specs.Option.{option_map_or}
 use Rattle.std.proofs.lemmas.Bool.{true≢false, false≢true, eqb-true}
 use Rattle.cache_law.specs.declared.setting.Params.{Params}
-use Rattle.cache_law.specs.declared.setting.Boot.{Boot}
 use Rattle.cache_law.specs.declared.ban.Ban.{Ban as BanWords}
 use Rattle.cache_law.specs.declared.ban.Issued.{Issued}
 use Rattle.cache_law.specs.declared.object.Object.{Object}
@@ -22,10 +21,11 @@ use Rattle.cache_law.specs.Bans.{matches, meets, object_only}
 use Rattle.cache_law.specs.BansAtOnce.{is_met, cleared, issued_behind, awaiting, ban_over}
 use Rattle.cache_law.specs.Purges.{has_key, has_xkey, softening, xkey_over}
 use Rattle.cache_law.specs.Lookup.{Scan, scanned, counting, counted, touching, touched, is_chosen_by, is_fresh, ending, seeing, passing}
-use Rattle.cache_law.specs.Beginning.{Beginning, beginning_of}
+use Rattle.cache_law.specs.Beginning.{Beginning}
 use Rattle.cache_law.specs.Law.{Step, answered, after, step_of, looked_up, inserted, MayAnswer}
-use Rattle.cache_law.specs.History.{Follows, Legal, LegalFrom, next_state, reached_from, reached, bytes_of}
+use Rattle.cache_law.specs.History.{FollowAll, Follows, Legal, next_state, reached_from, reached}
 use Rattle.cache_law.specs.LookedUp.{IsLookedUp}
+use Rattle.cache_law.specs.Bases.{IsSound}
 use Rattle.cache_law.specs.BanHistories.{IsAmong, WasStored, IsTested, WasTested, given, has_number, is_of, with_heir, heirs, issued_in}
 use Rattle.cache_law.proofs.Growth.{behind_either}
 use Rattle.cache_law.proofs.Histories.{reached-push}
@@ -37,8 +37,9 @@ use Rattle.cache_law.proofs.Serving.{follows_from}
 use Rattle.cache_law.proofs.LookedUp.{legal_looked_up}
 use Rattle.cache_law.proofs.Given.{looked_gives}
 use Rattle.cache_law.proofs.Held.{all-filter, all-map, all-weaken}
-use Rattle.cache_law.proofs.Present.{count, HeldOnce, once_after, once_at, once_in_run, opened_by, counting_number, touching_number, softening_number}
-use Rattle.cache_law.proofs.Struck.{IsShut, shut_later, shut_behind_stored, shut_once_stored, none_numbered, given_says, append_behind, banned_after, legal_behind}
+use Rattle.cache_law.proofs.Present.{count, HeldOnce, once_after, once_at, once_from, opened_by, counting_number, touching_number, softening_number}
+use Rattle.cache_law.proofs.Sound.{once_of_sound}
+use Rattle.cache_law.proofs.Struck.{IsShut, shut_later, shut_behind_stored, shut_once_stored, none_numbered, given_says, append_behind, banned_after, follow_behind}
 
 -- one of the bans
 abbrev pub IsIn : Issued → List Issued → Type 0
@@ -317,25 +318,25 @@ heirs_shut numbers (Insert token object stale) (Stored number) state all stored 
     by_own false = all
 heirs_shut numbers call reply state all stored = all
 
-all_shut_next : (numbers : List ℕ) (beginning : Beginning) (state : State) (entry : Entry) → AllShut numbers state → AllShut numbers (next_state beginning state entry)
-all_shut_next [] beginning state entry all = tt
-all_shut_next (own ∷ numbers) beginning state entry all = (shut_later beginning state (entry ∷ []) own all.0, all_shut_next numbers beginning state entry all.1)
+all_shut_next : (numbers : List ℕ) (params : Params) (state : State) (entry : Entry) → AllShut numbers state → AllShut numbers (next_state params state entry)
+all_shut_next [] params state entry all = tt
+all_shut_next (own ∷ numbers) params state entry all = (shut_later params state (entry ∷ []) own all.0, all_shut_next numbers params state entry all.1)
 
 shut_at : (numbers : List ℕ) (moment : ℕ) (state : State) → AllShut numbers state → AllShut numbers (at_moment moment state)
 shut_at [] moment state all = tt
 shut_at (own ∷ numbers) moment state all = (record { drawn = all.0.drawn; shut = all.0.shut }, shut_at numbers moment state all.1)
 
 -- what an entry does to what is tracked: it goes on, or the entry tested an object
-by_call : (beginning : Beginning) (state : State) (numbers : List ℕ) (issued : Issued) (caller moment : ℕ) (call : Call) (reply : Reply)
-    → MayAnswer (at_moment moment state) call (step_of beginning state caller moment call).reply reply → AllWait numbers issued (at_moment moment state).objects → AllShut numbers state → ((n : ℕ) → HeldOnce n state)
-    → AllWait (with_heir numbers call reply) issued (after beginning state caller moment call reply).objects ⊎ IsTested beginning state (record { caller = caller; moment = moment; call = call; reply = reply }) numbers issued
-by_call beginning state numbers issued caller moment (Lookup query) reply may all shut once =
+by_call : (params : Params) (state : State) (numbers : List ℕ) (issued : Issued) (caller moment : ℕ) (call : Call) (reply : Reply)
+    → MayAnswer (at_moment moment state) call (step_of params state caller moment call).reply reply → AllWait numbers issued (at_moment moment state).objects → AllShut numbers state → ((n : ℕ) → HeldOnce n state)
+    → AllWait (with_heir numbers call reply) issued (after params state caller moment call reply).objects ⊎ IsTested params state (record { caller = caller; moment = moment; call = call; reply = reply }) numbers issued
+by_call params state numbers issued caller moment (Lookup query) reply may all shut once =
     let now : State = at_moment moment state in
-    let is : after beginning state caller moment (Lookup query) reply ≡ record (looked_up now caller query).state { entries = state.entries + 1 } = after-lawful beginning state caller moment (Lookup query) reply may in
+    let is : after params state caller moment (Lookup query) reply ≡ record (looked_up now caller query).state { entries = state.entries + 1 } = after-lawful params state caller moment (Lookup query) reply may in
     by_found now is (looked_waits numbers issued query now caller all)
   where
-    by_found : (now : State) → after beginning state caller moment (Lookup query) reply ≡ record (looked_up now caller query).state { entries = state.entries + 1 } → WaitsOrFound numbers issued query (at_moment moment state).objects (looked_up now caller query).state.objects
-        → AllWait numbers issued (after beginning state caller moment (Lookup query) reply).objects ⊎ IsTested beginning state (record { caller = caller; moment = moment; call = Lookup query; reply = reply }) numbers issued
+    by_found : (now : State) → after params state caller moment (Lookup query) reply ≡ record (looked_up now caller query).state { entries = state.entries + 1 } → WaitsOrFound numbers issued query (at_moment moment state).objects (looked_up now caller query).state.objects
+        → AllWait numbers issued (after params state caller moment (Lookup query) reply).objects ⊎ IsTested params state (record { caller = caller; moment = moment; call = Lookup query; reply = reply }) numbers issued
     by_found now is (inl waits) = inl (subst (λ (s : State). AllWait numbers issued s.objects) (sym is) waits)
     by_found now is (inr found) =
         inr (record {
@@ -351,48 +352,48 @@ by_call beginning state numbers issued caller moment (Lookup query) reply may al
           same = found.same;
           cleared = found.cleared;
         })
-by_call beginning state numbers issued caller moment (Insert token object stale) reply (inl law) all shut once =
+by_call params state numbers issued caller moment (Insert token object stale) reply (inl law) all shut once =
     let now : State = at_moment moment state in
-    let waits = inserted_waits numbers issued beginning.params.room now caller token object stale (shut_at numbers moment state shut) (once_at token moment state (once token)) all in
-    let is = after-lawful beginning state caller moment (Insert token object stale) reply law in
+    let waits = inserted_waits numbers issued params.room now caller token object stale (shut_at numbers moment state shut) (once_at token moment state (once token)) all in
+    let is = after-lawful params state caller moment (Insert token object stale) reply law in
     inl (subst (λ (s : State). AllWait (with_heir numbers (Insert token object stale) reply) issued s.objects) (sym is)
-    (subst (λ (r : Reply). AllWait (with_heir numbers (Insert token object stale) r) issued (step_of beginning state caller moment (Insert token object stale)).state.objects) (sym law) waits))
-by_call beginning state numbers issued caller moment (Insert token object stale) reply (inr free) all shut once =
-    inl (subst (λ (r : Reply). AllWait (with_heir numbers (Insert token object stale) r) issued (after beginning state caller moment (Insert token object stale) r).objects) (sym free.0) all)
-by_call beginning state numbers issued caller moment call reply may all shut once =
-    inl (behind_either (λ (s : State). AllWait numbers issued s.objects) reply _ _ all (plain_waits numbers issued beginning.params.room (at_moment moment state) caller call refl all))
+    (subst (λ (r : Reply). AllWait (with_heir numbers (Insert token object stale) r) issued (step_of params state caller moment (Insert token object stale)).state.objects) (sym law) waits))
+by_call params state numbers issued caller moment (Insert token object stale) reply (inr free) all shut once =
+    inl (subst (λ (r : Reply). AllWait (with_heir numbers (Insert token object stale) r) issued (after params state caller moment (Insert token object stale) r).objects) (sym free.0) all)
+by_call params state numbers issued caller moment call reply may all shut once =
+    inl (behind_either (λ (s : State). AllWait numbers issued s.objects) reply _ _ all (plain_waits numbers issued params.room (at_moment moment state) caller call refl all))
 
-track_step : (beginning : Beginning) (state : State) (entry : Entry) (numbers : List ℕ) (issued : Issued) → Follows beginning state entry → ((n : ℕ) → HeldOnce n state) → Tracked numbers issued state
-    → Tracked (with_heir numbers entry.call entry.reply) issued (next_state beginning state entry) ⊎ IsTested beginning state entry numbers issued
-track_step beginning state entry numbers issued follows once tracked =
-    by_waits (by_call beginning state numbers issued entry.caller entry.moment entry.call entry.reply follows.answer
+track_step : (params : Params) (state : State) (entry : Entry) (numbers : List ℕ) (issued : Issued) → Follows params state entry → ((n : ℕ) → HeldOnce n state) → Tracked numbers issued state
+    → Tracked (with_heir numbers entry.call entry.reply) issued (next_state params state entry) ⊎ IsTested params state entry numbers issued
+track_step params state entry numbers issued follows once tracked =
+    by_waits (by_call params state numbers issued entry.caller entry.moment entry.call entry.reply follows.answer
     (all-filter (Waits numbers issued) (λ (held : Held). in_time entry.moment held.view.object) state.objects tracked.waits) tracked.shut once)
   where
-    by_waits : AllWait (with_heir numbers entry.call entry.reply) issued (next_state beginning state entry).objects ⊎ IsTested beginning state entry numbers issued
-        → Tracked (with_heir numbers entry.call entry.reply) issued (next_state beginning state entry) ⊎ IsTested beginning state entry numbers issued
+    by_waits : AllWait (with_heir numbers entry.call entry.reply) issued (next_state params state entry).objects ⊎ IsTested params state entry numbers issued
+        → Tracked (with_heir numbers entry.call entry.reply) issued (next_state params state entry) ⊎ IsTested params state entry numbers issued
     by_waits (inl waits) =
         inl (record {
           waits = waits;
-          shut = heirs_shut numbers entry.call entry.reply (next_state beginning state entry) (all_shut_next numbers beginning state entry tracked.shut) (λ number told. shut_behind_stored beginning state entry number follows told (once number));
+          shut = heirs_shut numbers entry.call entry.reply (next_state params state entry) (all_shut_next numbers params state entry tracked.shut) (λ number told. shut_behind_stored params state entry number follows told (once number));
         })
     by_waits (inr tested) = inr tested
 
-track_from : (beginning : Beginning) (state : State) (used : ℕ) (entries behind : List Entry) (numbers : List ℕ) (issued : Issued) → LegalFrom beginning state used (entries ++ behind) → ((n : ℕ) → HeldOnce n state) → Tracked numbers issued state
-    → Tracked (heirs numbers entries) issued (reached_from beginning state entries) ⊎ WasTested beginning state numbers issued entries
-track_from beginning state used [] behind numbers issued legal once tracked = inl tracked
-track_from beginning state used (e ∷ es) behind numbers issued legal once tracked =
-    by_step (track_step beginning state e numbers issued legal.0 once tracked)
-    (track_from beginning (next_state beginning state e) (used + bytes_of e.call) es behind (with_heir numbers e.call e.reply) issued legal.2 (λ n. once_after n beginning state e.caller e.moment e.call e.reply (once n)))
+track_from : (params : Params) (state : State) (entries behind : List Entry) (numbers : List ℕ) (issued : Issued) → FollowAll params state (entries ++ behind) → ((n : ℕ) → HeldOnce n state) → Tracked numbers issued state
+    → Tracked (heirs numbers entries) issued (reached_from params state entries) ⊎ WasTested params state numbers issued entries
+track_from params state [] behind numbers issued legal once tracked = inl tracked
+track_from params state (e ∷ es) behind numbers issued legal once tracked =
+    by_step (track_step params state e numbers issued legal.0 once tracked)
+    (track_from params (next_state params state e) es behind (with_heir numbers e.call e.reply) issued legal.1 (λ n. once_after n params state e.caller e.moment e.call e.reply (once n)))
   where
-    by_later : Tracked (heirs numbers (e ∷ es)) issued (reached_from beginning state (e ∷ es)) ⊎ WasTested beginning (next_state beginning state e) (with_heir numbers e.call e.reply) issued es
-        → Tracked (heirs numbers (e ∷ es)) issued (reached_from beginning state (e ∷ es)) ⊎ WasTested beginning state numbers issued (e ∷ es)
+    by_later : Tracked (heirs numbers (e ∷ es)) issued (reached_from params state (e ∷ es)) ⊎ WasTested params (next_state params state e) (with_heir numbers e.call e.reply) issued es
+        → Tracked (heirs numbers (e ∷ es)) issued (reached_from params state (e ∷ es)) ⊎ WasTested params state numbers issued (e ∷ es)
     by_later (inl later) = inl later
     by_later (inr tested) = inr (inr tested)
 
-    by_step : Tracked (with_heir numbers e.call e.reply) issued (next_state beginning state e) ⊎ IsTested beginning state e numbers issued
-        → (Tracked (with_heir numbers e.call e.reply) issued (next_state beginning state e)
-        → Tracked (heirs numbers (e ∷ es)) issued (reached_from beginning state (e ∷ es)) ⊎ WasTested beginning (next_state beginning state e) (with_heir numbers e.call e.reply) issued es)
-        → Tracked (heirs numbers (e ∷ es)) issued (reached_from beginning state (e ∷ es)) ⊎ WasTested beginning state numbers issued (e ∷ es)
+    by_step : Tracked (with_heir numbers e.call e.reply) issued (next_state params state e) ⊎ IsTested params state e numbers issued
+        → (Tracked (with_heir numbers e.call e.reply) issued (next_state params state e)
+        → Tracked (heirs numbers (e ∷ es)) issued (reached_from params state (e ∷ es)) ⊎ WasTested params (next_state params state e) (with_heir numbers e.call e.reply) issued es)
+        → Tracked (heirs numbers (e ∷ es)) issued (reached_from params state (e ∷ es)) ⊎ WasTested params state numbers issued (e ∷ es)
     by_step (inl next) later = by_later (later next)
     by_step (inr tested) later = inr (inl tested)
 
@@ -418,32 +419,32 @@ over_waits : (numbers : List ℕ) (issued : Issued) (objects : List Held) → ob
 over_waits numbers issued objects other =
     subst (λ (b : Bool). AllWait numbers issued (cond b (filter (λ held. not (matches held.view.object issued)) objects) (map (awaiting issued) objects))) (sym other) (all_awaiting numbers issued objects)
 
-pub given_tested : (params : Params) (boot : Boot) (before between behind : List Entry) (ban entry : Entry) (words : BanWords) (query : Query) (view : ObjectView) (number : ℕ)
-    → Legal (beginning_of params boot) (before ++ ban ∷ (between ++ entry ∷ behind)) → ban.call ≡ Ban words → object_only words ≡ false
+pub given_tested : (beginning : Beginning) (before between behind : List Entry) (ban entry : Entry) (words : BanWords) (query : Query) (view : ObjectView) (number : ℕ) → IsSound beginning.base
+    → Legal beginning (before ++ ban ∷ (between ++ entry ∷ behind)) → ban.call ≡ Ban words → object_only words ≡ false
     → WasStored number before → has_number (heirs (number ∷ []) between) view.number ≡ true
     → entry.call ≡ Lookup query → given entry.reply ≡ Some view
-    → (meets view.object query.request (issued_in (reached (beginning_of params boot) before) ban words) ≡ false)
-    ⊎ WasTested (beginning_of params boot) (reached (beginning_of params boot) (before ++ ban ∷ [])) (number ∷ []) (issued_in (reached (beginning_of params boot) before) ban words) between
-given_tested params boot before between behind ban entry words query view number legal called other stored own asked told =
-    let beginning : Beginning = beginning_of params boot in
+    → (meets view.object query.request (issued_in (reached beginning before) ban words) ≡ false)
+    ⊎ WasTested beginning.params (reached beginning (before ++ ban ∷ [])) (number ∷ []) (issued_in (reached beginning before) ban words) between
+given_tested beginning before between behind ban entry words query view number sound legal called other stored own asked told =
+    let params : Params = beginning.params in
     let state : State = reached beginning before in
     let issued : Issued = issued_in state ban words in
-    let next : State = next_state beginning state ban in
-    let follows = follows_from beginning beginning.base 0 before (between ++ entry ∷ behind) ban legal.each in
-    let shut = shut_once_stored beginning beginning.base 0 number before (ban ∷ (between ++ entry ∷ behind)) legal.each (once_in_run number params boot []) stored in
+    let next : State = next_state params state ban in
+    let follows = follows_from params beginning.base before (between ++ entry ∷ behind) ban legal.follow in
+    let shut = shut_once_stored params beginning.base number before (ban ∷ (between ++ entry ∷ behind)) legal.follow (once_of_sound number beginning.base sound) stored in
     let waits : AllWait (number ∷ []) issued next.objects =
-    subst (AllWait (number ∷ []) issued) (sym (banned_after beginning state ban words follows called)) (over_waits (number ∷ []) issued (at_moment ban.moment state).objects other) in
-    let tracked : Tracked (number ∷ []) issued next = record { waits = waits; shut = (shut_later beginning state (ban ∷ []) number shut, tt) } in
+    subst (AllWait (number ∷ []) issued) (sym (banned_after params state ban words follows called)) (over_waits (number ∷ []) issued (at_moment ban.moment state).objects other) in
+    let tracked : Tracked (number ∷ []) issued next = record { waits = waits; shut = (shut_later params state (ban ∷ []) number shut, tt) } in
     let is = legal_looked_up beginning (before ++ ban ∷ between) behind entry (subst (Legal beginning) (sym (append_behind before between ban (entry ∷ behind))) legal) (given_says entry.reply view told) in
-    let rest = legal_behind beginning beginning.base 0 before (ban ∷ (between ++ entry ∷ behind)) legal.each in
-    let there : reached beginning (before ++ ban ∷ between) ≡ reached_from beginning next between = reached-append beginning before (ban ∷ between) in
+    let rest = follow_behind params beginning.base before (ban ∷ (between ++ entry ∷ behind)) legal.follow in
+    let there : reached beginning (before ++ ban ∷ between) ≡ reached_from params next between = reached-append beginning before (ban ∷ between) in
     let pushed : reached beginning (before ++ ban ∷ []) ≡ next = reached-push beginning before ban in
-    subst (λ (s : State). (meets view.object query.request issued ≡ false) ⊎ WasTested beginning s (number ∷ []) issued between) (sym pushed)
-    (by_tracked beginning next issued (subst (λ (s : State). IsLookedUp s entry) there is)
-    (track_from beginning next _ between (entry ∷ behind) (number ∷ []) issued rest.1.2 (λ n. once_after n beginning state ban.caller ban.moment ban.call ban.reply (once_in_run n params boot before)) tracked))
+    subst (λ (s : State). (meets view.object query.request issued ≡ false) ⊎ WasTested params s (number ∷ []) issued between) (sym pushed)
+    (by_tracked params next issued (subst (λ (s : State). IsLookedUp s entry) there is)
+    (track_from params next between (entry ∷ behind) (number ∷ []) issued rest.1 (λ n. once_after n params state ban.caller ban.moment ban.call ban.reply (once_from n params beginning.base before (once_of_sound n beginning.base sound))) tracked))
   where
-    by_tracked : (beginning : Beginning) (next : State) (issued : Issued) → IsLookedUp (reached_from beginning next between) entry
-        → Tracked (heirs (number ∷ []) between) issued (reached_from beginning next between) ⊎ WasTested beginning next (number ∷ []) issued between
-        → (meets view.object query.request issued ≡ false) ⊎ WasTested beginning next (number ∷ []) issued between
-    by_tracked beginning next issued is (inl tracked) = inl (given_unmet (reached_from beginning next between) entry query view (heirs (number ∷ []) between) issued is asked told tracked.waits own)
-    by_tracked beginning next issued is (inr tested) = inr tested
+    by_tracked : (params : Params) (next : State) (issued : Issued) → IsLookedUp (reached_from params next between) entry
+        → Tracked (heirs (number ∷ []) between) issued (reached_from params next between) ⊎ WasTested params next (number ∷ []) issued between
+        → (meets view.object query.request issued ≡ false) ⊎ WasTested params next (number ∷ []) issued between
+    by_tracked params next issued is (inl tracked) = inl (given_unmet (reached_from params next between) entry query view (heirs (number ∷ []) between) issued is asked told tracked.waits own)
+    by_tracked params next issued is (inr tested) = inr tested

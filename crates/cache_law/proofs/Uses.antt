@@ -3,7 +3,6 @@ use Rattle.std.proofs.Common.{◌≡◌, ◌≢◌, ℕ, Bool, true, false, not,
 use Rattle.std.specs.List.{AllByRecursion}
 use Rattle.std.proofs.lemmas.Bool.{cases_eq, eq-eqb, ne_eqb}
 use Rattle.cache_law.specs.declared.setting.Params.{Params}
-use Rattle.cache_law.specs.declared.setting.Boot.{Boot}
 use Rattle.cache_law.specs.declared.object.Object.{Object}
 use Rattle.cache_law.specs.declared.ban.Issued.{Issued}
 use Rattle.cache_law.specs.declared.call.Query.{Query}
@@ -17,14 +16,13 @@ use Rattle.cache_law.specs.BansAtOnce.{is_met, cleared, issued_behind, awaiting}
 use Rattle.cache_law.specs.Bans.{matches, object_only}
 use Rattle.cache_law.specs.Purges.{has_key, has_xkey, softening, xkey_over}
 use Rattle.cache_law.specs.Lookup.{Scan, scanned, counting, touching, is_chosen_by, is_fresh, ending, seeing, passing}
-use Rattle.cache_law.specs.Beginning.{Beginning, beginning_of}
 use Rattle.cache_law.specs.Law.{Step, answered, refused}
-use Rattle.cache_law.specs.History.{next_state, reached_from, reached}
+use Rattle.cache_law.specs.History.{next_state, reached_from}
 use Rattle.cache_law.proofs.Growth.{behind_either}
 use Rattle.cache_law.proofs.Leaves.{either, inserted_leaf, picked_leaf, health_leaf, loaded_leaf, switched_leaf, discarded_leaf}
 use Rattle.cache_law.proofs.ScanLeaves.{looked_leaf_of}
 use Rattle.cache_law.proofs.Held.{all-filter}
-use Rattle.cache_law.proofs.Present.{one_if, count, count-scanned, HeldOnce, once_at, once_after, once_in_run}
+use Rattle.cache_law.proofs.Present.{one_if, count, count-scanned, HeldOnce, once_at, once_after}
 
 -- how many of the objects were last used at the place
 abbrev pub uses : ℕ → List Held → ℕ
@@ -200,38 +198,32 @@ used_once old objects is more new same next =
     by_place place (inl here) = omega (arith, ap (λ (k : ℕ). uses k new.objects) here, ap (uses old.entries) same, more.1)
     by_place place (inr other) = omega (arith, more.0 place other, is.once place, ap (uses place) same)
 
-used_at : (moment : ℕ) (state : State) → UsedOnce state → UsedOnce (at_moment moment state)
+pub used_at : (moment : ℕ) (state : State) → UsedOnce state → UsedOnce (at_moment moment state)
 used_at moment state is =
     record {
       once = λ place. omega (arith, is.once place, uses-filter (λ (held : Held). in_time moment held.view.object) state.objects place);
       unused = λ place above. omega (arith, is.unused place above, uses-filter (λ (held : Held). in_time moment held.view.object) state.objects place);
     }
 
-used_from : (beginning : Beginning) (state : State) (entries : List Entry) → ((n : ℕ) → HeldOnce n state) → UsedOnce state → UsedOnce (reached_from beginning state entries)
-used_from beginning state [] once is = is
-used_from beginning state (e ∷ es) once is =
+pub used_from : (params : Params) (state : State) (entries : List Entry) → ((n : ℕ) → HeldOnce n state) → UsedOnce state → UsedOnce (reached_from params state entries)
+used_from params state [] once is = is
+used_from params state (e ∷ es) once is =
     let now : State = at_moment e.moment state in
     let there : UsedOnce now = used_at e.moment state is in
     let fresh : Fresh now = record { unused = there.unused now.entries (omega arith); once = λ n. (once_at n e.moment state (once n)).once } in
-    let more = behind_either (λ (s : State). OneMore now s.objects) e.reply _ _ (refused_more now e.call fresh) (one_more_behind beginning.params.room now e.caller e.call fresh) in
-    used_from beginning (next_state beginning state e) es (λ n. once_after n beginning state e.caller e.moment e.call e.reply (once n)) (used_once now _ there more (next_state beginning state e) refl refl)
+    let more = behind_either (λ (s : State). OneMore now s.objects) e.reply _ _ (refused_more now e.call fresh) (one_more_behind params.room now e.caller e.call fresh) in
+    used_from params (next_state params state e) es (λ n. once_after n params state e.caller e.moment e.call e.reply (once n)) (used_once now _ there more (next_state params state e) refl refl)
 
 apart_from : (held : Held) (objects : List Held) → uses held.used objects ≤ 0 → AllByRecursion (λ (other : Held). held.used ≢ other.used) objects
 apart_from held [] none_ = tt
 apart_from held (other ∷ objects) none_ =
     (λ e. let here : one_if (other.used == held.used) ≡ one_if true = ap one_if (eq-eqb other.used held.used (sym e)) in omega (arith, here, none_), apart_from held objects (omega (arith, none_)))
 
-used_apart : (objects : List Held) → ((place : ℕ) → uses place objects ≤ 1) → AreUsedApart objects
+pub used_apart : (objects : List Held) → ((place : ℕ) → uses place objects ≤ 1) → AreUsedApart objects
 used_apart [] once = tt
 used_apart (held ∷ objects) once =
     let here : one_if (held.used == held.used) ≡ one_if true = ap one_if (eq-eqb held.used held.used refl) in
     (apart_from held objects (omega (arith, here, once held.used)), used_apart objects (λ place. omega (arith, once place)))
-
--- in a run's history no two objects were last used at one place
-pub used_apart_in_run : (params : Params) (boot : Boot) (entries : List Entry) → AreUsedApart (reached (beginning_of params boot) entries).objects
-used_apart_in_run params boot entries =
-    let base : UsedOnce (beginning_of params boot).base = record { once = λ place. omega arith; unused = λ place above. omega arith } in
-    used_apart _ (used_from (beginning_of params boot) (beginning_of params boot).base entries (λ n. once_in_run n params boot []) base).once
 
 some_apart : (b : Bool) (held : Held) (objects : List Held) → AllByRecursion (λ (other : Held). held.used ≢ other.used) objects → AreUsedApart objects → AreUsedApart (cond b (held ∷ objects) objects)
 some_apart true held objects here rest = (here, rest)
@@ -242,10 +234,10 @@ apart-filter test [] apart = tt
 apart-filter test (held ∷ objects) apart =
     some_apart (test held) held (filter test objects) (all-filter (λ (other : Held). held.used ≢ other.used) test objects apart.0) (apart-filter test objects apart.1)
 
-without_apart : (stale : Option ℕ) (objects : List Held) → AreUsedApart objects → AreUsedApart (without_stale stale objects)
+pub without_apart : (stale : Option ℕ) (objects : List Held) → AreUsedApart objects → AreUsedApart (without_stale stale objects)
 without_apart None objects apart = apart
 without_apart (Some stale) objects apart = apart-filter (λ (held : Held). not (held.view.number == stale)) objects apart
 
--- nor were two of those in time beside a stale one
+-- no two of those in time beside a stale one were last used at one place, where no two of all were
 pub others_apart : (moment : ℕ) (stale : Option ℕ) (objects : List Held) → AreUsedApart objects → AreUsedApart (without_stale stale (those_in_time moment objects))
 others_apart moment stale objects apart = without_apart stale (those_in_time moment objects) (apart-filter (λ (held : Held). in_time moment held.view.object) objects apart)

@@ -6,6 +6,7 @@ use Rattle.cache_law.specs.declared.call.Reply.{Reply}
 use Rattle.cache_law.specs.declared.call.Reply.TheVariants.{Loaded, Bans}
 use Rattle.cache_law.specs.declared.call.Entry.{Entry}
 use Rattle.cache_law.specs.State.{State, at_moment, has_round, has_fetch}
+use Rattle.cache_law.specs.declared.setting.Params.{Params}
 use Rattle.cache_law.specs.Beginning.{Beginning}
 use Rattle.cache_law.specs.Law.{Step, answered, refused, after, step_of, MayAnswer, IsBanList}
 use Rattle.cache_law.specs.History.{Follows, Legal, next_state, reached_from, reached}
@@ -64,13 +65,13 @@ refused_vcl : (state : State) (call : Call) → state.next_vcl ≤ (refused stat
 refused_vcl state (Insert token object stale) = omega arith
 refused_vcl state call = omega arith
 
-vcl_rises : (beginning : Beginning) (state : State) (entry : Entry) → state.next_vcl ≤ (next_state beginning state entry).next_vcl
-vcl_rises beginning state entry =
-    behind_either (λ (s : State). state.next_vcl ≤ s.next_vcl) entry.reply _ _ (refused_vcl (at_moment entry.moment state) entry.call) (loads_next beginning.params.room (at_moment entry.moment state) entry.caller entry.call).rises
+vcl_rises : (params : Params) (state : State) (entry : Entry) → state.next_vcl ≤ (next_state params state entry).next_vcl
+vcl_rises params state entry =
+    behind_either (λ (s : State). state.next_vcl ≤ s.next_vcl) entry.reply _ _ (refused_vcl (at_moment entry.moment state) entry.call) (loads_next params.room (at_moment entry.moment state) entry.caller entry.call).rises
 
-vcl_rises_from : (beginning : Beginning) (state : State) (entries : List Entry) → state.next_vcl ≤ (reached_from beginning state entries).next_vcl
-vcl_rises_from beginning state [] = omega arith
-vcl_rises_from beginning state (e ∷ es) = omega (arith, vcl_rises beginning state e, vcl_rises_from beginning (next_state beginning state e) es)
+vcl_rises_from : (params : Params) (state : State) (entries : List Entry) → state.next_vcl ≤ (reached_from params state entries).next_vcl
+vcl_rises_from params state [] = omega arith
+vcl_rises_from params state (e ∷ es) = omega (arith, vcl_rises params state e, vcl_rises_from params (next_state params state e) es)
 
 no_list : (state : State) (answer : Reply) (n : ℕ) → IsBanList state answer → answer ≡ Loaded n → ⊥
 no_list state (Bans lines) n shows e = cc
@@ -83,19 +84,19 @@ loaded_by_law state (Insert token object stale) law answer n (inr free) e = cc
 loaded_by_law state BanList law answer n may e = absurd (no_list state answer n may e)
 loaded_by_law state call law answer n may e = sym may ∙ e
 
-loaded_at : (beginning : Beginning) (state : State) (entry : Entry) (n : ℕ) → Follows beginning state entry → entry.reply ≡ Loaded n → (n ≡ state.next_vcl) × (n < (next_state beginning state entry).next_vcl)
-loaded_at beginning state entry n follows told =
+loaded_at : (params : Params) (state : State) (entry : Entry) (n : ℕ) → Follows params state entry → entry.reply ≡ Loaded n → (n ≡ state.next_vcl) × (n < (next_state params state entry).next_vcl)
+loaded_at params state entry n follows told =
     let now : State = at_moment entry.moment state in
-    let law = loaded_by_law now entry.call (step_of beginning state entry.caller entry.moment entry.call).reply entry.reply n follows.answer told in
-    let both = (loads_next beginning.params.room now entry.caller entry.call).next n law in
-    (both.0, subst (λ (r : Reply). n < (after beginning state entry.caller entry.moment entry.call r).next_vcl) (sym told) both.1)
+    let law = loaded_by_law now entry.call (step_of params state entry.caller entry.moment entry.call).reply entry.reply n follows.answer told in
+    let both = (loads_next params.room now entry.caller entry.call).next n law in
+    (both.0, subst (λ (r : Reply). n < (after params state entry.caller entry.moment entry.call r).next_vcl) (sym told) both.1)
 
 pub loads_rise : (beginning : Beginning) (before between behind : List Entry) (first second : Entry) (number other : ℕ)
     → Legal beginning (before ++ first ∷ (between ++ second ∷ behind)) → first.reply ≡ Loaded number → second.reply ≡ Loaded other → number < other
 loads_rise beginning before between behind first second number other legal one two =
     let state : State = reached beginning before in
-    let here = loaded_at beginning state first number (follows_from beginning beginning.base 0 before (between ++ second ∷ behind) first legal.each) one in
+    let here = loaded_at beginning.params state first number (follows_from beginning.params beginning.base before (between ++ second ∷ behind) first legal.follow) one in
     let later = subst (Legal beginning) (sym (append_behind before between first (second ∷ behind))) legal in
-    let there = loaded_at beginning (reached beginning (before ++ first ∷ between)) second other (follows_from beginning beginning.base 0 (before ++ first ∷ between) behind second later.each) two in
-    let rises = vcl_rises_from beginning (next_state beginning state first) between in
+    let there = loaded_at beginning.params (reached beginning (before ++ first ∷ between)) second other (follows_from beginning.params beginning.base (before ++ first ∷ between) behind second later.follow) two in
+    let rises = vcl_rises_from beginning.params (next_state beginning.params state first) between in
     omega (arith, here.1, there.0, rises, ap (λ (s : State). s.next_vcl) (reached-append beginning before (first ∷ between)))

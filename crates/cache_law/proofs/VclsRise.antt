@@ -2,17 +2,16 @@
 use Rattle.std.proofs.Common.{◌≡◌, ℕ, Bool, true, false, cond, List, [], ◌∷◌, ◌++◌, ◌+◌, ◌<◌, ◌==◌, filter, map, refl, arith, sym, ap, ◌∙◌, inl, inr}
 use Rattle.std.specs.List.{AllByRecursion}
 use Rattle.cache_law.specs.declared.setting.Params.{Params}
-use Rattle.cache_law.specs.declared.setting.Boot.{Boot}
 use Rattle.cache_law.specs.declared.vcl.LoadedVcl.{LoadedVcl}
 use Rattle.cache_law.specs.declared.call.Call.{Call}
 use Rattle.cache_law.specs.declared.call.Call.TheVariants.{Begin, Draw, Lookup, Pick, Insert, Ban, BanList, Purge, Xkey, SetHealth, Load, Switch, Discard, VclList, Drop, End}
 use Rattle.cache_law.specs.declared.call.Entry.{Entry}
 use Rattle.cache_law.specs.State.{State, at_moment, has_round, has_fetch, without_round_of}
 use Rattle.cache_law.specs.Vcls.{stays, discarding, numbered}
-use Rattle.cache_law.specs.Beginning.{Beginning, beginning_of}
 use Rattle.cache_law.specs.Law.{Step, answered, refused}
-use Rattle.cache_law.specs.History.{next_state, reached_from, reached}
+use Rattle.cache_law.specs.History.{next_state, reached_from}
 use Rattle.cache_law.specs.RoundVcls.{IsOneOf}
+use Rattle.cache_law.specs.Bases.{AreRising}
 use Rattle.cache_law.proofs.Growth.{behind_either}
 use Rattle.cache_law.proofs.Held.{all-filter, all-weaken}
 use Rattle.cache_law.proofs.Leaves.{either, looked_leaf, inserted_leaf, picked_leaf, health_leaf, loaded_leaf, switched_leaf, discarded_leaf}
@@ -24,16 +23,11 @@ Below number vcls = AllByRecursion (λ (l : LoadedVcl). l.vcl.number < number) v
 abbrev Above : LoadedVcl → List LoadedVcl → Type 0
 Above loaded vcls = AllByRecursion (λ (l : LoadedVcl). loaded.vcl.number < l.vcl.number) vcls
 
--- each has a lesser number than those behind it
-abbrev Rising : List LoadedVcl → Type 0
-Rising [] = Unit {0}
-Rising (loaded ∷ vcls) = Above loaded vcls × Rising vcls
-
 above_more : (loaded new : LoadedVcl) (vcls : List LoadedVcl) → Above loaded vcls → loaded.vcl.number < new.vcl.number → Above loaded (vcls ++ new ∷ [])
 above_more loaded new [] all here = (here, tt)
 above_more loaded new (l ∷ ls) all here = (all.0, above_more loaded new ls all.1 here)
 
-rising_more : (new : LoadedVcl) (vcls : List LoadedVcl) → Rising vcls → Below new.vcl.number vcls → Rising (vcls ++ new ∷ [])
+rising_more : (new : LoadedVcl) (vcls : List LoadedVcl) → AreRising vcls → Below new.vcl.number vcls → AreRising (vcls ++ new ∷ [])
 rising_more new [] rising below = (tt, tt)
 rising_more new (l ∷ ls) rising below = (above_more l new ls rising.0 below.0, rising_more new ls rising.1 below.1)
 
@@ -41,11 +35,11 @@ below_more : (number : ℕ) (new : LoadedVcl) (vcls : List LoadedVcl) → Below 
 below_more number new [] all here = (here, tt)
 below_more number new (l ∷ ls) all here = (all.0, below_more number new ls all.1 here)
 
-kept_step : (b : Bool) (loaded : LoadedVcl) (kept : List LoadedVcl) → Above loaded kept → Rising kept → Rising (cond b (loaded ∷ kept) kept)
+kept_step : (b : Bool) (loaded : LoadedVcl) (kept : List LoadedVcl) → Above loaded kept → AreRising kept → AreRising (cond b (loaded ∷ kept) kept)
 kept_step true loaded kept above rising = (above, rising)
 kept_step false loaded kept above rising = rising
 
-rising-filter : (test : LoadedVcl → Bool) (vcls : List LoadedVcl) → Rising vcls → Rising (filter test vcls)
+rising-filter : (test : LoadedVcl → Bool) (vcls : List LoadedVcl) → AreRising vcls → AreRising (filter test vcls)
 rising-filter test [] rising = tt
 rising-filter test (l ∷ ls) rising =
     kept_step (test l) l (filter test ls) (all-filter (λ (o : LoadedVcl). l.vcl.number < o.vcl.number) test ls rising.0) (rising-filter test ls rising.1)
@@ -61,7 +55,7 @@ above-discard : (number : ℕ) (loaded : LoadedVcl) (vcls : List LoadedVcl) → 
 above-discard number loaded [] above = tt
 above-discard number loaded (l ∷ ls) above = (omega (arith, above.0, discarding_number number l, discarding_number number loaded), above-discard number loaded ls above.1)
 
-rising-discard : (number : ℕ) (vcls : List LoadedVcl) → Rising vcls → Rising (map (discarding number) vcls)
+rising-discard : (number : ℕ) (vcls : List LoadedVcl) → AreRising vcls → AreRising (map (discarding number) vcls)
 rising-discard number [] rising = tt
 rising-discard number (l ∷ ls) rising = (above-discard number l ls rising.0, rising-discard number ls rising.1)
 
@@ -70,8 +64,8 @@ below-discard bound number [] below = tt
 below-discard bound number (l ∷ ls) below = (omega (arith, below.0, discarding_number number l), below-discard bound number ls below.1)
 
 -- what holds of the VCLs in each state that a run reaches
-record VclsRise (state : State) : Type 0 where
-  pub rising : Rising state.vcls
+pub record VclsRise (state : State) : Type 0 where
+  pub rising : AreRising state.vcls
   pub below : Below state.next_vcl state.vcls
 
 abbrev RiseBehind : Step → Type 0
@@ -135,28 +129,22 @@ rise_refused : (state : State) (call : Call) → VclsRise state → VclsRise (re
 rise_refused state (Insert token object stale) is = rise_on state _ is refl refl
 rise_refused state call is = is
 
-rise_from : (beginning : Beginning) (state : State) (entries : List Entry) → VclsRise state → VclsRise (reached_from beginning state entries)
-rise_from beginning state [] is = is
-rise_from beginning state (e ∷ es) is =
+pub rise_from : (params : Params) (state : State) (entries : List Entry) → VclsRise state → VclsRise (reached_from params state entries)
+rise_from params state [] is = is
+rise_from params state (e ∷ es) is =
     let now : VclsRise (at_moment e.moment state) = rise_on state _ is refl refl in
-    rise_from beginning (next_state beginning state e) es
-    (rise_on _ _ (behind_either VclsRise e.reply _ _ (rise_refused (at_moment e.moment state) e.call now) (rise_behind beginning.params.room (at_moment e.moment state) e.caller e.call now)) refl refl)
+    rise_from params (next_state params state e) es
+    (rise_on _ _ (behind_either VclsRise e.reply _ _ (rise_refused (at_moment e.moment state) e.call now) (rise_behind params.room (at_moment e.moment state) e.caller e.call now)) refl refl)
 
 above_one : (loaded other : LoadedVcl) (vcls : List LoadedVcl) → Above loaded vcls → IsOneOf other vcls → loaded.vcl.number < other.vcl.number
 above_one loaded other [] above one = absurd one
 above_one loaded other (l ∷ ls) above (inl same) = omega (arith, above.0, ap (λ (o : LoadedVcl). o.vcl.number) same)
 above_one loaded other (l ∷ ls) above (inr one) = above_one loaded other ls above.1 one
 
-same_vcl : (one other : LoadedVcl) (vcls : List LoadedVcl) → Rising vcls → IsOneOf one vcls → IsOneOf other vcls → one.vcl.number ≡ other.vcl.number → one ≡ other
+-- no two VCLs have one number
+pub same_vcl : (one other : LoadedVcl) (vcls : List LoadedVcl) → AreRising vcls → IsOneOf one vcls → IsOneOf other vcls → one.vcl.number ≡ other.vcl.number → one ≡ other
 same_vcl one other [] rising first second e = absurd first
 same_vcl one other (l ∷ ls) rising (inl here) (inl there) e = here ∙ sym there
 same_vcl one other (l ∷ ls) rising (inl here) (inr there) e = absurd (omega (arith, above_one l other ls rising.0 there, ap (λ (o : LoadedVcl). o.vcl.number) here, e))
 same_vcl one other (l ∷ ls) rising (inr here) (inl there) e = absurd (omega (arith, above_one l one ls rising.0 here, ap (λ (o : LoadedVcl). o.vcl.number) there, e))
 same_vcl one other (l ∷ ls) rising (inr here) (inr there) e = same_vcl one other ls rising.1 here there e
-
--- in a run's history no two VCLs that are there have one number
-pub own_vcl_numbers : (params : Params) (boot : Boot) (entries : List Entry) (one other : LoadedVcl) → IsOneOf one (reached (beginning_of params boot) entries).vcls → IsOneOf other (reached (beginning_of params boot) entries).vcls
-    → one.vcl.number ≡ other.vcl.number → one ≡ other
-own_vcl_numbers params boot entries one other first second same =
-    let base : VclsRise (beginning_of params boot).base = record { rising = (tt, tt); below = (omega arith, tt) } in
-    same_vcl one other _ (rise_from (beginning_of params boot) (beginning_of params boot).base entries base).rising first second same

@@ -1,6 +1,7 @@
 -- What a history owes of its bans: which objects a ban of it has spared, and which it was tested on.
 use Rattle.std.specs.Prelude.{◌≡◌, ◌⊎◌, ℕ, Bool, true, false, List, [], ◌∷◌, ◌==◌, Option, Some, None, if◌then◌else◌}
 use Rattle.std.specs.List.{list_any}
+use Rattle.cache_law.specs.declared.setting.Params.{Params}
 use Rattle.cache_law.specs.declared.ban.Ban.{Ban as BanWords}
 use Rattle.cache_law.specs.declared.ban.Issued.{Issued}
 use Rattle.cache_law.specs.declared.call.Query.{Query}
@@ -14,7 +15,6 @@ use Rattle.cache_law.specs.Object.{key_of, same_texts}
 use Rattle.cache_law.specs.State.{State, Held, at_moment}
 use Rattle.cache_law.specs.Bans.{matches, meets}
 use Rattle.cache_law.specs.BansAtOnce.{issued_behind}
-use Rattle.cache_law.specs.Beginning.{Beginning}
 use Rattle.cache_law.specs.History.{next_state}
 
 -- the object that a reply gives
@@ -65,7 +65,7 @@ heirs numbers (entry ∷ entries) = heirs (with_heir numbers entry.call entry.re
 
 -- In the state the entry looked up an object of one of the numbers, which the ban didn't match with the lookup's own request,
 -- and left no ban waiting for it.
-pub record IsTested (beginning : Beginning) (state : State) (entry : Entry) (numbers : List ℕ) (issued : Issued) : Type 0 where
+pub record IsTested (params : Params) (state : State) (entry : Entry) (numbers : List ℕ) (issued : Issued) : Type 0 where
   pub query : Query
   pub called : entry.call ≡ Lookup query
   pub held : Held
@@ -74,13 +74,13 @@ pub record IsTested (beginning : Beginning) (state : State) (entry : Entry) (num
   pub ours : same_texts (key_of held.view.object) query.key ≡ true
   pub unmatched : meets held.view.object query.request issued ≡ false
   pub left : Held
-  pub stays : IsAmong left (next_state beginning state entry).objects
+  pub stays : IsAmong left (next_state params state entry).objects
   pub same : left.view.number ≡ held.view.number
   pub cleared : left.pending ≡ []
 
 -- one of the entries behind the state tested an object on the ban that had one of the numbers then
-abbrev pub WasTested : Beginning → State → List ℕ → Issued → List Entry → Type 0
-WasTested beginning state numbers issued [] = ⊥
-WasTested beginning state numbers issued (entry ∷ entries) =
-    IsTested beginning state entry numbers issued
-    ⊎ WasTested beginning (next_state beginning state entry) (with_heir numbers entry.call entry.reply) issued entries
+abbrev pub WasTested : Params → State → List ℕ → Issued → List Entry → Type 0
+WasTested params state numbers issued [] = ⊥
+WasTested params state numbers issued (entry ∷ entries) =
+    IsTested params state entry numbers issued
+    ⊎ WasTested params (next_state params state entry) (with_heir numbers entry.call entry.reply) issued entries

@@ -1,9 +1,10 @@
 -- What one call does to the history of a cache.
-use Rattle.std.specs.Prelude.{◌≡◌, ℕ, Bool, true, false, List, [], ◌∷◌, ◌++◌, max, length}
+use Rattle.std.specs.Prelude.{◌≡◌, ℕ, Bool, true, false, not, List, [], ◌∷◌, ◌++◌, ◌/◌, ◌&&◌, nat_le, max, length}
+use Rattle.cache_law.specs.declared.setting.Params.{Params}
 use Rattle.cache_law.specs.declared.object.Object.{Object}
 use Rattle.cache_law.specs.declared.call.Query.{Query}
 use Rattle.cache_law.specs.declared.call.Call.{Call}
-use Rattle.cache_law.specs.declared.call.Call.TheVariants.{Insert, Drop, End}
+use Rattle.cache_law.specs.declared.call.Call.TheVariants.{Lookup, Insert, Drop, End}
 use Rattle.cache_law.specs.declared.call.Entry.{Entry}
 use Rattle.cache_law.specs.declared.cache.Told.{Told}
 use Rattle.cache_law.specs.Object.{in_time}
@@ -19,7 +20,7 @@ moment_of beginning entries reading = max (reached beginning entries).moment rea
 -- the call fits behind these entries
 abbrev pub FitsBehind : Beginning → List Entry → ℕ → ℕ → Call → Type 0
 FitsBehind beginning entries caller moment call =
-    Fits beginning (reached beginning entries) (bytes_of_all entries) caller moment call
+    Fits beginning.params (reached beginning entries) (bytes_of_all entries) caller moment call
 
 abbrev pub entry_of : ℕ → Call → Told → Entry
 entry_of caller call told = record { caller = caller; moment = told.moment; call = call; reply = told.reply }
@@ -29,7 +30,7 @@ pub record Entered (beginning : Beginning) (old new : List Entry) (caller readin
   pub joined : new ≡ old ++ entry_of caller call told ∷ []
   pub moment : told.moment ≡ moment_of beginning old reading
   pub place : told.place ≡ length old
-  pub follows : Follows beginning (reached beginning old) (entry_of caller call told)
+  pub follows : Follows beginning.params (reached beginning old) (entry_of caller call told)
   pub fits : FitsBehind beginning old caller told.moment call
 
 -- the calls for which memory is kept: the end of an open round, and the insertion and the drop of an open fetch
@@ -38,6 +39,26 @@ is_kept state caller (Insert token object stale) = has_fetch state.fetches calle
 is_kept state caller (Drop token) = has_fetch state.fetches caller token
 is_kept state caller End = has_round state.rounds caller
 is_kept state caller call = false
+
+abbrev pub is_lookup : Call → Bool
+is_lookup (Lookup query) = true
+is_lookup call = false
+
+-- the call opens nothing
+abbrev pub is_closing : Call → Bool
+is_closing (Drop token) = true
+is_closing End = true
+is_closing call = false
+
+abbrev pub is_none : List Entry → Bool
+is_none [] = true
+is_none (entry ∷ entries) = false
+
+-- The history is full as a segment: it takes half of its limit or more, rounded down. It ends before a call of a caller
+-- that has no round, unless that closes something.
+abbrev pub is_segment_full : Params → State → List Entry → ℕ → Call → Bool
+is_segment_full params state entries caller call =
+    not (has_round state.rounds caller) && not (is_closing call) && not (is_none entries) && nat_le (params.history / 2) (bytes_of_all entries)
 
 -- the object may answer the lookup at the moment: it is in time, matches the request, and is fresh for it
 pub record Serves (moment : ℕ) (query : Query) (object : Object) : Type 0 where

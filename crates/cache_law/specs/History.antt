@@ -5,9 +5,10 @@ use Rattle.cache_law.specs.declared.call.Call.TheVariants.{Begin, Draw, Lookup, 
 use Rattle.cache_law.specs.declared.call.Reply.{Reply}
 use Rattle.cache_law.specs.declared.call.Reply.TheVariants.{Loaded}
 use Rattle.cache_law.specs.declared.call.Entry.{Entry}
+use Rattle.cache_law.specs.declared.setting.Params.{Params}
 use Rattle.directors.specs.declared.target.Member.{Member}
 use Rattle.cache_law.specs.Object.{texts_len, fields_len, object_len}
-use Rattle.cache_law.specs.State.{State, at_moment, awaits, reserve}
+use Rattle.cache_law.specs.State.{State, at_moment, awaits, count_open, reserve}
 use Rattle.cache_law.specs.Beginning.{Beginning}
 use Rattle.cache_law.specs.Law.{step_of, after, MayAnswer}
 
@@ -46,12 +47,17 @@ abbrev pub is_numbered : Reply → Bool
 is_numbered (Loaded number) = nat_lt number (2 ^ 32)
 is_numbered reply = true
 
+-- the most entries that a run makes, over all its histories
+abbrev pub most_entries : ℕ
+most_entries = 2 ^ 63
+
 -- The call fits a history of this many bytes that reached the state: with its entry, and with what is
--- reserved for the closing of what is open behind the law's reply, the limit isn't passed; and no VCL is loaded under a
--- number that is too great.
-pub record Fits (beginning : Beginning) (state : State) (used caller moment : ℕ) (call : Call) : Type 0 where
-  pub number : is_numbered (step_of beginning state caller moment call).reply ≡ true
-  pub within : used + bytes_of call + reserve (step_of beginning state caller moment call).state ≤ beginning.params.history
+-- reserved for the closing of what is open behind the law's reply, neither the limit nor the number of a run's entries is
+-- passed; and no VCL is loaded under a number that is too great.
+pub record Fits (params : Params) (state : State) (used caller moment : ℕ) (call : Call) : Type 0 where
+  pub number : is_numbered (step_of params state caller moment call).reply ≡ true
+  pub within : used + bytes_of call + reserve (step_of params state caller moment call).state ≤ params.history
+  pub counted : state.entries + 1 + count_open (step_of params state caller moment call).state ≤ most_entries
 
 -- a lookup comes only where its caller waits for nothing
 abbrev pub HasWaited : State → ℕ → Call → Type 0
@@ -59,32 +65,38 @@ HasWaited state caller (Lookup query) = awaits state caller ≡ None
 HasWaited state caller call = Unit {0}
 
 -- the entry may come next: no moment goes back, its caller waits for nothing, and the call may be answered so
-pub record Follows (beginning : Beginning) (state : State) (entry : Entry) : Type 0 where
+pub record Follows (params : Params) (state : State) (entry : Entry) : Type 0 where
   pub no_earlier : state.moment ≤ entry.moment
   pub waited : HasWaited state entry.caller entry.call
-  pub answer : MayAnswer (at_moment entry.moment state) entry.call (step_of beginning state entry.caller entry.moment entry.call).reply entry.reply
+  pub answer : MayAnswer (at_moment entry.moment state) entry.call (step_of params state entry.caller entry.moment entry.call).reply entry.reply
 
-abbrev pub next_state : Beginning → State → Entry → State
-next_state beginning state entry = after beginning state entry.caller entry.moment entry.call entry.reply
+abbrev pub next_state : Params → State → Entry → State
+next_state params state entry = after params state entry.caller entry.moment entry.call entry.reply
 
 -- the state that entries reach from a state
-abbrev pub reached_from : Beginning → State → List Entry → State
-reached_from beginning state [] = state
-reached_from beginning state (entry ∷ entries) = reached_from beginning (next_state beginning state entry) entries
+abbrev pub reached_from : Params → State → List Entry → State
+reached_from params state [] = state
+reached_from params state (entry ∷ entries) = reached_from params (next_state params state entry) entries
 
 -- the state that entries reach from the beginning
 abbrev pub reached : Beginning → List Entry → State
-reached beginning entries = reached_from beginning beginning.base entries
+reached beginning entries = reached_from beginning.params beginning.base entries
 
--- each entry follows those before it and fits
-abbrev pub LegalFrom : Beginning → State → ℕ → List Entry → Type 0
-LegalFrom beginning state used [] = Unit {0}
-LegalFrom beginning state used (entry ∷ entries) =
-    Follows beginning state entry
-    × Fits beginning state used entry.caller entry.moment entry.call
-    × LegalFrom beginning (next_state beginning state entry) (used + bytes_of entry.call) entries
+-- each entry follows those before it
+abbrev pub FollowAll : Params → State → List Entry → Type 0
+FollowAll params state [] = Unit {0}
+FollowAll params state (entry ∷ entries) = Follows params state entry × FollowAll params (next_state params state entry) entries
 
--- what is open at the beginning is within the limit, and so is each entry, which follows those before it
+-- the call of each entry fits behind those before it, where so many bytes are taken before the first
+abbrev pub WithinAll : Params → State → ℕ → List Entry → Type 0
+WithinAll params state used [] = Unit {0}
+WithinAll params state used (entry ∷ entries) =
+    Fits params state used entry.caller entry.moment entry.call × WithinAll params (next_state params state entry) (used + bytes_of entry.call) entries
+
+-- What is open at the beginning can be closed within the limit and the number of a run's entries; each entry follows those
+-- before it, and its call fits.
 pub record Legal (beginning : Beginning) (entries : List Entry) : Type 0 where
   pub opens : reserve beginning.base ≤ beginning.params.history
-  pub each : LegalFrom beginning beginning.base 0 entries
+  pub counts : beginning.base.entries + count_open beginning.base ≤ most_entries
+  pub follow : FollowAll beginning.params beginning.base entries
+  pub within : WithinAll beginning.params beginning.base 0 entries

@@ -2,6 +2,7 @@
 use Rattle.std.specs.Prelude.{◌≡◌, ◌≢◌, ◌⊎◌, ℕ, Bool, true, false, List, ◌∷◌, ◌+◌, ◌==◌, Option, Some, None, if◌then◌else◌}
 use Rattle.std.specs.List.{list_any}
 use Rattle.std.specs.Str.{bytes_eq}
+use Rattle.cache_law.specs.declared.setting.Params.{Params}
 use Rattle.cache_law.specs.declared.object.Object.{Object}
 use Rattle.cache_law.specs.declared.object.Object.TheVariants.{Ordinary, HitForMiss, HitForPass}
 use Rattle.cache_law.specs.declared.object.ObjectView.{ObjectView}
@@ -25,7 +26,6 @@ use Rattle.cache_law.specs.Vcls.{is_taken, called, numbered, with_vcl, without_v
 use Rattle.cache_law.specs.Object.{in_time, size_of}
 use Rattle.cache_law.specs.State.{State, Held, at_moment, has_round, has_fetch, least_token, with_wait, without_fetch, without_fetches_of, without_round_of, is_gone, without_stale}
 use Rattle.cache_law.specs.Room.{has_no_room, stored_over}
-use Rattle.cache_law.specs.Beginning.{Beginning}
 use Rattle.cache_law.specs.Lookup.{Scan, scanned, raised, counted, touched}
 
 -- a reply, and the state behind it
@@ -276,8 +276,8 @@ answered room state caller (Drop token) = dropped state caller token
 answered room state caller End = ended state caller
 
 -- what a call of this caller is answered at this moment, and the state behind that
-abbrev pub step_of : Beginning → State → ℕ → ℕ → Call → Step
-step_of beginning state caller moment call = answered beginning.params.room (at_moment moment state) caller call
+abbrev pub step_of : Params → State → ℕ → ℕ → Call → Step
+step_of params state caller moment call = answered params.room (at_moment moment state) caller call
 
 -- the reply is a list of bans that shows those that objects have still to be tested on
 abbrev pub IsBanList : State → Reply → Type 0
@@ -302,8 +302,8 @@ behind Refused refusal law = refusal
 behind reply refusal law = law
 
 -- the state that a call with this reply leaves, with one more entry
-abbrev pub after : Beginning → State → ℕ → ℕ → Call → Reply → State
-after beginning state caller moment call reply =
-    record (behind reply (refused (at_moment moment state) call) (step_of beginning state caller moment call).state) {
+abbrev pub after : Params → State → ℕ → ℕ → Call → Reply → State
+after params state caller moment call reply =
+    record (behind reply (refused (at_moment moment state) call) (step_of params state caller moment call).state) {
       entries = state.entries + 1;
     }

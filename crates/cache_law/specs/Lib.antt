@@ -11,9 +11,10 @@ pub mod Beginning
 pub mod Lookup
 pub mod Law
 pub mod History
+pub mod RoundVcls
 pub mod Bases
 pub mod Segments
 pub mod Core
 pub mod LookedUp
+pub mod Drawing
 pub mod BanHistories
-pub mod RoundVcls

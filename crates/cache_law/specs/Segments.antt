@@ -1,20 +1,15 @@
 -- A history in segments: each begins where those before it end, or in a state that is alike.
-use Rattle.std.specs.Prelude.{⊤, ◌≡◌, ◌≢◌, List, [], ◌∷◌, ◌++◌}
+use Rattle.std.specs.Prelude.{⊤, ◌≢◌, List, [], ◌∷◌, ◌++◌}
 use Rattle.cache_law.specs.declared.call.Entry.{Entry}
 use Rattle.cache_law.specs.declared.setting.Params.{Params}
 use Rattle.cache_law.specs.State.{State}
 use Rattle.cache_law.specs.Beginning.{Beginning}
 use Rattle.cache_law.specs.History.{Legal, reached}
-use Rattle.cache_law.specs.Bases.{AreAlike}
+use Rattle.cache_law.specs.Bases.{AreAlike, IsClosed}
 
 -- a history that begins in the state
 abbrev pub from : Params → State → Beginning
 from params state = record { params = params; base = state }
-
--- no round and no fetch is open
-pub record IsClosed (state : State) : Type 0 where
-  pub rounds : state.rounds ≡ []
-  pub fetches : state.fetches ≡ []
 
 -- the entries of all segments
 abbrev pub joined : List (List Entry) → List Entry

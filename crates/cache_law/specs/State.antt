@@ -129,6 +129,10 @@ inherited (Some stale) objects = option_map_or (λ held. held.pending) (find (λ
 abbrev pub sizes_of : List Held → ℕ
 sizes_of objects = sum_by (λ held. size_of held.view.object) objects
 
+-- how many rounds and fetches are open
+abbrev pub count_open : State → ℕ
+count_open state = length state.rounds + length state.fetches
+
 -- what is reserved for the closing of what is open: 64 bytes each
 abbrev pub reserve : State → ℕ
-reserve state = 64 * (length state.rounds + length state.fetches)
+reserve state = 64 * count_open state

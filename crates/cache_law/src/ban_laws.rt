@@ -9,9 +9,8 @@ ghost use Rattle.cache_law.specs.declared.ban.Ban.{Ban as BanWords};
 ghost use Rattle.cache_law.specs.declared.call.Query.{Query as Sought};
 ghost use Rattle.cache_law.specs.declared.call.Call.TheVariants.{Ban as BanCall, Lookup};
 ghost use Rattle.cache_law.specs.declared.call.Entry.{Entry as HistoryEntry};
-ghost use Rattle.cache_law.specs.declared.setting.Params.{Params as Limits};
-ghost use Rattle.cache_law.specs.declared.setting.Boot.{Boot as Opening};
-ghost use Rattle.cache_law.specs.Beginning.{beginning_of};
+ghost use Rattle.cache_law.specs.Beginning.{Beginning};
+ghost use Rattle.cache_law.specs.Bases.{IsSound};
 ghost use Rattle.cache_law.specs.History.{Legal, reached};
 ghost use Rattle.cache_law.specs.BanHistories.{WasSpared, WasStored, WasTested, given, has_number, heirs, issued_in};
 ghost use Rattle.cache_law.specs.State.{Held, at_moment};
@@ -56,30 +55,29 @@ pub fn all_bans_are_shown()
     ensures { (bans : List IssuedBan) (objects : List Held) → AwaitIssued bans objects → ShowsBans bans objects (open_lines bans) }
 {}
 
-/// In a run's history all bans that were issued are a list of bans that may be answered, at any moment.
+/// Behind a sound state all bans that were issued are a list of bans that may be answered, at any moment.
 pub fn all_bans_may_be_listed()
-    ensures { (params : Limits) (boot : Opening) (entries : List HistoryEntry) (moment : ℕ)
-        → ShowsBans (reached (beginning_of params boot) entries).bans (at_moment moment (reached (beginning_of params boot) entries)).objects
-        (open_lines (reached (beginning_of params boot) entries).bans) }
+    ensures { (beginning : Beginning) (entries : List HistoryEntry) (moment : ℕ) → IsSound beginning.base
+        → ShowsBans (reached beginning entries).bans (at_moment moment (reached beginning entries)).objects (open_lines (reached beginning entries).bans) }
 {}
 
-/// In a run's legal history an object that is given, as a hit or in grace, was there at each ban on objects alone that was
+/// In a history that is legal from a sound state an object that is given, as a hit or in grace, was there at each ban on objects alone that was
 /// issued behind its insertion, and the ban didn't match it then.
 pub fn given_objects_were_spared()
-    ensures { (params : Limits) (boot : Opening) (before between behind : List HistoryEntry) (ban entry : HistoryEntry) (words : BanWords) (view : View)
-        → Legal (beginning_of params boot) (before ++ ban ∷ (between ++ entry ∷ behind)) → ban.call ≡ BanCall words → object_only words ≡ true
+    ensures { (beginning : Beginning) (before between behind : List HistoryEntry) (ban entry : HistoryEntry) (words : BanWords) (view : View) → IsSound beginning.base
+        → Legal beginning (before ++ ban ∷ (between ++ entry ∷ behind)) → ban.call ≡ BanCall words → object_only words ≡ true
         → WasStored view.number before → given entry.reply ≡ Some view
-        → WasSpared (reached (beginning_of params boot) before) ban words view.number }
+        → WasSpared (reached beginning before) ban words view.number }
 {}
 
-/// In a run's legal history take a ban that isn't on objects alone, and behind it a lookup that is given an object. Where that
+/// In a history that is legal from a sound state take a ban that isn't on objects alone, and behind it a lookup that is given an object. Where that
 /// object, or one whose place it took, was stored before the ban, the ban doesn't match it with the lookup's own request, or
 /// an earlier lookup tested it, or one whose place it took, on the ban, which didn't match then.
 pub fn given_objects_were_tested()
-    ensures { (params : Limits) (boot : Opening) (before between behind : List HistoryEntry) (ban entry : HistoryEntry) (words : BanWords) (query : Sought) (view : View) (number : ℕ)
-        → Legal (beginning_of params boot) (before ++ ban ∷ (between ++ entry ∷ behind)) → ban.call ≡ BanCall words → object_only words ≡ false
+    ensures { (beginning : Beginning) (before between behind : List HistoryEntry) (ban entry : HistoryEntry) (words : BanWords) (query : Sought) (view : View) (number : ℕ) → IsSound beginning.base
+        → Legal beginning (before ++ ban ∷ (between ++ entry ∷ behind)) → ban.call ≡ BanCall words → object_only words ≡ false
         → WasStored number before → has_number (heirs (number ∷ []) between) view.number ≡ true
         → entry.call ≡ Lookup query → given entry.reply ≡ Some view
-        → (meets view.object query.request (issued_in (reached (beginning_of params boot) before) ban words) ≡ false)
-        ⊎ WasTested (beginning_of params boot) (reached (beginning_of params boot) (before ++ ban ∷ [])) (number ∷ []) (issued_in (reached (beginning_of params boot) before) ban words) between }
+        → (meets view.object query.request (issued_in (reached beginning before) ban words) ≡ false)
+        ⊎ WasTested beginning.params (reached beginning (before ++ ban ∷ [])) (number ∷ []) (issued_in (reached beginning before) ban words) between }
 {}

@@ -2,17 +2,31 @@
 ghost use Rattle.std.specs.Prelude.{◌++◌, ◌∷◌, List, []};
 ghost use Rattle.cache_law.specs.declared.call.Entry.{Entry as HistoryEntry};
 ghost use Rattle.cache_law.specs.declared.setting.Params.{Params as Limits};
+ghost use Rattle.cache_law.specs.declared.setting.Boot.{Boot as Opening};
+ghost use Rattle.cache_law.specs.Beginning.{base_of};
 ghost use Rattle.cache_law.specs.State.{State};
-ghost use Rattle.cache_law.specs.History.{Legal, reached};
-ghost use Rattle.cache_law.specs.Bases.{AreAlike};
-ghost use Rattle.cache_law.specs.Segments.{GoesOn, IsClosed, from};
+ghost use Rattle.cache_law.specs.History.{FollowAll, Legal, reached, reached_from};
+ghost use Rattle.cache_law.specs.Bases.{AreAlike, IsBase, IsClosed, IsSound};
+ghost use Rattle.cache_law.specs.Segments.{GoesOn, from};
+
+/// A run's first state is a base, so it is sound; and a sound state stays sound, whatever entries come.
+pub fn states_stay_sound()
+    ensures first { (boot : Opening) → IsBase (base_of boot) }
+    ensures more { (params : Limits) (state : State) (entries : List HistoryEntry) → IsSound state → IsSound (reached_from params state entries) }
+{}
 
 /// What is legal from a state is legal from one that is alike, in which more bans may wait, and both reach states that are alike
 /// again.
 pub fn alike_is_legal()
     ensures legal { (params : Limits) (less more : State) (entries : List HistoryEntry) → AreAlike less more → Legal (from params less) entries → Legal (from params more) entries }
-    ensures reached { (params : Limits) (less more : State) (entries : List HistoryEntry) → AreAlike less more → Legal (from params less) entries
-        → AreAlike (reached (from params less) entries) (reached (from params more) entries) }
+    ensures reached { (params : Limits) (less more : State) (entries : List HistoryEntry) → AreAlike less more → FollowAll params less entries
+        → AreAlike (reached_from params less entries) (reached_from params more entries) }
+{}
+
+/// From a base that is alike to what a legal history reaches, the empty history is legal.
+pub fn reopened_is_legal()
+    ensures { (params : Limits) (base next : State) (entries : List HistoryEntry) → Legal (from params base) entries → IsBase next
+        → AreAlike next (reached (from params base) entries) → Legal (from params next) [] }
 {}
 
 /// No segment goes on from the first state; and where segments go on from a base, and a legal history from it leaves nothing open,

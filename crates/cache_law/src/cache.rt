@@ -1,8 +1,9 @@
 // A cache as the layers above know it.
-ghost use Rattle.std.specs.Prelude.{◌≡◌, [], List, IfOk, OnErr, true, IsErrOf};
+ghost use Rattle.std.specs.Prelude.{◌≡◌, [], List, IfErr, IfOk, OnErr, true, IsErrOf};
 ghost use Rattle.cache_law.specs.declared.call.Entry.{Entry as HistoryEntry};
 ghost use Rattle.cache_law.specs.Beginning.{Beginning, beginning_of};
-ghost use Rattle.cache_law.specs.Core.{Entered, FitsBehind, moment_of, is_kept};
+ghost use Rattle.cache_law.specs.Core.{Entered, FitsBehind, moment_of, is_kept, is_segment_full};
+ghost use Rattle.cache_law.specs.Bases.{AreAlike, IsBase, IsClosed};
 ghost use Rattle.cache_law.specs.History.{HasWaited, Legal, bytes_of_all, reached};
 ghost use Rattle.cache_law.specs.State.{awaits, is_closed};
 
@@ -24,6 +25,12 @@ pub enum StepError {
     /// The call doesn't fit the history's limit.
     HistoryFull,
     NoMemory,
+}
+
+/// A cache that couldn't be reopened for want of memory, with its history as it was.
+#[derive(Drop)]
+pub struct Kept<C> {
+    pub core: C,
 }
 
 /// A cache: it answers calls one after another and keeps the history of them.
@@ -70,6 +77,23 @@ pub trait CacheCore: Sized {
     /// takes no memory.
     fn awaits(&self, caller: u32) -> Option<u64>
         ensures { result ≡ awaits (reached (beginning self.now) (history self.now)) caller };
+
+    /// Whether the history takes half of its limit or more, and the call of the caller would open something new. Where
+    /// histories are kept in segments, a segment ends before such a call. It takes no memory.
+    fn is_segment_full(&self, caller: u32, call: &Call) -> bool
+        ensures { result ≡ is_segment_full (beginning self.now).params (reached (beginning self.now) (history self.now)) (history self.now) caller call.now };
+
+    /// Gives the history, and the cache with an empty one, which begins in a base that is alike to the state that was
+    /// reached. It is called where no round and no fetch is open.
+    fn reopen(self, alloc: Global) -> Result<(Sequence<Entry>, Self), Kept<Self>>
+        requires closed { IsClosed (reached (beginning self) (history self)) }
+        ensures history { IfOk result (λ reopened. reopened.0 ≡ history self) }
+        ensures empty { IfOk result (λ reopened. history reopened.1 ≡ []) }
+        ensures params { IfOk result (λ reopened. (beginning reopened.1).params ≡ (beginning self).params) }
+        ensures base { IfOk result (λ reopened. IsBase (beginning reopened.1).base) }
+        ensures alike { IfOk result (λ reopened. AreAlike (beginning reopened.1).base (reached (beginning self) (history self))) }
+        ensures err { IfErr result (λ kept. history kept.core ≡ history self) }
+        ensures same { IfErr result (λ kept. beginning kept.core ≡ beginning self) };
 
     /// The history.
     fn into_history(self) -> Sequence<Entry>

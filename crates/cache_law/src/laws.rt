@@ -1,18 +1,18 @@
 // Laws of histories, as contracts of functions that do nothing.
-ghost use Rattle.std.specs.Prelude.{◌≡◌, ◌≤◌, ◌<◌, ◌++◌, ◌∷◌, ℕ, List, true};
+ghost use Rattle.std.specs.Prelude.{◌≡◌, ◌≤◌, ◌<◌, ◌++◌, ◌∷◌, ℕ, List, Some, true};
 ghost use Rattle.cache_law.specs.declared.call.Entry.{Entry as HistoryEntry};
 ghost use Rattle.cache_law.specs.declared.call.Query.{Query as Sought};
 ghost use Rattle.cache_law.specs.declared.object.ObjectView.{ObjectView as View};
-ghost use Rattle.cache_law.specs.declared.setting.Params.{Params as Limits};
-ghost use Rattle.cache_law.specs.declared.setting.Boot.{Boot as Opening};
 ghost use Rattle.cache_law.specs.declared.call.Call.TheVariants.{Drop as DropCall, End, Lookup};
-ghost use Rattle.cache_law.specs.declared.call.Reply.TheVariants.{Hit};
-ghost use Rattle.cache_law.specs.Beginning.{Beginning, beginning_of};
+ghost use Rattle.cache_law.specs.declared.call.Reply.TheVariants.{Hit, Wait};
+ghost use Rattle.cache_law.specs.Beginning.{Beginning};
 ghost use Rattle.cache_law.specs.State.{Held, has_fetch, has_round, is_closed, is_open};
 ghost use Rattle.cache_law.specs.History.{Legal, reached};
 ghost use Rattle.cache_law.specs.Core.{FitsBehind, Serves};
+ghost use Rattle.cache_law.specs.Drawing.{drawn_in};
 ghost use Rattle.cache_law.specs.LookedUp.{IsLookedUp, says_found};
 ghost use Rattle.cache_law.specs.BanHistories.{IsAmong};
+ghost use Rattle.cache_law.specs.Bases.{IsSound};
 
 /// Behind a legal history the end of an open round fits, at any moment: it uses what is reserved.
 pub fn closing_fits()
@@ -34,11 +34,10 @@ pub fn numbers_rise()
         (reached beginning entries).next ≤ (reached beginning (entries ++ more)).next }
 {}
 
-/// In a run's history each open fetch has a number that was drawn.
+/// Behind a sound state each open fetch has a number that was drawn.
 pub fn open_numbers_are_drawn()
-    ensures { (params : Limits) (boot : Opening) (entries : List HistoryEntry) (token : ℕ) →
-        is_open (reached (beginning_of params boot) entries).fetches token ≡ true →
-        token < (reached (beginning_of params boot) entries).next }
+    ensures { (beginning : Beginning) (entries : List HistoryEntry) (token : ℕ) → IsSound beginning.base →
+        is_open (reached beginning entries).fetches token ≡ true → token < (reached beginning entries).next }
 {}
 
 /// A number that was drawn and whose fetch is closed is never open again: a token is closed once.
@@ -48,10 +47,10 @@ pub fn closed_once()
         is_closed (reached beginning (entries ++ more)).fetches token ≡ true }
 {}
 
-/// In a run's history no two objects have one number.
+/// Behind a sound state no two objects have one number.
 pub fn objects_have_own_numbers()
-    ensures { (params : Limits) (boot : Opening) (entries : List HistoryEntry) (one other : Held) →
-        IsAmong one (reached (beginning_of params boot) entries).objects → IsAmong other (reached (beginning_of params boot) entries).objects →
+    ensures { (beginning : Beginning) (entries : List HistoryEntry) (one other : Held) → IsSound beginning.base →
+        IsAmong one (reached beginning entries).objects → IsAmong other (reached beginning entries).objects →
         one.view.number ≡ other.view.number → one ≡ other }
 {}
 
@@ -68,4 +67,16 @@ pub fn hits_are_fresh()
 pub fn answers_are_looked_up()
     ensures { (beginning : Beginning) (before behind : List HistoryEntry) (entry : HistoryEntry) →
         Legal beginning (before ++ entry ∷ behind) → says_found entry.reply ≡ true → IsLookedUp (reached beginning before) entry }
+{}
+
+/// In a legal history a number that is drawn later is greater: none is drawn twice.
+pub fn numbers_are_drawn_once()
+    ensures { (beginning : Beginning) (before between behind : List HistoryEntry) (first second : HistoryEntry) (number other : ℕ) →
+        Legal beginning (before ++ first ∷ (between ++ second ∷ behind)) → drawn_in first.reply ≡ Some number → drawn_in second.reply ≡ Some other → number < other }
+{}
+
+/// In a legal history a lookup is told to wait for a fetch that is open where it stands.
+pub fn waits_are_for_open_fetches()
+    ensures { (beginning : Beginning) (before behind : List HistoryEntry) (entry : HistoryEntry) (token : ℕ) →
+        Legal beginning (before ++ entry ∷ behind) → entry.reply ≡ Wait token → is_open (reached beginning before).fetches token ≡ true }
 {}

@@ -29,17 +29,18 @@ pub use ban_laws::{
     equal_bans_match_alike, given_objects_were_spared, given_objects_were_tested,
     no_request_matters, only_issued_bans_wait,
 };
-pub use base_laws::{alike_is_legal, segments_go_on};
+pub use base_laws::{alike_is_legal, reopened_is_legal, segments_go_on, states_stay_sound};
 pub use bytes::{entry_bytes, object_size};
-pub use cache::{CacheCore, StepError, Told};
+pub use cache::{CacheCore, Kept, StepError, Told};
 pub use call::{Call, Entry, Options, Query, Reply, RequestView};
 pub use laws::{
-    answers_are_looked_up, closed_once, closing_fits, dropping_fits, hits_are_fresh, numbers_rise,
-    objects_have_own_numbers, open_numbers_are_drawn,
+    answers_are_looked_up, closed_once, closing_fits, dropping_fits, hits_are_fresh,
+    numbers_are_drawn_once, numbers_rise, objects_have_own_numbers, open_numbers_are_drawn,
+    waits_are_for_open_fetches,
 };
 pub use matching::{can_confirm, is_chosen_by, is_fresh_for, is_in_grace_for, matches};
 pub use object::{Content, Marker, Object, ObjectView, Response, VaryItem, is_in_time};
-pub use room_laws::{objects_are_used_apart, room_is_made};
+pub use room_laws::{objects_are_used_apart, room_is_made, sizes_stay_within};
 pub use setting::{Boot, Params};
 pub use state::{OpenFetch, OpenRound};
 pub use vcl::{Counter, ForcedHealth, Health, LoadedVcl, Vcl, VclLine, VclSource, VclState};

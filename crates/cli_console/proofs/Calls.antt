@@ -12,7 +12,7 @@ use Rattle.cache_law.specs.declared.vcl.Health.{Health}
 use Rattle.cache_law.specs.declared.vcl.LoadedVcl.{LoadedVcl}
 use Rattle.vmod_host.specs.declared.signature.Stored.{Stored}
 use Rattle.cli_console.specs.declared.message.Message.{Message}
-use Rattle.cache_law.specs.Beginning.{Beginning}
+use Rattle.cache_law.specs.declared.setting.Params.{Params}
 use Rattle.cache_law.specs.Law.{Step, answered, step_of, MayAnswer, IsBanList, switched_to, discarded_of}
 use Rattle.cache_law.specs.State.{State, at_moment}
 use Rattle.cache_law.specs.Vcls.{is_taken, called}
@@ -107,5 +107,5 @@ command_console stored line c h = words_console stored h.1.0 h.0 c h.1.2 h.2
 pub load_console : (stored : List Stored) (name text : List ℕ) (c : Call) → IsLoadOf stored name text c → is_console c ≡ true
 load_console stored name text c h = let e : c ≡ call.Load h.0 = h.2 in ap is_console e
 
-pub call_answered : (beginning : Beginning) (state : State) (caller moment : ℕ) (c : Call) (r : Reply) → is_console c ≡ true → MayAnswer (at_moment moment state) c (step_of beginning state caller moment c).reply r → IsSome (message_to (name_in c) r)
-call_answered beginning state caller moment c r h k = law_answered beginning.params.room (at_moment moment state) caller c h r k
+pub call_answered : (params : Params) (state : State) (caller moment : ℕ) (c : Call) (r : Reply) → is_console c ≡ true → MayAnswer (at_moment moment state) c (step_of params state caller moment c).reply r → IsSome (message_to (name_in c) r)
+call_answered params state caller moment c r h k = law_answered params.room (at_moment moment state) caller c h r k

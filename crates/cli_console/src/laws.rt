@@ -2,7 +2,7 @@
 ghost use Rattle.std.specs.Prelude.{◌≡◌, true, ℕ, List, IsSome};
 ghost use Rattle.cache_law.specs.declared.call.Call.{Call as CacheCall};
 ghost use Rattle.cache_law.specs.declared.call.Reply.{Reply as CacheReply};
-ghost use Rattle.cache_law.specs.Beginning.{Beginning};
+ghost use Rattle.cache_law.specs.declared.setting.Params.{Params as Limits};
 ghost use Rattle.cache_law.specs.Law.{step_of, MayAnswer};
 ghost use Rattle.cache_law.specs.State.{State, at_moment};
 ghost use Rattle.vmod_host.specs.declared.signature.Stored.{Stored as StoredFunction};
@@ -18,8 +18,8 @@ ghost use Rattle.cli_console.specs.Orders.{IsOrderOf, IsWrongLine};
 pub fn console_calls_are_answered()
     ensures commands { (stored : List StoredFunction) (line : List ℕ) (call : CacheCall) → IsCommand stored line (Cache call) → is_console call ≡ true }
     ensures loads { (stored : List StoredFunction) (name text : List ℕ) (call : CacheCall) → IsLoadOf stored name text call → is_console call ≡ true }
-    ensures replies { (beginning : Beginning) (state : State) (caller moment : ℕ) (call : CacheCall) (reply : CacheReply) → is_console call ≡ true
-        → MayAnswer (at_moment moment state) call (step_of beginning state caller moment call).reply reply
+    ensures replies { (params : Limits) (state : State) (caller moment : ℕ) (call : CacheCall) (reply : CacheReply) → is_console call ≡ true
+        → MayAnswer (at_moment moment state) call (step_of params state caller moment call).reply reply
         → IsSome (message_to (name_in call) reply) }
 {}
 

@@ -10,10 +10,24 @@ use message_reader::{Intake, Stop, fill, read_body, read_head};
 use seen_request::is_of_one_site;
 use std::alloc::Global;
 use units::Text;
-use wire::Link;
+use wire::{Link, Readiness};
 
 /// The most bytes of a request's body.
 const MAX_BODY: u64 = 1_048_576;
+
+// Asks again and again until a read answers at once.
+fn await_more<L: Link>(link: &mut L)
+    ensures flow { L.flow link.new ≡ L.flow link.old }
+    ensures reads { L.read_faults link.new ≡ L.read_faults link.old }
+    ensures writes { L.write_faults link.new ≡ L.write_faults link.old }
+    ensures peer { L.peer link.new ≡ L.peer link.old }
+{
+    for turn in 0..u64::MAX {
+        if link.wait() == Readiness::Ready {
+            return;
+        }
+    }
+}
 
 // Whether a byte is held or comes.
 fn has_more<L: Link>(link: &mut L, held: &mut Intake, room: &mut [u8]) -> Result<bool, Stop>
@@ -27,6 +41,7 @@ fn has_more<L: Link>(link: &mut L, held: &mut Intake, room: &mut [u8]) -> Result
     if !held.bytes().is_empty() {
         return Ok(true);
     }
+    await_more(link);
     let count = fill(link, held, room)?;
     Ok(count > 0)
 }
@@ -43,7 +58,8 @@ fn frame_request(head: &RequestHead) -> Result<Framing, Stop>
 
 /// Reads the next request, whose body has at most 1,048,576 bytes. What stands behind it is held. None is the end of the
 /// input between requests. `Early`, `BadHead`, `BadBody` and `TooLarge` say that no request stands there: the input ends
-/// inside it; its head is refused, has two Host fields or an absolute target without an authority; its fields frame no body, or the body breaks; it is too large.
+/// inside it; its head is refused, has two Host fields or an absolute target without an authority; its fields frame no body,
+/// or the body breaks; it is too large.
 pub fn read_request<L: Link>(
     alloc: Global,
     link: &mut L,

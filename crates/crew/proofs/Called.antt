@@ -65,6 +65,7 @@ module _ {K L T : Type 0} (places_of : T → List ℕ) (Tells Tells' : ℕ → K
       opening = all.1.opening;
       address = all.1.address;
       is_new = all.1.is_new;
+      closed = all.1.closed;
       tells = wider number before.kit all.0.kit all.1.opening (told l) t all.1.tells;
       between = all.1.between;
       seen = all.1.seen;
@@ -104,6 +105,7 @@ module _ {H K L T : Type 0} (Serves : H → H → LinkTold → LinkTold → T �
           opening = all.1.opening;
           address = all.1.address;
           is_new = all.1.is_new;
+          closed = all.1.closed;
           tells = subst (λ (h : List Entry). Tells h (knows old).number (kit_of old) (kit_of all.0) all.1.opening (told l) t)
               (sym (called_seen (knows all.0) (knows new) (all_places places_of ts) rest))
               (longer (knows all.0).seen rest.between (knows old).number (kit_of old) (kit_of all.0) all.1.opening (told l) t

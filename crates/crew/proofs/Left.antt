@@ -1,5 +1,5 @@
 -- Workers who have left: what they leave may be joined, and what a run of them comes to.
-use Rattle.std.proofs.Common.{◌≡◌, ℕ, List, [], ◌∷◌, ◌++◌, Option, Some, map, sum_by, length, refl, sym, ap, ◌∙◌, subst, arith}
+use Rattle.std.proofs.Common.{◌≡◌, ℕ, false, List, [], ◌∷◌, ◌++◌, Option, Some, map, sum_by, length, refl, sym, ap, ◌∙◌, subst, arith}
 use Rattle.std.specs.Prelude.{All, IsSome}
 use Rattle.std.specs.List.{flat_map}
 use Rattle.std.proofs.lemmas.List.Elements.{All-nil, All-cons}
@@ -20,7 +20,7 @@ use Rattle.workers.specs.Working.{IsCounted}
 use Rattle.workers.specs.declared.worker.Worker.{Worker}
 use Rattle.crew.specs.Hiring.{AllFronts, ended_of}
 use Rattle.crew.specs.Leaving.{AllLeft, HaveLeft}
-use Rattle.crew.specs.Parts.{Part, all_places}
+use Rattle.crew.specs.Parts.{Part, Stand, AllTold, all_places}
 use Rattle.crew.specs.Places.{EachOnce}
 use Rattle.crew.specs.Running.{Held, Ran}
 use Rattle.crew.proofs.Counting.{places_among}
@@ -34,6 +34,14 @@ same_some o x y a b = cc
 is_some : {X : Type 0} (o : Option X) (x : X) → o ≡ Some x → IsSome o
 is_some {X = X} o x has = subst (λ (p : Option X). IsSome p) (sym has) refl
 
+module _ {K L T : Type 0} (places_of : T → List ℕ) (Tells : ℕ → K → K → LinkTold → LinkTold → T → Type 0) (told : L → LinkTold) where
+  closed_told : (number : ℕ) (before after : Stand K) (links : List L) (transcripts : List T) → AllTold places_of Tells told number before after links transcripts
+      → All (λ (l : L). (told l).is_open ≡ false) links
+  closed_told number before after [] [] all = All-nil (λ (l : L). (told l).is_open ≡ false)
+  closed_told number before after [] (t ∷ ts) never = absurd never
+  closed_told number before after (l ∷ ls) [] never = absurd never
+  closed_told number before after (l ∷ ls) (t ∷ ts) all = All-cons (λ (m : L). (told m).is_open ≡ false) l ls all.1.closed (closed_told number all.0 after ls ts all.2)
+
 module _ {H L T A B D K : Type 0} (IsPass : Pass Entry Beginning → Type 0) (Unused : Kit D K → Type 0) (pass_of : H → Pass Entry Beginning) (kit_of : H → Kit D K)
     (setting : Option Beginning) (places_of : T → List ℕ) (Tells : List Entry → ℕ → Kit D K → Kit D K → LinkTold → LinkTold → T → Type 0) (told : L → LinkTold) where
   counted_each : (ns : List ℕ) (ws : List (Worker H L T A B)) → AllLeft IsPass Unused pass_of kit_of setting places_of Tells told ns ws → All IsCounted ws
@@ -42,6 +50,17 @@ module _ {H L T A B D K : Type 0} (IsPass : Pass Entry Beginning → Type 0) (Un
   counted_each (n ∷ ns) [] left = absurd left
   counted_each (n ∷ ns) (w ∷ ws) left =
       All-cons IsCounted w ws (record { shift = is_some w.shift left.0.shift left.0.has; count = left.0.counted }) (counted_each ns ws left.1)
+
+  closed_each : (ns : List ℕ) (ws : List (Worker H L T A B)) → AllLeft IsPass Unused pass_of kit_of setting places_of Tells told ns ws
+      → All (λ (w : Worker H L T A B). All (λ (l : L). (told l).is_open ≡ false) w.links.items) ws
+  closed_each [] [] left = All-nil (λ (w : Worker H L T A B). All (λ (l : L). (told l).is_open ≡ false) w.links.items)
+  closed_each [] (w ∷ ws) left = absurd left
+  closed_each (n ∷ ns) [] left = absurd left
+  closed_each (n ∷ ns) (w ∷ ws) left =
+      All-cons (λ (v : Worker H L T A B). All (λ (l : L). (told l).is_open ≡ false) v.links.items) w ws
+      (closed_told places_of (Tells (known (pass_of left.0.shift)).seen) told n (record { kit = left.0.first; seen = [] })
+      (record { kit = kit_of left.0.shift; seen = (known (pass_of left.0.shift)).seen }) w.links.items w.transcripts.items left.0.is_told)
+      (closed_each ns ws left.1)
 
   parts_each : (ns : List ℕ) (ws : List (Worker H L T A B)) → AllLeft IsPass Unused pass_of kit_of setting places_of Tells told ns ws
       → sum_by (λ (w : Worker H L T A B). w.accepted.parts) ws ≡ length ws
@@ -84,6 +103,11 @@ module _ {H L T A B D K : Type 0} (IsPass : Pass Entry Beginning → Type 0) (Un
   -- what each leaves is counted
   pub all_counted : (k : CallerKnows) (ws : List (Worker H L T A B)) → HaveLeft IsPass Unused pass_of kit_of places_of Tells told k ws → All IsCounted ws
   all_counted k ws left = counted_each IsPass Unused pass_of kit_of (Some left.beginning) places_of (Tells left.beginning) told left.numbers ws left.left
+
+  -- each of their connections was ended
+  pub all_closed : (k : CallerKnows) (ws : List (Worker H L T A B)) → HaveLeft IsPass Unused pass_of kit_of places_of Tells told k ws
+      → All (λ (w : Worker H L T A B). All (λ (l : L). (told l).is_open ≡ false) w.links.items) ws
+  all_closed k ws left = closed_each IsPass Unused pass_of kit_of (Some left.beginning) places_of (Tells left.beginning) told left.numbers ws left.left
 
   -- each has one part of the first book
   pub parts_joined : (k : CallerKnows) (ws : List (Worker H L T A B)) → HaveLeft IsPass Unused pass_of kit_of places_of Tells told k ws

@@ -1,5 +1,5 @@
 -- What workers over one cache have done, as a run tells it.
-use Rattle.std.specs.Prelude.{◌≡◌, ℕ, List, [], ◌∷◌, ◌++◌, length}
+use Rattle.std.specs.Prelude.{◌≡◌, ℕ, false, List, [], ◌∷◌, ◌++◌, length}
 use Rattle.std.specs.List.{flat_map}
 use Rattle.cache_law.specs.declared.call.Entry.{Entry}
 use Rattle.turnstile.specs.Knowledge.{places, places_from}
@@ -24,13 +24,14 @@ pub record Part (K L T : Type 0) : Type 0 where
 -- Below, the calls that were made for a connection have these places; this is told of a connection that was served for a caller of this
 -- number, from one kit to another; and a link is told so.
 module _ {K L T : Type 0} (places_of : T → List ℕ) (Tells : ℕ → K → K → LinkTold → LinkTold → T → Type 0) (told : L → LinkTold) where
-  -- A connection was accepted, and served to its end. Each entry of its calls stands behind all that the worker had seen before, and they
+  -- A connection was accepted, served, and ended. Each entry of its calls stands behind all that the worker had seen before, and they
   -- are all entries of this number in what it has seen since.
   pub record OneTold (number : ℕ) (before after : Stand K) (link : L) (transcript : T) : Type 0 where
     pub opening : LinkTold
     pub address : List ℕ
     pub is_new : IsNew opening address
     pub tells : Tells number before.kit after.kit opening (told link) transcript
+    pub closed : (told link).is_open ≡ false
     pub between : List Entry
     pub seen : after.seen ≡ before.seen ++ between
     pub places : places_of transcript ≡ places_from caller_of number (length before.seen) between

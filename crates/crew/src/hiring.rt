@@ -53,6 +53,7 @@ fn hire_one<
     ensures same { OnErr result ((known root.new ≡ known root.old) × (accepted.new.parts ≡ accepted.old.parts) × (left.new.parts ≡ left.old.parts) × (workers.new.items ≡ workers.old.items) × (vec_len workers.new ≡ vec_len workers.old)) }
     ensures links { W.links world.new ≡ W.links world.old }
     ensures kept { W.kept world.new ≡ W.kept world.old }
+    ensures given { W.given world.new ≡ W.given world.old }
     ensures ports { W.ports world.new ≡ W.ports world.old }
     ensures kits { W.kits world.new ≡ W.kits world.old }
     ensures files { W.files world.new ≡ W.files world.old }
@@ -110,6 +111,7 @@ pub(crate) fn hire<
     ensures few { vec_len workers.new ≤ count }
     ensures links { W.links world.new ≡ W.links world.old }
     ensures kept { W.kept world.new ≡ W.kept world.old }
+    ensures given { W.given world.new ≡ W.given world.old }
     ensures ports { W.ports world.new ≡ W.ports world.old }
     ensures kits { W.kits world.new ≡ W.kits world.old }
     ensures files { W.files world.new ≡ W.files world.old }

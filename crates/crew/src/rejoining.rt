@@ -31,6 +31,7 @@ pub(crate) fn rejoin<W: World, C: CacheCore, H: Host<C, W::Dialer, W::Clock, Lin
     ensures kits { Adds (W.kits world.old) (W.kits world.new) (map H.kit_of shifts.items) }
     ensures links { W.links world.new ≡ W.links world.old }
     ensures kept { W.kept world.new ≡ W.kept world.old }
+    ensures given { W.given world.new ≡ W.given world.old }
     ensures ports { W.ports world.new ≡ W.ports world.old }
     ensures files { W.files world.new ≡ W.files world.old }
     ensures listens { W.listen_faults world.new ≡ W.listen_faults world.old }

@@ -7,6 +7,7 @@ ghost use Rattle.turnstile.specs.Handles.{known};
 ghost use Rattle.turnstile.specs.Knowledge.{Meets, opened};
 ghost use Rattle.shared_cache.specs.Passes.{IsPassOf};
 ghost use Rattle.shared_cache.specs.Sharing.{caller_of};
+ghost use Rattle.wire.specs.Calls.{joined_count};
 ghost use Rattle.entrance.specs.Arriving.{told_by};
 ghost use Rattle.crew.specs.Opening.{CanBegin, IsFirst};
 ghost use Rattle.crew.specs.Hiring.{IsUnused};
@@ -70,7 +71,7 @@ where
     requires room { count ≤ vec_capacity workers.old }
     ensures pass { IsPassOf cache.now root.new }
     ensures have_worked { HaveWorked (IsPassOf cache.now) (IsUnused W.Dialer.talks W.Dialer.dial_faults W.Dialer.read_faults W.Dialer.write_faults W.Clock.readings W.Clock.words)
-        H.pass_of H.kit_of (H.Ready host.now cache.now) (H.Serves host.now cache.now) (told_by W.Listener.Link.flow W.Listener.Link.read_faults W.Listener.Link.write_faults W.Listener.Link.peer) (known root.new) workers.new.items }
+        H.pass_of H.kit_of (H.Ready host.now cache.now) (H.Serves host.now cache.now) (told_by W.Listener.Link.flow W.Listener.Link.read_faults W.Listener.Link.write_faults W.Listener.Link.peer W.Listener.Link.is_open) (known root.new) workers.new.items }
     ensures setting { (known root.new).setting ≡ (known root.old).setting }
     ensures parts { accepted.new.parts + vec_len workers.new ≡ accepted.old.parts }
     ensures nothing { accepted.new.amount ≡ 0 }
@@ -78,6 +79,7 @@ where
     ensures count { length workers.new.items ≡ vec_len workers.new }
     ensures links { W.links world.new ≡ W.links world.old }
     ensures kept { W.kept world.new ≡ W.kept world.old }
+    ensures given { W.given world.new ≡ W.given world.old }
     ensures ports { W.ports world.new ≡ W.ports world.old }
     ensures kits { W.kits world.new ≡ W.kits world.old }
     ensures files { W.files world.new ≡ W.files world.old }
@@ -109,7 +111,7 @@ fn take_down<
 ) -> (Vec<H::Transcript>, Reason)
     requires pass { IsPassOf cache.now root.old }
     requires have_worked { HaveWorked (IsPassOf cache.now) (IsUnused W.Dialer.talks W.Dialer.dial_faults W.Dialer.read_faults W.Dialer.write_faults W.Clock.readings W.Clock.words)
-        H.pass_of H.kit_of (H.Ready host.now cache.now) (H.Serves host.now cache.now) (told_by W.Listener.Link.flow W.Listener.Link.read_faults W.Listener.Link.write_faults W.Listener.Link.peer) (known root.old) workers.items }
+        H.pass_of H.kit_of (H.Ready host.now cache.now) (H.Serves host.now cache.now) (told_by W.Listener.Link.flow W.Listener.Link.read_faults W.Listener.Link.write_faults W.Listener.Link.peer W.Listener.Link.is_open) (known root.old) workers.items }
     requires none { (joined.shifts.items ≡ []) × (joined.transcripts.items ≡ []) }
     requires empty { (vec_len joined.shifts ≡ 0) × (vec_len joined.transcripts ≡ 0) × (joined.accepted.amount ≡ 0) }
     requires parts { joined.accepted.parts + vec_len workers ≡ A.parts }
@@ -119,10 +121,11 @@ fn take_down<
     ensures setting { (known root.new).setting ≡ (known root.old).setting }
     ensures ran { (beginning : Beginning) (history : List HistoryEntry) → (known root.new).setting ≡ Some beginning → Meets caller_of (known root.new) history → Legal beginning history
         → Ran (IsUnused W.Dialer.talks W.Dialer.dial_faults W.Dialer.read_faults W.Dialer.write_faults W.Clock.readings W.Clock.words)
-        H.places (H.Tells host.now) (told_by W.Listener.Link.flow W.Listener.Link.read_faults W.Listener.Link.write_faults W.Listener.Link.peer) beginning
+        H.places (H.Tells host.now) (told_by W.Listener.Link.flow W.Listener.Link.read_faults W.Listener.Link.write_faults W.Listener.Link.peer W.Listener.Link.is_open) beginning
         history (record { links = W.links world.old; kept = W.kept world.old; kits = W.kits world.old })
         (record { links = W.links world.new; kept = W.kept world.new; kits = W.kits world.new }) result.0.items }
     ensures within { vec_len result.0 ≤ A.most }
+    ensures given { W.given world.new ≡ joined_count (W.given world.old) (vec_len result.0) }
     ensures stopped { Stopped result.1 A.most (vec_len result.0) (W.ended world.new) (W.listen_faults world.old) (W.listen_faults world.new) }
     ensures ports { W.ports world.new ≡ W.ports world.old }
     ensures files { W.files world.new ≡ W.files world.old }
@@ -204,10 +207,11 @@ where
     requires lengths { (vec_len room.workers ≡ 0) × (vec_len room.shifts ≡ 0) × (vec_len room.transcripts ≡ 0) }
     requires room { (count ≤ vec_capacity room.workers) × (count ≤ vec_capacity room.shifts) × (A.most ≤ vec_capacity room.transcripts) }
     ensures ran { (beginning : Beginning) → (known root).setting ≡ Some beginning → Ran (IsUnused W.Dialer.talks W.Dialer.dial_faults W.Dialer.read_faults W.Dialer.write_faults W.Clock.readings W.Clock.words)
-        H.places (H.Tells host.now) (told_by W.Listener.Link.flow W.Listener.Link.read_faults W.Listener.Link.write_faults W.Listener.Link.peer) beginning
+        H.places (H.Tells host.now) (told_by W.Listener.Link.flow W.Listener.Link.read_faults W.Listener.Link.write_faults W.Listener.Link.peer W.Listener.Link.is_open) beginning
         result.history (record { links = W.links world.old; kept = W.kept world.old; kits = W.kits world.old })
         (record { links = W.links world.new; kept = W.kept world.new; kits = W.kits world.new }) result.transcripts.items }
     ensures within { vec_len result.transcripts ≤ A.most }
+    ensures given { W.given world.new ≡ joined_count (W.given world.old) (vec_len result.transcripts) }
     ensures stopped { Stopped result.reason A.most (vec_len result.transcripts) (W.ended world.new) (W.listen_faults world.old) (W.listen_faults world.new) }
     ensures ports { W.ports world.new ≡ W.ports world.old }
     ensures files { W.files world.new ≡ W.files world.old }
@@ -247,16 +251,26 @@ where
     }
 }
 
-// Nobody is accepted: the world has its listener back.
-fn turn_away<W: World, A: Quota, B: Ledger>(world: &mut W, door: Door<W::Listener, A, B>)
+// Nobody was accepted, as the share of all tells: the world has its listener back.
+fn turn_away<W: World, A: Quota, B: Ledger>(
+    world: &mut W,
+    door: Door<W::Listener, A, B>,
+    accepted: Share<A>,
+)
+    requires all { accepted.parts ≡ A.parts }
+    requires nothing { accepted.amount ≡ 0 }
     ensures links { W.links world.new ≡ W.links world.old }
     ensures kept { W.kept world.new ≡ W.kept world.old }
+    ensures given { W.given world.new ≡ W.given world.old }
     ensures kits { W.kits world.new ≡ W.kits world.old }
     ensures ports { W.ports world.new ≡ W.ports world.old }
     ensures files { W.files world.new ≡ W.files world.old }
     ensures shelves { W.shelf_faults world.new ≡ W.shelf_faults world.old }
 {
-    world.retire(door.close().listener);
+    let remains = door.close();
+    let mut accepted = accepted;
+    remains.accepted.audit(&mut accepted);
+    world.retire(remains.listener);
 }
 
 // The same for two ledgers of its own.
@@ -283,24 +297,26 @@ where
     W::Listener: Send,
     requires empty { C.history core ≡ [] }
     requires can_begin { CanBegin (C.beginning core) }
+    requires unused { W.Listener.given listener ≡ 0 }
     requires most { most ≡ A.most }
     requires accepted { (accepted.name ≡ A.name) × (accepted.parts ≡ A.parts) × (accepted.parts ≡ workers) }
     requires left { (left.name ≡ B.name) × (left.parts ≡ B.parts) × (left.parts ≡ workers) }
     ensures ran { IfSome result (λ o. Ran (IsUnused W.Dialer.talks W.Dialer.dial_faults W.Dialer.read_faults W.Dialer.write_faults W.Clock.readings W.Clock.words)
-        H.places (H.Tells host.now) (told_by W.Listener.Link.flow W.Listener.Link.read_faults W.Listener.Link.write_faults W.Listener.Link.peer) (C.beginning core)
+        H.places (H.Tells host.now) (told_by W.Listener.Link.flow W.Listener.Link.read_faults W.Listener.Link.write_faults W.Listener.Link.peer W.Listener.Link.is_open) (C.beginning core)
         o.history (record { links = W.links world.old; kept = W.kept world.old; kits = W.kits world.old })
         (record { links = W.links world.new; kept = W.kept world.new; kits = W.kits world.new }) o.transcripts.items) }
     ensures within { IfSome result (λ o. vec_len o.transcripts ≤ most) }
+    ensures given { IfSome result (λ o. W.given world.new ≡ joined_count (W.given world.old) (vec_len o.transcripts)) }
     ensures stopped { IfSome result (λ o. Stopped o.reason most (vec_len o.transcripts) (W.ended world.new) (W.listen_faults world.old) (W.listen_faults world.new)) }
-    ensures nobody { IfNone result ((W.links world.new ≡ W.links world.old) × (W.kept world.new ≡ W.kept world.old) × (W.kits world.new ≡ W.kits world.old)) }
+    ensures nobody { IfNone result ((W.links world.new ≡ W.links world.old) × (W.kept world.new ≡ W.kept world.old) × (W.kits world.new ≡ W.kits world.old) × (W.given world.new ≡ W.given world.old)) }
     ensures ports { W.ports world.new ≡ W.ports world.old }
     ensures files { W.files world.new ≡ W.files world.old }
     ensures shelves { W.shelf_faults world.new ≡ W.shelf_faults world.old }
 {
     let (door, accepted, left) = Door::<W::Listener, A, B>::open(listener, most, accepted, left);
     let Some(all) = open_all(alloc, core, workers as usize, most as usize) else {
-        drop((accepted, left));
-        turn_away(world, door);
+        drop(left);
+        turn_away(world, door, accepted);
         return None;
     };
     let (cache, root, room) = all;
@@ -331,13 +347,15 @@ where
     W::Listener: Send,
     requires empty { C.history core ≡ [] }
     requires can_begin { CanBegin (C.beginning core) }
+    requires unused { W.Listener.given listener ≡ 0 }
     ensures ran { IfSome result (λ o. Ran (IsUnused W.Dialer.talks W.Dialer.dial_faults W.Dialer.read_faults W.Dialer.write_faults W.Clock.readings W.Clock.words)
-        H.places (H.Tells host.now) (told_by W.Listener.Link.flow W.Listener.Link.read_faults W.Listener.Link.write_faults W.Listener.Link.peer) (C.beginning core)
+        H.places (H.Tells host.now) (told_by W.Listener.Link.flow W.Listener.Link.read_faults W.Listener.Link.write_faults W.Listener.Link.peer W.Listener.Link.is_open) (C.beginning core)
         o.history (record { links = W.links world.old; kept = W.kept world.old; kits = W.kits world.old })
         (record { links = W.links world.new; kept = W.kept world.new; kits = W.kits world.new }) o.transcripts.items) }
     ensures within { IfSome result (λ o. vec_len o.transcripts ≤ most) }
+    ensures given { IfSome result (λ o. W.given world.new ≡ joined_count (W.given world.old) (vec_len o.transcripts)) }
     ensures stopped { IfSome result (λ o. Stopped o.reason most (vec_len o.transcripts) (W.ended world.new) (W.listen_faults world.old) (W.listen_faults world.new)) }
-    ensures nobody { IfNone result ((W.links world.new ≡ W.links world.old) × (W.kept world.new ≡ W.kept world.old) × (W.kits world.new ≡ W.kits world.old)) }
+    ensures nobody { IfNone result ((W.links world.new ≡ W.links world.old) × (W.kept world.new ≡ W.kept world.old) × (W.kits world.new ≡ W.kits world.old) × (W.given world.new ≡ W.given world.old)) }
     ensures ports { W.ports world.new ≡ W.ports world.old }
     ensures files { W.files world.new ≡ W.files world.old }
     ensures shelves { W.shelf_faults world.new ≡ W.shelf_faults world.old }

@@ -33,7 +33,7 @@ fn work_together<
 where
     W::Listener: Send,
     requires { All (IsReady (S.Ready service.now cache.now)) workers.old.items }
-    ensures worked { AllZip (HasWorked (S.Ready service.now cache.now) (S.Serves service.now cache.now) (told_by W.Listener.Link.flow W.Listener.Link.read_faults W.Listener.Link.write_faults W.Listener.Link.peer)) workers.old.items workers.new.items }
+    ensures worked { AllZip (HasWorked (S.Ready service.now cache.now) (S.Serves service.now cache.now) (told_by W.Listener.Link.flow W.Listener.Link.read_faults W.Listener.Link.write_faults W.Listener.Link.peer W.Listener.Link.is_open)) workers.old.items workers.new.items }
     ensures count { (vec_len workers.new ≡ vec_len workers.old) × (length workers.new.items ≡ vec_len workers.old) }
 {
     work(rt, service, cache, door, workers.as_mut_slice());
@@ -57,7 +57,7 @@ pub(crate) fn work_all<
 where
     W::Listener: Send,
     requires ready { All (IsReady (H.Ready host.now cache.now)) workers.old.items }
-    ensures worked { AllZip (HasWorked (H.Ready host.now cache.now) (H.Serves host.now cache.now) (told_by W.Listener.Link.flow W.Listener.Link.read_faults W.Listener.Link.write_faults W.Listener.Link.peer)) workers.old.items workers.new.items }
+    ensures worked { AllZip (HasWorked (H.Ready host.now cache.now) (H.Serves host.now cache.now) (told_by W.Listener.Link.flow W.Listener.Link.read_faults W.Listener.Link.write_faults W.Listener.Link.peer W.Listener.Link.is_open)) workers.old.items workers.new.items }
     ensures count { (vec_len workers.new ≡ vec_len workers.old) × (length workers.new.items ≡ vec_len workers.old) }
 {
     work_together::<R, C, W, H, A, B>(rt, host, cache, door, workers);

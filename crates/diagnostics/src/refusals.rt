@@ -13,7 +13,8 @@ fn cause_of(kind: Refusal) -> &'static str {
         Refusal::Syntax => "this can't stand here by the grammar",
         Refusal::Version => "the version must be 4.0 or 4.1",
         Refusal::TooDeep => "blocks and parentheses nest more than 64 deep here",
-        Refusal::Unknown => "this name isn't declared",
+        Refusal::Unknown =>
+            "this name isn't declared, and varn knows none such; docs/VCL.md has what to write for Varnish's others",
         Refusal::Twice => "this was declared or given before",
         Refusal::Kind =>
             "a value of another type, or another number of arguments, is expected here",
@@ -25,13 +26,31 @@ fn cause_of(kind: Refusal) -> &'static str {
     }
 }
 
+// Whether a quoted text that could be an address of IPv6 begins here.
+fn names_ipv6(rest: &[u8]) -> bool {
+    let mut parts = rest.split(|byte| *byte == b'"');
+    match (parts.next(), parts.next()) {
+        (Some([]), Some(address)) => address.contains(&b':')
+            && address.iter().all(|byte| byte.is_ascii_hexdigit() || matches!(*byte, b':' | b'.')),
+        _ => false,
+    }
+}
+
+// What is wrong where this rest of the text begins.
+fn cause_at(kind: Refusal, rest: &[u8]) -> &'static str {
+    match kind {
+        Refusal::Kind if names_ipv6(rest) => "an IPv4 address or localhost is expected here",
+        _ => cause_of(kind),
+    }
+}
+
 fn shown_refusal(
     alloc: Global,
     file: &str,
     shown: &Shown,
-    kind: Refusal,
+    cause: &str,
 ) -> Result<String, AllocError> {
-    let (line, column, cause) = (shown.line, shown.column, cause_of(kind));
+    let (line, column) = (shown.line, shown.column);
     let text = String::from_utf8_lossy(alloc, shown.text.as_slice())?;
     let caret = String::from_utf8_lossy(alloc, shown.caret.as_slice())?;
     format!(in alloc; "{file}, line {line}, column {column}: {cause}\n{text}\n{caret}")
@@ -47,7 +66,8 @@ pub fn vcl_refusal(
 ) -> Result<String, AllocError> {
     let file = String::from_utf8_lossy(alloc, file.bytes())?;
     let shown = show(alloc, text.bytes(), place as usize)?;
-    shown_refusal(alloc, file.as_str(), &shown, kind)
+    let rest = text.bytes().get(place as usize..).unwrap_or_default();
+    shown_refusal(alloc, file.as_str(), &shown, cause_at(kind, rest))
 }
 
 /// Why the VCL of a file is refused whose text can't be shown.

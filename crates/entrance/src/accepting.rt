@@ -1,12 +1,13 @@
 // What stands under the door's lock.
-ghost use Rattle.std.specs.Prelude.{◌≡◌, ◌+◌, ◌<◌, ◌≤◌, true, IfSome, IfNone, OnSome};
-ghost use Rattle.entrance.specs.Arriving.{IsNew, told_by};
+ghost use Rattle.std.specs.Prelude.{◌≡◌, ◌<◌, ◌≤◌, true};
+ghost use Rattle.world.specs.Awaiting.{IfCame};
+ghost use Rattle.entrance.specs.Arriving.{IsNew, Counts, told_by};
 ghost use Rattle.entrance.specs.Shutting.{Why, is_shut};
 
 use crate::quota::Quota;
 use crate::remains::{Reason, Remains};
 use std::sync::ledger::{Book, Ledger, Share};
-use world::Listener;
+use world::{Awaited, Listener};
 
 /// A listener and what was accepted at it, up to a number of connections. Each of them counts in a worker's share of the first
 /// book, and each worker that found the entrance shut in a share of the second.
@@ -23,6 +24,7 @@ pub(crate) struct Accepting<L: Listener, A: Quota, B: Ledger> {
     ghost most_is: { most ≡ A.most },
     ghost counted: { count ≡ accepted.total },
     ghost within: { count ≤ most },
+    ghost given: { L.given listener ≡ count },
     ghost said_its_end: { ended ≡ true → L.ended listener ≡ true },
     ghost had_a_fault: { failed ≡ true → 1 ≤ L.faults listener },
     ghost shut: { 1 ≤ left.total → is_shut count most ended failed wanting ≡ true },
@@ -30,6 +32,7 @@ pub(crate) struct Accepting<L: Listener, A: Quota, B: Ledger> {
 
 impl<L: Listener, A: Quota, B: Ledger> Accepting<L, A, B> {
     pub fn new(listener: L, most: u64, accepted: Book<A>, left: Book<B>) -> Accepting<L, A, B>
+        requires unused { L.given listener ≡ 0 }
         requires most { most ≡ A.most }
         requires accepted { accepted.total ≡ 0 }
         requires left { left.total ≡ 0 }
@@ -52,33 +55,29 @@ impl<L: Listener, A: Quota, B: Ledger> Accepting<L, A, B> {
         self.count == self.most || self.ended || self.failed || self.wanting
     }
 
-    /// The next connection, and the address that it came from. It counts in the first share; without one the entrance is shut,
-    /// which counts in the second.
-    pub fn next(
-        &mut self,
-        accepted: &mut Share<A>,
-        left: &mut Share<B>,
-    ) -> Option<(L::Link, [u8; 4])>
+    /// The next connection, and the address that it came from, if one comes in time. It counts in the first share; at the end the
+    /// entrance is shut, which counts in the second.
+    pub fn next(&mut self, accepted: &mut Share<A>, left: &mut Share<B>) -> Awaited<L::Link>
         requires parts { (0 < accepted.old.parts) × (0 < left.old.parts) }
-        ensures new { IfSome result (λ one. IsNew (told_by L.Link.flow L.Link.read_faults L.Link.write_faults L.Link.peer one.0) one.1) }
-        ensures came { OnSome result ((accepted.new.amount ≡ accepted.old.amount + 1) × (left.new.amount ≡ left.old.amount)) }
-        ensures shut { IfNone result ((accepted.new.amount ≡ accepted.old.amount) × (left.new.amount ≡ left.old.amount + 1)) }
+        ensures new { IfCame result (λ link address. IsNew (told_by L.Link.flow L.Link.read_faults L.Link.write_faults L.Link.peer L.Link.is_open link) address) }
+        ensures counts { Counts result accepted.old.amount accepted.new.amount left.old.amount left.new.amount }
         ensures parts { (accepted.new.parts ≡ accepted.old.parts) × (left.new.parts ≡ left.old.parts) }
         ensures wanting { self.new.wanting ≡ self.old.wanting }
     {
         if !self.is_shut() {
             match self.listener.accept() {
-                Ok(Some(one)) => {
+                Ok(Awaited::Came(link, address)) => {
                     self.accepted.add(accepted, 1);
                     self.count += 1;
-                    return Some(one);
+                    return Awaited::Came(link, address);
                 }
-                Ok(None) => self.ended = true,
+                Ok(Awaited::NobodyYet) => return Awaited::NobodyYet,
+                Ok(Awaited::End) => self.ended = true,
                 Err(_) => self.failed = true,
             }
         }
         self.left.add(left, 1);
-        None
+        Awaited::End
     }
 
     /// Shuts the entrance, since a worker has no memory for another connection.
@@ -109,6 +108,7 @@ impl<L: Listener, A: Quota, B: Ledger> Accepting<L, A, B> {
     pub fn close(self) -> Remains<L, A, B>
         ensures parts { (result.accepted.parts ≡ A.parts) × (result.left.parts ≡ B.parts) }
         ensures within { result.accepted.amount ≤ A.most }
+        ensures given { L.given result.listener ≡ result.accepted.amount }
         ensures why { Why result.reason A.most result.accepted.amount result.left.amount (L.faults result.listener) (L.ended result.listener) }
     {
         let reason = self.reason();

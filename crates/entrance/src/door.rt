@@ -8,7 +8,7 @@ use crate::quota::Quota;
 use crate::remains::Remains;
 use std::sync::ledger::{Blank, Ledger, Share};
 use std::sync::{Mutex, Wait};
-use world::Listener;
+use world::{Awaited, Listener};
 
 /// A listener under a lock, at which as many connections are accepted as the first ledger says, each by one worker. Workers
 /// share the door by reference.
@@ -26,6 +26,7 @@ impl<L: Listener, A: Quota, B: Ledger> Door<L, A, B> {
         accepted: Blank,
         left: Blank,
     ) -> (Door<L, A, B>, Share<A>, Share<B>)
+        requires unused { L.given listener ≡ 0 }
         requires most { most ≡ A.most }
         requires accepted { (accepted.name ≡ A.name) × (accepted.parts ≡ A.parts) }
         requires left { (left.name ≡ B.name) × (left.parts ≡ B.parts) }
@@ -39,7 +40,8 @@ impl<L: Listener, A: Quota, B: Ledger> Door<L, A, B> {
     }
 
     /// The next connection, and the address that it came from, if the door isn't shut. It counts in the worker's first share;
-    /// that the door is shut counts in the second.
+    /// that the door is shut counts in the second. Where nobody came yet the listener is asked again, and others may have the
+    /// door's lock meanwhile.
     pub fn enter<R: Wait>(
         &self,
         rt: &R,
@@ -47,12 +49,20 @@ impl<L: Listener, A: Quota, B: Ledger> Door<L, A, B> {
         left: &mut Share<B>,
     ) -> Option<(L::Link, [u8; 4])>
         requires parts { (0 < accepted.old.parts) × (0 < left.old.parts) }
-        ensures new { IfSome result (λ one. IsNew (told_by L.Link.flow L.Link.read_faults L.Link.write_faults L.Link.peer one.0) one.1) }
+        ensures new { IfSome result (λ one. IsNew (told_by L.Link.flow L.Link.read_faults L.Link.write_faults L.Link.peer L.Link.is_open one.0) one.1) }
         ensures came { OnSome result ((accepted.new.amount ≡ accepted.old.amount + 1) × (left.new.amount ≡ left.old.amount)) }
         ensures shut { IfNone result ((accepted.new.amount ≡ accepted.old.amount) × (left.new.amount ≡ left.old.amount + 1)) }
         ensures parts { (accepted.new.parts ≡ accepted.old.parts) × (left.new.parts ≡ left.old.parts) }
     {
-        self.entrance.lock(rt).next(accepted, left)
+        'asking: for _ in rt.forever() {
+            let found = self.entrance.lock(rt).next(accepted, left);
+            match found {
+                Awaited::Came(link, address) => return Some((link, address)),
+                Awaited::NobodyYet => {}
+                Awaited::End => return None,
+            }
+        }
+        unreachable!()
     }
 
     /// Shuts the door, since a worker has no memory for another connection.
@@ -64,6 +74,7 @@ impl<L: Listener, A: Quota, B: Ledger> Door<L, A, B> {
     pub fn close(self) -> Remains<L, A, B>
         ensures parts { (result.accepted.parts ≡ A.parts) × (result.left.parts ≡ B.parts) }
         ensures within { result.accepted.amount ≤ A.most }
+        ensures given { L.given result.listener ≡ result.accepted.amount }
         ensures why { Why result.reason A.most result.accepted.amount result.left.amount (L.faults result.listener) (L.ended result.listener) }
     {
         let Door { entrance } = self;

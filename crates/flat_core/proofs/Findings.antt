@@ -1,5 +1,5 @@
 -- What is found among the objects in memory is what the law's lookup gives.
-use Rattle.std.proofs.Common.{◌≡◌, ℕ, Bool, true, false, cond, List, [], Option, Some, None, refl, ap, ◌∙◌}
+use Rattle.std.proofs.Common.{◌≡◌, ℕ, Bool, true, false, cond, List, [], ◌+◌, Option, Some, None, refl, ap, ◌∙◌}
 use Rattle.std.proofs.lemmas.Bool.{cond-true, cond-false}
 use Rattle.cache_law.specs.declared.object.Object.{Object}
 use Rattle.cache_law.specs.declared.object.Object.TheVariants.{Ordinary, HitForMiss, HitForPass}
@@ -8,6 +8,7 @@ use Rattle.cache_law.specs.declared.ban.Issued.{Issued}
 use Rattle.cache_law.specs.declared.call.Query.{Query}
 use Rattle.cache_law.specs.State.{State, Held, at_moment, those_in_time, has_round, least_token}
 use Rattle.cache_law.specs.Lookup.{Scan, scanned}
+use Rattle.cache_law.specs.Bases.{AreFalling}
 use Rattle.cache_law.specs.Law.{missed, found_fresh, found_grace, waited_or_missed, busy, found_other, found, found_by, remembered, looked_up}
 use Rattle.flat_core.specs.declared.stored_object.StoredObject.{StoredObject}
 use Rattle.flat_core.specs.declared.scan.Seen.{Seen}
@@ -39,18 +40,18 @@ scan_so : (state : State) (caller : ℕ) (query : Query) (fresh grace stale : Op
 scan_so state caller query None grace stale = other_so state caller query grace stale
 scan_so state caller query (Some view) grace stale = given_so state caller query.key view view.object
 
-by_option : (old : State) (bans : List Issued) (objects : List StoredObject) (now caller : ℕ) (query : Query) (misses : Bool)
+by_option : (old : State) (issued : ℕ) (bans : List Issued) (objects : List StoredObject) (now caller : ℕ) (query : Query) (misses : Bool) → AreFalling (issued + 1) bans
     → remembered caller (cond misses (missed (at_moment now (record old { objects = held_all bans objects })) caller query.key None) (found_by (at_moment now (record old { objects = held_all bans objects })) caller query (scanned now query (those_in_time now (held_all bans objects)))))
-    ≡ told_so (record old { objects = held_all bans objects }) now caller query.key (Some (cond misses (record { finding = Miss None; fates = [] }) (found_by_scan query old.fetches (seen_all now query bans objects))))
-by_option old bans objects now caller query true = refl
-by_option old bans objects now caller query false =
-    let seen : Seen = seen_all now query bans objects in
-    ap (λ (scan : Scan Held). remembered caller (found_by (at_moment now (record old { objects = held_all bans objects })) caller query scan)) (scans now query bans objects)
+    ≡ told_so (record old { objects = held_all bans objects }) now caller query.key (Some (cond misses (record { finding = Miss None; fates = [] }) (found_by_scan query old.fetches (seen_all now query issued bans objects))))
+by_option old issued bans objects now caller query true falling = refl
+by_option old issued bans objects now caller query false falling =
+    let seen : Seen = seen_all now query issued bans objects in
+    ap (λ (scan : Scan Held). remembered caller (found_by (at_moment now (record old { objects = held_all bans objects })) caller query scan)) (scans now query issued bans objects falling)
     ∙ scan_so (record old { moment = now; objects = those_in_time now (settled_held seen.fates (held_all bans objects)) }) caller query seen.fresh seen.grace seen.stale
 
-pub finds : (old : State) (bans : List Issued) (objects : List StoredObject) (now caller : ℕ) (query : Query) → has_round old.rounds caller ≡ true
-    → looked_up (at_moment now (record old { objects = held_all bans objects })) caller query ≡ told_so (record old { objects = held_all bans objects }) now caller query.key (Some (found_in now query bans old.fetches objects))
-finds old bans objects now caller query opened = cond-true _ _ _ opened ∙ by_option old bans objects now caller query query.options.always_miss
+pub finds : (old : State) (issued : ℕ) (bans : List Issued) (objects : List StoredObject) (now caller : ℕ) (query : Query) → AreFalling (issued + 1) bans → has_round old.rounds caller ≡ true
+    → looked_up (at_moment now (record old { objects = held_all bans objects })) caller query ≡ told_so (record old { objects = held_all bans objects }) now caller query.key (Some (found_in now query issued bans old.fetches objects))
+finds old issued bans objects now caller query falling opened = cond-true _ _ _ opened ∙ by_option old issued bans objects now caller query query.options.always_miss falling
 
 pub finds_not : (old : State) (now caller : ℕ) (query : Query) → has_round old.rounds caller ≡ false → looked_up (at_moment now old) caller query ≡ told_so old now caller query.key None
 finds_not old now caller query closed = cond-false _ _ _ closed

@@ -10,3 +10,5 @@ pub mod Findings
 pub mod Reserves
 pub mod Replies
 pub mod Steps
+pub mod Cuts
+pub mod Struck

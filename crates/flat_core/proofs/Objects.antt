@@ -1,23 +1,29 @@
 -- What is done with the objects in memory is done with those of the law.
-use Rattle.std.proofs.Common.{◌≡◌, ℕ, Bool, true, false, not, cond, List, [], ◌∷◌, ◌++◌, ◌+◌, ◌-◌, ◌<◌, zero, suc, ◌&&◌, ◌||◌, ◌==◌, length, take, drop, get_or, add-one, append_assoc, find, filter, map, Option, Some, None, refl, arith, sym, ap, ◌∙◌}
+use Rattle.std.proofs.Common.{◌≡◌, ℕ, Bool, true, false, not, cond, List, [], ◌∷◌, ◌++◌, ◌+◌, ◌≤◌, ◌<◌, zero, suc, ◌&&◌, ◌||◌, ◌==◌, length, take, drop, get_or, add-one, append_assoc, find, filter, map, Option, Some, None, refl, arith, sym, ap, ◌∙◌}
 use Rattle.std.specs.List.{list_all, list_any}
-use Rattle.std.proofs.lemmas.Bool.{and_parts}
+use Rattle.std.proofs.lemmas.Bool.{and_parts, le-ltb}
 use Rattle.std.specs.Option.{option_map_or, option_or}
 use Rattle.std.proofs.lemmas.List.Folds.{find-append}
 use Rattle.cache_law.specs.declared.ban.Issued.{Issued}
 use Rattle.cache_law.specs.Object.{in_time}
 use Rattle.cache_law.specs.BansAtOnce.{cleared}
+use Rattle.cache_law.specs.Bases.{AreFalling}
 use Rattle.cache_law.specs.State.{Held, those_in_time, without_stale, inherited}
 use Rattle.cache_law.specs.Lookup.{raised, counting, counted, touching, touched}
 use Rattle.flat_core.specs.declared.stored_object.StoredObject.{StoredObject}
 use Rattle.flat_core.specs.declared.stored_object.Fate.{Fate}
 use Rattle.flat_core.specs.declared.stored_object.Fate.TheVariants.{Stays, Tested, Goes}
-use Rattle.flat_core.specs.StoredObject.{waiting, held_of, held_all, left_of, settled, held_left, settled_held, is_change, moved_on, counted_in, touched_in, stays, tested_for}
+use Rattle.flat_core.specs.StoredObject.{is_waiting, since, waiting, held_of, held_all, left_of, settled, held_left, settled_held, is_change, moved_on, counted_in, touched_in, stays, tested_for}
 use Rattle.flat_core.proofs.Passes.{at_next, drop_all, take_all}
 
+-- no ban was issued behind so many where all have lesser numbers
+pub since_low : (count bound : ℕ) (bans : List Issued) → bound ≤ count + 1 → AreFalling bound bans → since count bans ≡ []
+since_low count bound [] low falling = refl
+since_low count bound (ban ∷ bans) low falling = rw (le-ltb count ban.number (omega (arith, low, falling.0))) refl
+
 -- nothing waits for an object that was tested on all bans
-pub none_waits : (bans : List Issued) → waiting bans (length bans) ≡ []
-none_waits bans = let none : length bans - length bans ≡ 0 = omega arith in rw none refl
+pub none_waits : (issued : ℕ) (bans : List Issued) → AreFalling (issued + 1) bans → waiting bans issued ≡ []
+none_waits issued bans falling = ap (filter is_waiting) (since_low issued (issued + 1) bans (omega arith) falling)
 
 kept_or_not : (bans : List Issued) (b : Bool) (kept : StoredObject) (objects : List StoredObject) → held_all bans (cond b (kept ∷ objects) objects) ≡ cond b (held_of bans kept ∷ held_all bans objects) (held_all bans objects)
 kept_or_not bans true kept objects = refl
@@ -113,27 +119,27 @@ held_all-stays bans None (kept ∷ objects) = ap (λ (hs : List Held). held_of b
 held_all-stays bans (Some stale) [] = refl
 held_all-stays bans (Some stale) (kept ∷ objects) = kept_one bans (not (kept.view.number == stale)) kept _ _ (held_all-stays bans (Some stale) objects)
 
-inherits_one : (bans : List Issued) (b : Bool) (kept : StoredObject) (later : Option StoredObject) (held : Option Held) → waiting bans (option_map_or (λ (k : StoredObject). k.tested) later (length bans)) ≡ option_map_or (λ (h : Held). h.pending) held []
-    → waiting bans (option_map_or (λ (k : StoredObject). k.tested) (cond b (Some kept) later) (length bans)) ≡ option_map_or (λ (h : Held). h.pending) (cond b (Some (held_of bans kept)) held) []
-inherits_one bans true kept later held e = refl
-inherits_one bans false kept later held e = e
+inherits_one : (issued : ℕ) (bans : List Issued) (b : Bool) (kept : StoredObject) (later : Option StoredObject) (held : Option Held) → waiting bans (option_map_or (λ (k : StoredObject). k.tested) later issued) ≡ option_map_or (λ (h : Held). h.pending) held []
+    → waiting bans (option_map_or (λ (k : StoredObject). k.tested) (cond b (Some kept) later) issued) ≡ option_map_or (λ (h : Held). h.pending) (cond b (Some (held_of bans kept)) held) []
+inherits_one issued bans true kept later held e = refl
+inherits_one issued bans false kept later held e = e
 
 -- what waits for the object in the stale one's place is what waited for that
-pub inherits : (bans : List Issued) (stale : Option ℕ) (objects : List StoredObject) → waiting bans (tested_for (length bans) stale objects) ≡ inherited stale (held_all bans objects)
-inherits bans None objects = none_waits bans
-inherits bans (Some stale) [] = none_waits bans
-inherits bans (Some stale) (kept ∷ objects) = inherits_one bans (kept.view.number == stale) kept _ _ (inherits bans (Some stale) objects)
+pub inherits : (issued : ℕ) (bans : List Issued) (stale : Option ℕ) (objects : List StoredObject) → AreFalling (issued + 1) bans → waiting bans (tested_for issued stale objects) ≡ inherited stale (held_all bans objects)
+inherits issued bans None objects falling = none_waits issued bans falling
+inherits issued bans (Some stale) [] falling = none_waits issued bans falling
+inherits issued bans (Some stale) (kept ∷ objects) falling = inherits_one issued bans (kept.view.number == stale) kept _ _ (inherits issued bans (Some stale) objects falling)
 
 -- what is left of the objects, in memory and by the law
-one_left : (bans : List Issued) (fate : Fate) (kept : StoredObject) (objects : List StoredObject) (rest : List Held) → held_all bans objects ≡ rest → held_all bans (left_of (length bans) fate kept ++ objects) ≡ held_left fate (held_of bans kept) ++ rest
-one_left bans Stays kept objects rest e = ap (λ (hs : List Held). held_of bans kept ∷ hs) e
-one_left bans Tested kept objects rest e = rw (none_waits bans) (ap (λ (hs : List Held). cleared (held_of bans kept) ∷ hs) e)
-one_left bans Goes kept objects rest e = e
+one_left : (issued : ℕ) (bans : List Issued) (fate : Fate) (kept : StoredObject) (objects : List StoredObject) (rest : List Held) → AreFalling (issued + 1) bans → held_all bans objects ≡ rest → held_all bans (left_of issued fate kept ++ objects) ≡ held_left fate (held_of bans kept) ++ rest
+one_left issued bans Stays kept objects rest falling e = ap (λ (hs : List Held). held_of bans kept ∷ hs) e
+one_left issued bans Tested kept objects rest falling e = rw (none_waits issued bans falling) (ap (λ (hs : List Held). cleared (held_of bans kept) ∷ hs) e)
+one_left issued bans Goes kept objects rest falling e = e
 
-pub held_all-settled : (bans : List Issued) (fates : List Fate) (objects : List StoredObject) → held_all bans (settled (length bans) fates objects) ≡ settled_held fates (held_all bans objects)
-held_all-settled bans [] objects = refl
-held_all-settled bans (fate ∷ fates) [] = refl
-held_all-settled bans (fate ∷ fates) (kept ∷ objects) = one_left bans fate kept _ _ (held_all-settled bans fates objects)
+pub held_all-settled : (issued : ℕ) (bans : List Issued) (fates : List Fate) (objects : List StoredObject) → AreFalling (issued + 1) bans → held_all bans (settled issued fates objects) ≡ settled_held fates (held_all bans objects)
+held_all-settled issued bans [] objects falling = refl
+held_all-settled issued bans (fate ∷ fates) [] falling = refl
+held_all-settled issued bans (fate ∷ fates) (kept ∷ objects) falling = one_left issued bans fate kept _ _ falling (held_all-settled issued bans fates objects falling)
 
 -- what is found in a list is found in it and another behind it
 pub find-front : {X : Type 0} (p : X → Bool) (xs ys : List X) (x : X) → Some x ≡ find p xs → Some x ≡ find p (xs ++ ys)

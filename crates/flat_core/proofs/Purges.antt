@@ -55,10 +55,10 @@ softened_so bans now keys [] = refl
 softened_so bans now keys (kept ∷ objects) =
     soft_one bans now keys kept (map (softening now keys) objects) (those_in_time now (held_all bans objects)) (in_time now kept.view.object) (has_xkey keys kept.view.object) refl refl (softened_so bans now keys objects)
 
-soft_tested : (bans : List Issued) (now : ℕ) (b : Bool) (kept : StoredObject) → kept.tested ≤ length bans → (cond b (soft_of now kept) kept).tested ≤ length bans
-soft_tested bans now true kept below = below
-soft_tested bans now false kept below = below
+soft_tested : (issued now : ℕ) (b : Bool) (kept : StoredObject) → kept.tested ≤ issued → (cond b (soft_of now kept) kept).tested ≤ issued
+soft_tested issued now true kept below = below
+soft_tested issued now false kept below = below
 
-pub softened_tested : (bans : List Issued) (now : ℕ) (keys : List (List ℕ)) (objects : List StoredObject) → AreTested bans objects → AreTested bans (map (softening now keys) objects)
-softened_tested bans now keys [] tested = tt
-softened_tested bans now keys (kept ∷ objects) tested = (soft_tested bans now (is_purged now (has_xkey keys) kept) kept tested.0, softened_tested bans now keys objects tested.1)
+pub softened_tested : (issued now : ℕ) (keys : List (List ℕ)) (objects : List StoredObject) → AreTested issued objects → AreTested issued (map (softening now keys) objects)
+softened_tested issued now keys [] tested = tt
+softened_tested issued now keys (kept ∷ objects) tested = (soft_tested issued now (is_purged now (has_xkey keys) kept) kept tested.0, softened_tested issued now keys objects tested.1)

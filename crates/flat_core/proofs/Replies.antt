@@ -1,5 +1,5 @@
 -- What each answer of the plain cache leaves is what the law leaves.
-use Rattle.std.proofs.Common.{◌≡◌, ◌≢◌, ℕ, Bool, true, false, cond, List, [], ◌∷◌, ◌+◌, ◌<◌, ◌++◌, ◌^◌, length, map, filter, Option, Some, None, nat_lt, inr, refl, arith, sym, ap, ◌∙◌, subst}
+use Rattle.std.proofs.Common.{◌≤◌, ◌≡◌, ◌≢◌, ℕ, Bool, true, false, cond, List, [], ◌∷◌, ◌+◌, ◌<◌, ◌++◌, ◌^◌, length, map, filter, Option, Some, None, nat_lt, inr, refl, arith, sym, ap, ◌∙◌, subst}
 use Rattle.std.proofs.lemmas.Bool.{cond-true, cond-false, ltb-true, eq-eqb, ne_eqb}
 use Rattle.std.specs.List.{list_any}
 use Rattle.std.specs.Str.{bytes_eq}
@@ -34,6 +34,8 @@ use Rattle.cache_law.specs.Room.{staying, has_no_room, stored_over}
 use Rattle.cache_law.specs.Law.{Step, behind, refused, leaving, begun, drawn, closing, placed, inserted, banned, purged_by, picked_at, health_set, loaded, loaded_as, switched, switched_to, discarded, discarded_of, vcls_listed, dropped, ended, wait_in, IsBanList}
 use Rattle.cache_law.proofs.Moments.{those_in_time-later}
 use Rattle.cache_law.proofs.Lawful.{asks_bans, is_refusal, behind_lawful, MayAnswer-lawful}
+use Rattle.cache_law.specs.Bases.{AreFalling}
+use Rattle.cache_law.proofs.Held.{all-weaken}
 use Rattle.cache_law.proofs.Leaves.{either}
 use Rattle.flat_core.specs.declared.answer.Answer.{Answer}
 use Rattle.flat_core.specs.declared.stored_object.StoredObject.{StoredObject}
@@ -49,7 +51,7 @@ use Rattle.flat_core.specs.Purging.{has_xkey, is_purged, is_spared, softening}
 use Rattle.flat_core.specs.Step.{Answers}
 use Rattle.flat_core.proofs.Objects.{held_all-filter, held_all-counted, held_all-touched, held_all-settled, in_time-counted, in_time-touched, inherits}
 use Rattle.flat_core.proofs.MadeRoom.{stay_so, room_so, none_so}
-use Rattle.flat_core.proofs.Bannings.{all_listed, bans_over}
+use Rattle.flat_core.proofs.Bannings.{AreBefore, all_listed, bans_over}
 use Rattle.flat_core.proofs.Purges.{of_object, not_of_object, counts, spared, softened_so}
 
 -- what is in time is in time
@@ -149,15 +151,15 @@ used_in_time now place finding objects =
     touched_in_time now place (marker_in finding) (counted_for place (hit_in finding) objects)
     ∙ ap (touched_for place (marker_in finding)) (counted_in_time now place (hit_in finding) objects)
 
-used_left : (now place : ℕ) (bans : List Issued) (fates : List Fate) (objects later : List StoredObject) (finding : Finding)
-    → later ≡ touching_in place (marker_in finding) (counting_in place (hit_in finding) (settled (length bans) fates objects))
+used_left : (now place issued : ℕ) (bans : List Issued) (fates : List Fate) (objects later : List StoredObject) (finding : Finding) → AreFalling (issued + 1) bans
+    → later ≡ touching_in place (marker_in finding) (counting_in place (hit_in finding) (settled issued fates objects))
     → those_in_time now (held_all bans later) ≡ those_in_time now (used_for place finding (those_in_time now (settled_held fates (held_all bans objects))))
-used_left now place bans fates objects later finding uses =
+used_left now place issued bans fates objects later finding falling uses =
     let left : List Held = settled_held fates (held_all bans objects) in
     ap (λ (k : List StoredObject). those_in_time now (held_all bans k)) uses
-    ∙ ap (those_in_time now) (touched_all place bans (marker_in finding) (counting_in place (hit_in finding) (settled (length bans) fates objects)))
-    ∙ ap (λ (o : List Held). those_in_time now (touched_for place (marker_in finding) o)) (counted_all place bans (hit_in finding) (settled (length bans) fates objects))
-    ∙ ap (λ (o : List Held). those_in_time now (used_for place finding o)) (held_all-settled bans fates objects)
+    ∙ ap (those_in_time now) (touched_all place bans (marker_in finding) (counting_in place (hit_in finding) (settled issued fates objects)))
+    ∙ ap (λ (o : List Held). those_in_time now (touched_for place (marker_in finding) o)) (counted_all place bans (hit_in finding) (settled issued fates objects))
+    ∙ ap (λ (o : List Held). those_in_time now (used_for place finding o)) (held_all-settled issued bans fates objects falling)
     ∙ used_in_time now place finding left
     ∙ ap (used_for place finding) (sym (once now left))
     ∙ sym (used_in_time now place finding (those_in_time now left))
@@ -172,31 +174,31 @@ no_refusal token (Wait other) = refl
 no_refusal token (Miss stale) = refl
 
 -- what a lookup in an open round leaves
-pub looks : (old : State) (bans : List Issued) (objects later : List StoredObject) (fetches : List OpenFetch) (rounds : List OpenRound) (next now caller : ℕ) (query : Query) (found : Found) (answer : Answer) → old.objects ≡ held_all bans objects → later ≡ touching_in old.entries (marker_in found.finding) (counting_in old.entries (hit_in found.finding) (settled (length bans) found.fates objects)) → next ≡ next_after (opens_fetch found.finding) old.next → fetches ≡ opened_for (opens_fetch found.finding) old.next caller query.key old.fetches → answer.told ≡ reply_of old.next found.finding → answer.kept ≡ reply_of old.next found.finding → rounds ≡ with_wait caller (wait_in answer.told) old.rounds → Answers old (record old { moment = now; next = next; objects = held_all bans later; fetches = fetches; rounds = rounds }) now (Lookup query) (told_so old now caller query.key (Some found)) answer
-looks old bans objects later fetches rounds next now caller query found answer kept_ counts follows opens told kept runs =
+pub looks : (old : State) (issued : ℕ) (bans : List Issued) (objects later : List StoredObject) (fetches : List OpenFetch) (rounds : List OpenRound) (next now caller : ℕ) (query : Query) (found : Found) (answer : Answer) → AreFalling (issued + 1) bans → old.objects ≡ held_all bans objects → later ≡ touching_in old.entries (marker_in found.finding) (counting_in old.entries (hit_in found.finding) (settled issued found.fates objects)) → next ≡ next_after (opens_fetch found.finding) old.next → fetches ≡ opened_for (opens_fetch found.finding) old.next caller query.key old.fetches → answer.told ≡ reply_of old.next found.finding → answer.kept ≡ reply_of old.next found.finding → rounds ≡ with_wait caller (wait_in answer.told) old.rounds → Answers old (record old { moment = now; next = next; objects = held_all bans later; fetches = fetches; rounds = rounds }) now (Lookup query) (told_so old now caller query.key (Some found)) answer
+looks old issued bans objects later fetches rounds next now caller query found answer falling kept_ counts follows opens told kept runs =
     subst (λ (n : ℕ). Answers old (record old { moment = now; next = n; objects = held_all bans later; fetches = fetches; rounds = rounds }) now (Lookup query) (told_so old now caller query.key (Some found)) answer) (sym follows)
     (by_parts old now (Lookup query) _ (reply_of old.next found.finding) (next_after (opens_fetch found.finding) old.next) (held_all bans later) _ fetches _ rounds _ answer refl refl (no_refusal old.next found.finding)
-    (used_left now old.entries bans found.fates objects later found.finding counts
+    (used_left now old.entries issued bans found.fates objects later found.finding falling counts
     ∙ ap (λ (o : List Held). those_in_time now (used_for old.entries found.finding (those_in_time now (settled_held found.fates o)))) (sym kept_))
     opens (runs ∙ ap (λ (r : Reply). with_wait caller (wait_in r) old.rounds) told) told kept)
 
 -- a ban is issued
-pub bans_so : (old : State) (objects later : List StoredObject) (all : List Issued) (issued : Issued) (ban : Ban) (fates : List Fate) (count now : ℕ) (answer : Answer) → old.objects ≡ held_all old.bans objects → old.issued ≡ length old.bans → AreTested old.bans objects → issued ≡ issued_behind old.issued now ban → all ≡ issued ∷ old.bans → fates ≡ ban_fates now ban objects → count ≡ length all → later ≡ settled count fates objects → answer.told ≡ Banned → answer.kept ≡ Banned → Answers old (record old { moment = now; issued = length all; bans = all; objects = held_all all later }) now (BanCall ban) (banned (at_moment now old) ban) answer
-bans_so old objects later all issued ban fates count now answer kept_ many tested is_ pushed are counts settles told kept =
+pub bans_so : (old : State) (objects later : List StoredObject) (all : List Issued) (issued : Issued) (ban : Ban) (fates : List Fate) (count now : ℕ) (answer : Answer) → old.objects ≡ held_all old.bans objects → AreTested old.issued objects → issued ≡ issued_behind old.issued now ban → all ≡ issued ∷ old.bans → fates ≡ ban_fates now ban objects → count ≡ old.issued + 1 → later ≡ settled count fates objects → answer.told ≡ Banned → answer.kept ≡ Banned → Answers old (record old { moment = now; issued = count; bans = all; objects = held_all all later }) now (BanCall ban) (banned (at_moment now old) ban) answer
+bans_so old objects later all issued ban fates count now answer kept_ tested is_ pushed are counts settles told kept =
     let one : Issued = issued_behind old.issued now ban in
-    let more : length all ≡ old.issued + 1 = omega (arith, many, ap length pushed) in
-    let left : later ≡ settled (length (one ∷ old.bans)) (ban_fates now ban objects) objects =
-    settles ∙ ap (λ (f : List Fate). settled count f objects) are ∙ ap (λ (n : ℕ). settled n (ban_fates now ban objects) objects) (counts ∙ ap length (pushed ∙ ap (λ (i : Issued). i ∷ old.bans) is_)) in
-    let whole : held_all all later ≡ held_all (one ∷ old.bans) (settled (length (one ∷ old.bans)) (ban_fates now ban objects) objects) =
-    ap (λ (b : List Issued). held_all b later) (pushed ∙ ap (λ (i : Issued). i ∷ old.bans) is_) ∙ ap (held_all (one ∷ old.bans)) left in
-    let over = bans_over now one old.bans objects refl tested in
-    by_law old (record old { moment = now; issued = length all; bans = all; objects = held_all all later }) now (BanCall ban) _ Banned
+    let pushes : all ≡ one ∷ old.bans = pushed ∙ ap (λ (i : Issued). i ∷ old.bans) is_ in
+    let left : later ≡ settled count (ban_fates now ban objects) objects = settles ∙ ap (λ (f : List Fate). settled count f objects) are in
+    let whole : held_all all later ≡ held_all (one ∷ old.bans) (settled count (ban_fates now ban objects) objects) =
+    ap (λ (b : List Issued). held_all b later) pushes ∙ ap (held_all (one ∷ old.bans)) left in
+    let before_ : AreBefore one objects = all-weaken (λ (k : StoredObject). k.tested ≤ old.issued) (λ (k : StoredObject). k.tested < one.number) (λ k less. omega (arith, less)) objects tested in
+    let over = bans_over now count one old.bans objects refl before_ in
+    by_law old (record old { moment = now; issued = count; bans = all; objects = held_all all later }) now (BanCall ban) _ Banned
     (record old { moment = now; issued = old.issued + 1; bans = one ∷ old.bans; objects = ban_over one (those_in_time now old.objects) }) answer refl refl refl refl
-    (ap (λ (n : ℕ). record old { moment = now; issued = n; bans = all; objects = those_in_time now (held_all all later) }) more
-    ∙ ap (λ (b : List Issued). record old { moment = now; issued = old.issued + 1; bans = b; objects = those_in_time now (held_all all later) }) (pushed ∙ ap (λ (i : Issued). i ∷ old.bans) is_)
+    (ap (λ (n : ℕ). record old { moment = now; issued = n; bans = all; objects = those_in_time now (held_all all later) }) counts
+    ∙ ap (λ (b : List Issued). record old { moment = now; issued = old.issued + 1; bans = b; objects = those_in_time now (held_all all later) }) pushes
     ∙ ap (λ (o : List Held). record old { moment = now; issued = old.issued + 1; bans = one ∷ old.bans; objects = o })
     (ap (those_in_time now) whole
-    ∙ sym (once now (held_all (one ∷ old.bans) (settled (length (one ∷ old.bans)) (ban_fates now ban objects) objects)))
+    ∙ sym (once now (held_all (one ∷ old.bans) (settled count (ban_fates now ban objects) objects)))
     ∙ ap (those_in_time now) (over ∙ ap (λ (o : List Held). ban_over one (those_in_time now o)) (sym kept_)))) told kept
 
 -- the bans are listed
@@ -236,6 +238,7 @@ pub record Insertion : Type 0 where
   pub object : Object
   pub stale : Option ℕ
   pub fetches : List OpenFetch
+  pub falling : AreFalling (old.issued + 1) old.bans
   pub kept : old.objects ≡ held_all old.bans views
   pub opened : has_fetch old.fetches caller token ≡ true
   pub here : is_gone stale (those_in_time now old.objects) ≡ false
@@ -276,17 +279,17 @@ no_room i answer lives full told kept =
     (by_fetch i.room i.old i.now i.caller i.token i.object i.stale _ i.opened i.here (cond-true _ _ _ lives ∙ cond-true _ _ _ full_)) refl (same_left i) i.closed told kept
 
 -- the new object before those that stay
-put_first : (i : Insertion) (bound : ℕ) (later : List StoredObject) → MakesRoom i.room (size_of i.object) i.stale i.left bound → later ≡ first_of i.old.entries i.token i.object i.stale (length i.old.bans) i.left ∷ filter (stays_from i.stale bound) i.left
+put_first : (i : Insertion) (bound : ℕ) (later : List StoredObject) → MakesRoom i.room (size_of i.object) i.stale i.left bound → later ≡ first_of i.old.entries i.token i.object i.stale i.old.issued i.left ∷ filter (stays_from i.stale bound) i.left
     → kept_all i later ≡ stored_over i.room i.old.entries i.token i.object i.stale (those_in_time i.now i.old.objects)
 put_first i bound later makes first =
     let view : ObjectView = record { number = i.token; hits = 0; object = i.object } in
     ap (kept_all i) first
-    ∙ ap (λ (rest : List Held). held_of i.old.bans (first_of i.old.entries i.token i.object i.stale (length i.old.bans) i.left) ∷ rest) (stay_so i.old.bans i.room (size_of i.object) i.stale i.left bound makes)
-    ∙ ap (λ pending. record { view = view; used = i.old.entries; pending = pending } ∷ staying i.room (size_of i.object) (without_stale i.stale (kept_all i i.left))) (inherits i.old.bans i.stale i.left)
+    ∙ ap (λ (rest : List Held). held_of i.old.bans (first_of i.old.entries i.token i.object i.stale i.old.issued i.left) ∷ rest) (stay_so i.old.bans i.room (size_of i.object) i.stale i.left bound makes)
+    ∙ ap (λ pending. record { view = view; used = i.old.entries; pending = pending } ∷ staying i.room (size_of i.object) (without_stale i.stale (kept_all i i.left))) (inherits i.old.issued i.old.bans i.stale i.left i.falling)
     ∙ ap (stored_over i.room i.old.entries i.token i.object i.stale) (left_in_time i)
 
 pub stores : (i : Insertion) (bound : ℕ) (later : List StoredObject) (answer : Answer) → in_time i.now i.object ≡ true → MakesRoom i.room (size_of i.object) i.stale i.left bound
-    → later ≡ first_of i.old.entries i.token i.object i.stale (length i.old.bans) i.left ∷ filter (stays_from i.stale bound) i.left → answer.told ≡ Stored i.token → answer.kept ≡ Stored i.token → Gives i later answer
+    → later ≡ first_of i.old.entries i.token i.object i.stale i.old.issued i.left ∷ filter (stays_from i.stale bound) i.left → answer.told ≡ Stored i.token → answer.kept ≡ Stored i.token → Gives i later answer
 stores i bound later answer lives makes first told kept =
     let fits_ : has_no_room i.room (size_of i.object) (without_stale i.stale (those_in_time i.now i.old.objects)) ≡ false =
     ap (λ (o : List Held). has_no_room i.room (size_of i.object) (without_stale i.stale o)) (sym (left_in_time i)) ∙ room_so i.old.bans i.room (size_of i.object) i.stale i.left bound makes in

@@ -11,6 +11,7 @@ use Rattle.cache_law.specs.declared.call.RequestView.{RequestView}
 use Rattle.cache_law.specs.Object.{in_time, key_of, same_texts, can_confirm}
 use Rattle.cache_law.specs.Bans.{meets}
 use Rattle.cache_law.specs.BansAtOnce.{cleared, is_met}
+use Rattle.cache_law.specs.Bases.{AreFalling}
 use Rattle.cache_law.specs.State.{Held, those_in_time}
 use Rattle.cache_law.specs.Lookup.{Scan, scanned, is_chosen_by, is_fresh, is_in_grace, ending, passing, seeing as going_on}
 use Rattle.flat_core.specs.declared.stored_object.StoredObject.{StoredObject}
@@ -19,7 +20,7 @@ use Rattle.flat_core.specs.declared.stored_object.Fate.TheVariants.{Stays, Teste
 use Rattle.flat_core.specs.declared.matching.LookupMatch.{LookupMatch}
 use Rattle.flat_core.specs.declared.matching.LookupMatch.TheVariants.{Other, Banned, Unfit, Aged, Fresh}
 use Rattle.flat_core.specs.declared.scan.Seen.{Seen}
-use Rattle.flat_core.specs.StoredObject.{is_waiting, held_of, held_all, held_left, settled_held}
+use Rattle.flat_core.specs.StoredObject.{is_waiting, since, held_of, held_all, held_left, settled_held}
 use Rattle.flat_core.specs.Scans.{is_struck, is_end, nothing_seen, seeing, seen_all, sight_of, joined}
 use Rattle.flat_core.proofs.Objects.{none_waits}
 use Rattle.flat_core.proofs.Passes.{drop_one, drop_all}
@@ -34,11 +35,11 @@ any-waiting object request [] = refl
 any-waiting object request (issued ∷ bans) = any_one (is_waiting issued) _ _ (meets object request) issued (any-waiting object request bans)
 
 -- an object that was tested on all bans is left as it is once it was tested on all
-all_tested : (bans : List Issued) (done : Bool) (kept : StoredObject) (rest : List Held) → (kept.tested == length bans) ≡ done → held_left (cond done Stays Tested) (held_of bans kept) ++ rest ≡ cleared (held_of bans kept) ∷ rest
-all_tested bans true kept rest e =
-    let same : kept.tested ≡ length bans = eqb-true _ _ e in
-    rw (same, none_waits bans) refl
-all_tested bans false kept rest e = refl
+all_tested : (issued : ℕ) (bans : List Issued) (done : Bool) (kept : StoredObject) (rest : List Held) → AreFalling (issued + 1) bans → (kept.tested == issued) ≡ done → held_left (cond done Stays Tested) (held_of bans kept) ++ rest ≡ cleared (held_of bans kept) ∷ rest
+all_tested issued bans true kept rest falling e =
+    let same : kept.tested ≡ issued = eqb-true _ _ e in
+    rw (same, none_waits issued bans falling) refl
+all_tested issued bans false kept rest falling e = refl
 
 -- the law's scan, by what was seen
 abbrev pub as_scan : ℕ → List Held → Seen → Scan Held
@@ -63,28 +64,28 @@ law_scan now query held rest false = refl
 abbrev sight_by : Bool → Bool → Bool → Bool → Bool → LookupMatch
 sight_by lives ours met chosen fresh = cond (lives && ours) (cond met Banned (cond chosen (cond fresh Fresh Aged) Unfit)) Other
 
-one_seen : (now : ℕ) (query : Query) (bans : List Issued) (kept : StoredObject) (hs : List Held) (scan : Scan Held) (later : Seen) (lives ours met chosen fresh : Bool)
+one_seen : (now : ℕ) (query : Query) (issued : ℕ) (bans : List Issued) (kept : StoredObject) (hs : List Held) (scan : Scan Held) (later : Seen) (lives ours met chosen fresh : Bool) → AreFalling (issued + 1) bans
     → in_time now kept.view.object ≡ lives → scan ≡ as_scan now hs later
-    → law_one now query (held_of bans kept) (those_in_time now hs) scan lives ours met chosen fresh ≡ as_scan now (held_of bans kept ∷ hs) (seeing now query (length bans) (sight_by lives ours met chosen fresh) kept later)
-one_seen now query bans kept hs scan later false ours met chosen fresh e ih = rw (e, ih) refl
-one_seen now query bans kept hs scan later true false met chosen fresh e ih = rw (e, ih) refl
-one_seen now query bans kept hs scan later true true true chosen fresh e ih = ih
-one_seen now query bans kept hs scan later true true false false fresh e ih =
-    rw (all_tested bans (kept.tested == length bans) kept (settled_held later.fates hs) refl, e, ih) refl
-one_seen now query bans kept hs scan later true true false true false e ih =
-    rw (all_tested bans (kept.tested == length bans) kept (settled_held later.fates hs) refl, e, ih) refl
-one_seen now query bans kept hs scan later true true false true true e ih =
-    rw (all_tested bans (kept.tested == length bans) kept hs refl, e) refl
+    → law_one now query (held_of bans kept) (those_in_time now hs) scan lives ours met chosen fresh ≡ as_scan now (held_of bans kept ∷ hs) (seeing now query issued (sight_by lives ours met chosen fresh) kept later)
+one_seen now query issued bans kept hs scan later false ours met chosen fresh falling e ih = rw (e, ih) refl
+one_seen now query issued bans kept hs scan later true false met chosen fresh falling e ih = rw (e, ih) refl
+one_seen now query issued bans kept hs scan later true true true chosen fresh falling e ih = ih
+one_seen now query issued bans kept hs scan later true true false false fresh falling e ih =
+    rw (all_tested issued bans (kept.tested == issued) kept (settled_held later.fates hs) falling refl, e, ih) refl
+one_seen now query issued bans kept hs scan later true true false true false falling e ih =
+    rw (all_tested issued bans (kept.tested == issued) kept (settled_held later.fates hs) falling refl, e, ih) refl
+one_seen now query issued bans kept hs scan later true true false true true falling e ih =
+    rw (all_tested issued bans (kept.tested == issued) kept hs falling refl, e) refl
 
 -- the scan of the objects that are in time finds what was seen in memory, and leaves what the fates leave
-pub scans : (now : ℕ) (query : Query) (bans : List Issued) (objects : List StoredObject) → scanned now query (those_in_time now (held_all bans objects)) ≡ as_scan now (held_all bans objects) (seen_all now query bans objects)
-scans now query bans [] = refl
-scans now query bans (kept ∷ objects) =
+pub scans : (now : ℕ) (query : Query) (issued : ℕ) (bans : List Issued) (objects : List StoredObject) → AreFalling (issued + 1) bans → scanned now query (those_in_time now (held_all bans objects)) ≡ as_scan now (held_all bans objects) (seen_all now query issued bans objects)
+scans now query issued bans [] falling = refl
+scans now query issued bans (kept ∷ objects) falling =
     let object : Object = kept.view.object in
-    let met = any-waiting object query.request (take (length bans - kept.tested) bans) in
+    let met = any-waiting object query.request (since kept.tested bans) in
     law_scan now query (held_of bans kept) (those_in_time now (held_all bans objects)) (in_time now object)
-    ∙ one_seen now query bans kept (held_all bans objects) _ (seen_all now query bans objects) (in_time now object) (same_texts (key_of object) query.key) (is_met query.request (held_of bans kept)) (is_chosen_by query object) (is_fresh now query.options object) refl (scans now query bans objects)
-    ∙ ap (λ (b : Bool). as_scan now (held_of bans kept ∷ held_all bans objects) (seeing now query (length bans) (sight_by (in_time now object) (same_texts (key_of object) query.key) b (is_chosen_by query object) (is_fresh now query.options object)) kept (seen_all now query bans objects))) met
+    ∙ one_seen now query issued bans kept (held_all bans objects) _ (seen_all now query issued bans objects) (in_time now object) (same_texts (key_of object) query.key) (is_met query.request (held_of bans kept)) (is_chosen_by query object) (is_fresh now query.options object) falling refl (scans now query issued bans objects falling)
+    ∙ ap (λ (b : Bool). as_scan now (held_of bans kept ∷ held_all bans objects) (seeing now query issued (sight_by (in_time now object) (same_texts (key_of object) query.key) b (is_chosen_by query object) (is_fresh now query.options object)) kept (seen_all now query issued bans objects))) met
 
 or_none : (o : Option ObjectView) → option_or o None ≡ o
 or_none None = refl
@@ -126,25 +127,25 @@ still_open now query count Aged kept e = refl
 still_open now query count Fresh kept e = cc
 
 -- the scan so far, and what it sees behind
-pub record SeenSo (now : ℕ) (query : Query) (bans : List Issued) (objects : List StoredObject) (place : ℕ) (seen : Seen) : Type 0 where
-  pub whole : seen_all now query bans objects ≡ joined seen (seen_all now query bans (drop place objects))
+pub record SeenSo (now : ℕ) (query : Query) (issued : ℕ) (bans : List Issued) (objects : List StoredObject) (place : ℕ) (seen : Seen) : Type 0 where
+  pub whole : seen_all now query issued bans objects ≡ joined seen (seen_all now query issued bans (drop place objects))
   pub open_ : seen.fresh ≡ None
 
-next_whole : (now : ℕ) (query : Query) (bans : List Issued) (objects : List StoredObject) (place : ℕ) (seen : Seen) (kept : StoredObject) → place < length objects → SeenSo now query bans objects place seen → kept ≡ get_or objects place kept → seen_all now query bans objects ≡ joined seen (seeing now query (length bans) (sight_of now query bans kept) kept (seen_all now query bans (drop (place + 1) objects)))
-next_whole now query bans objects place seen kept below so at_ =
+next_whole : (now : ℕ) (query : Query) (issued : ℕ) (bans : List Issued) (objects : List StoredObject) (place : ℕ) (seen : Seen) (kept : StoredObject) → place < length objects → SeenSo now query issued bans objects place seen → kept ≡ get_or objects place kept → seen_all now query issued bans objects ≡ joined seen (seeing now query issued (sight_of now query bans kept) kept (seen_all now query issued bans (drop (place + 1) objects)))
+next_whole now query issued bans objects place seen kept below so at_ =
     so.whole
-    ∙ ap (λ (rest : List StoredObject). joined seen (seen_all now query bans rest)) (drop_one objects place kept below at_)
+    ∙ ap (λ (rest : List StoredObject). joined seen (seen_all now query issued bans rest)) (drop_one objects place kept below at_)
 
-pub see_more : (now : ℕ) (query : Query) (bans : List Issued) (objects : List StoredObject) (place : ℕ) (seen new : Seen) (sight : LookupMatch) (kept : StoredObject) → place < length objects → SeenSo now query bans objects place seen → kept ≡ get_or objects place kept → sight ≡ sight_of now query bans kept → is_end sight ≡ false → new ≡ joined seen (seeing now query (length bans) sight kept nothing_seen) → SeenSo now query bans objects (place + 1) new
-see_more now query bans objects place seen new sight kept below so at_ sees goes is_ =
-    let later : Seen = seen_all now query bans (drop (place + 1) objects) in
+pub see_more : (now : ℕ) (query : Query) (issued : ℕ) (bans : List Issued) (objects : List StoredObject) (place : ℕ) (seen new : Seen) (sight : LookupMatch) (kept : StoredObject) → place < length objects → SeenSo now query issued bans objects place seen → kept ≡ get_or objects place kept → sight ≡ sight_of now query bans kept → is_end sight ≡ false → new ≡ joined seen (seeing now query issued sight kept nothing_seen) → SeenSo now query issued bans objects (place + 1) new
+see_more now query issued bans objects place seen new sight kept below so at_ sees goes is_ =
+    let later : Seen = seen_all now query issued bans (drop (place + 1) objects) in
     record {
-      whole = next_whole now query bans objects place seen kept below so at_
-          ∙ ap (λ (s : LookupMatch). joined seen (seeing now query (length bans) s kept later)) (sym sees)
-          ∙ ap (joined seen) (goes_on now query (length bans) sight kept later goes)
-          ∙ sym (joined_joined seen (seeing now query (length bans) sight kept nothing_seen) later)
+      whole = next_whole now query issued bans objects place seen kept below so at_
+          ∙ ap (λ (s : LookupMatch). joined seen (seeing now query issued s kept later)) (sym sees)
+          ∙ ap (joined seen) (goes_on now query issued sight kept later goes)
+          ∙ sym (joined_joined seen (seeing now query issued sight kept nothing_seen) later)
           ∙ ap (λ (s : Seen). joined s later) (sym is_);
-      open_ = ap (λ (s : Seen). s.fresh) is_ ∙ rw (so.open_) (still_open now query (length bans) sight kept goes);
+      open_ = ap (λ (s : Seen). s.fresh) is_ ∙ rw (so.open_) (still_open now query issued sight kept goes);
     }
 
 ends_there : (now : ℕ) (query : Query) (count : ℕ) (sight : LookupMatch) (kept : StoredObject) (later : Seen) → is_end sight ≡ true → seeing now query count sight kept later ≡ seeing now query count sight kept nothing_seen
@@ -154,16 +155,16 @@ ends_there now query count Unfit kept later e = cc
 ends_there now query count Aged kept later e = cc
 ends_there now query count Fresh kept later e = refl
 
-pub see_end : (now : ℕ) (query : Query) (bans : List Issued) (objects : List StoredObject) (place : ℕ) (seen new : Seen) (sight : LookupMatch) (kept : StoredObject) → place < length objects → SeenSo now query bans objects place seen → kept ≡ get_or objects place kept → sight ≡ sight_of now query bans kept → is_end sight ≡ true → new ≡ joined seen (seeing now query (length bans) sight kept nothing_seen) → new ≡ seen_all now query bans objects
-see_end now query bans objects place seen new sight kept below so at_ sees ends is_ =
-    let later : Seen = seen_all now query bans (drop (place + 1) objects) in
+pub see_end : (now : ℕ) (query : Query) (issued : ℕ) (bans : List Issued) (objects : List StoredObject) (place : ℕ) (seen new : Seen) (sight : LookupMatch) (kept : StoredObject) → place < length objects → SeenSo now query issued bans objects place seen → kept ≡ get_or objects place kept → sight ≡ sight_of now query bans kept → is_end sight ≡ true → new ≡ joined seen (seeing now query issued sight kept nothing_seen) → new ≡ seen_all now query issued bans objects
+see_end now query issued bans objects place seen new sight kept below so at_ sees ends is_ =
+    let later : Seen = seen_all now query issued bans (drop (place + 1) objects) in
     is_
-    ∙ ap (joined seen) (sym (ends_there now query (length bans) sight kept later ends))
-    ∙ ap (λ (s : LookupMatch). joined seen (seeing now query (length bans) s kept later)) sees
-    ∙ sym (next_whole now query bans objects place seen kept below so at_)
+    ∙ ap (joined seen) (sym (ends_there now query issued sight kept later ends))
+    ∙ ap (λ (s : LookupMatch). joined seen (seeing now query issued s kept later)) sees
+    ∙ sym (next_whole now query issued bans objects place seen kept below so at_)
 
-pub seen_whole : (now : ℕ) (query : Query) (bans : List Issued) (objects : List StoredObject) (place : ℕ) (seen : Seen) → place ≡ length objects → SeenSo now query bans objects place seen → seen ≡ seen_all now query bans objects
-seen_whole now query bans objects place seen end_ so =
+pub seen_whole : (now : ℕ) (query : Query) (issued : ℕ) (bans : List Issued) (objects : List StoredObject) (place : ℕ) (seen : Seen) → place ≡ length objects → SeenSo now query issued bans objects place seen → seen ≡ seen_all now query issued bans objects
+seen_whole now query issued bans objects place seen end_ so =
     sym (joined_nothing seen)
-    ∙ ap (λ (rest : List StoredObject). joined seen (seen_all now query bans rest)) (sym (drop_all objects place end_))
+    ∙ ap (λ (rest : List StoredObject). joined seen (seen_all now query issued bans rest)) (sym (drop_all objects place end_))
     ∙ sym so.whole

@@ -11,11 +11,13 @@ use Rattle.cache_law.specs.declared.state.OpenFetch.{OpenFetch}
 use Rattle.cache_law.specs.State.{State, at_moment, as_seen, reserve, has_round, has_fetch, without_fetch}
 use Rattle.cache_law.specs.Beginning.{Beginning}
 use Rattle.cache_law.specs.Law.{step_of, answered, after, behind, refused, MayAnswer}
-use Rattle.cache_law.specs.History.{HasWaited, bytes_of, is_numbered, next_state, reached, Legal}
+use Rattle.cache_law.specs.declared.setting.Params.{Params}
+use Rattle.cache_law.specs.History.{HasWaited, Legal, bytes_of, is_numbered, most_entries, next_state, reached}
 use Rattle.cache_law.specs.Core.{Entered, FitsBehind, entry_of, moment_of, is_kept}
 use Rattle.cache_law.proofs.Growth.{after_grows}
 use Rattle.cache_law.proofs.Histories.{reached-push, bytes_of_all-push, Legal-push}
 use Rattle.cache_law.proofs.Moments.{at_moment-later}
+use Rattle.cache_law.proofs.Sound.{sound_from}
 use Rattle.cache_law.proofs.Reserve.{reserve-after, ending_takes, dropping_takes, length-without_fetch}
 use Rattle.flat_core.specs.declared.answer.Answer.{Answer}
 use Rattle.flat_core.specs.Found.{is_insertion}
@@ -38,7 +40,7 @@ pub record Made : Type 0 where
   pub sound : Sound beginning entries room used old
   pub waited : HasWaited (reached beginning entries) caller call
   pub at_ : moment ≡ max old.moment reading
-  pub reserves : 64 * opens ≡ reserve (step_of beginning old caller moment call).state
+  pub reserves : 64 * opens ≡ reserve (step_of beginning.params old caller moment call).state
 
 -- the state that the entries reach
 abbrev pub before : Made → State
@@ -58,12 +60,15 @@ same_state made =
     ∙ ap (at_moment made.moment) made.sound.reaches
     ∙ at_moment-later (before made).moment made.moment (omega (arith, made.at_, same_moment made)) (before made)
 
-same_reserve : (made : Made) → reserve (step_of made.beginning made.old made.caller made.moment made.call).state ≡ reserve (step_of made.beginning (before made) made.caller made.moment made.call).state
+same_reserve : (made : Made) → reserve (step_of made.beginning.params made.old made.caller made.moment made.call).state ≡ reserve (step_of made.beginning.params (before made) made.caller made.moment made.call).state
 same_reserve made = ap (λ (s : State). reserve (answered made.beginning.params.room s made.caller made.call).state) (same_state made)
 
+same_entries : (made : Made) → made.old.entries ≡ (before made).entries
+same_entries made = ap (λ (s : State). s.entries) made.sound.reaches
+
 -- within the limit is what fits, and what fits is within the limit
-pub fits_behind : (made : Made) → is_numbered (step_of made.beginning made.old made.caller made.moment made.call).reply ≡ true → made.used + bytes_of made.call + 64 * made.opens ≤ made.beginning.params.history → FitsBehind made.beginning made.entries made.caller made.moment made.call
-fits_behind made number h = record { number = ap (λ (s : State). is_numbered (answered made.beginning.params.room s made.caller made.call).reply) (sym (same_state made)) ∙ number; within = omega (arith, h, made.sound.counts, made.reserves, same_reserve made) }
+pub fits_behind : (made : Made) → is_numbered (step_of made.beginning.params made.old made.caller made.moment made.call).reply ≡ true → made.used + bytes_of made.call + 64 * made.opens ≤ made.beginning.params.history → made.old.entries + 1 + made.opens ≤ most_entries → FitsBehind made.beginning made.entries made.caller made.moment made.call
+fits_behind made number h few = record { counted = omega (arith, few, made.reserves, same_reserve made, same_entries made); number = ap (λ (s : State). is_numbered (answered made.beginning.params.room s made.caller made.call).reply) (sym (same_state made)) ∙ number; within = omega (arith, h, made.sound.counts, made.reserves, same_reserve made) }
 
 pub within_limit : (made : Made) → FitsBehind made.beginning made.entries made.caller (moment_of made.beginning made.entries made.reading) made.call → made.used + bytes_of made.call + 64 * made.opens ≤ made.beginning.params.history
 within_limit made fits =
@@ -71,8 +76,15 @@ within_limit made fits =
     let fits_ : FitsBehind made.beginning made.entries made.caller made.moment made.call = subst (λ (m : ℕ). FitsBehind made.beginning made.entries made.caller m made.call) at_ fits in
     omega (arith, fits_.within, made.sound.counts, made.reserves, same_reserve made)
 
+-- and a run's entries are few enough
+pub few_behind : (made : Made) → FitsBehind made.beginning made.entries made.caller (moment_of made.beginning made.entries made.reading) made.call → made.old.entries + 1 + made.opens ≤ most_entries
+few_behind made fits =
+    let at_ : moment_of made.beginning made.entries made.reading ≡ made.moment = ap (λ (m : ℕ). max m made.reading) (sym (same_moment made)) ∙ sym made.at_ in
+    let fits_ : FitsBehind made.beginning made.entries made.caller made.moment made.call = subst (λ (m : ℕ). FitsBehind made.beginning made.entries made.caller m made.call) at_ fits in
+    omega (arith, fits_.counted, made.reserves, same_reserve made, same_entries made)
+
 -- what fits has a number of 32 bits
-pub numbered_behind : (made : Made) → FitsBehind made.beginning made.entries made.caller (moment_of made.beginning made.entries made.reading) made.call → is_numbered (step_of made.beginning made.old made.caller made.moment made.call).reply ≡ true
+pub numbered_behind : (made : Made) → FitsBehind made.beginning made.entries made.caller (moment_of made.beginning made.entries made.reading) made.call → is_numbered (step_of made.beginning.params made.old made.caller made.moment made.call).reply ≡ true
 numbered_behind made fits =
     let at_ : moment_of made.beginning made.entries made.reading ≡ made.moment = ap (λ (m : ℕ). max m made.reading) (sym (same_moment made)) ∙ sym made.at_ in
     let fits_ : FitsBehind made.beginning made.entries made.caller made.moment made.call = subst (λ (m : ℕ). FitsBehind made.beginning made.entries made.caller m made.call) at_ fits in
@@ -82,49 +94,53 @@ numbered_behind made fits =
 pub record Answered (made : Made) : Type 0 where
   pub new : State
   pub answer : Answer
-  pub answers : Answers made.old new made.moment made.call (step_of made.beginning made.old made.caller made.moment made.call) answer
-  pub number : is_numbered (step_of made.beginning made.old made.caller made.moment made.call).reply ≡ true
+  pub answers : Answers made.old new made.moment made.call (step_of made.beginning.params made.old made.caller made.moment made.call) answer
+  pub number : is_numbered (step_of made.beginning.params made.old made.caller made.moment made.call).reply ≡ true
   pub within : made.used + bytes_of made.call + 64 * made.opens ≤ made.beginning.params.history
+  pub few : made.old.entries + 1 + made.opens ≤ most_entries
 
-same_after : (made : Made) (reply : Reply) → after made.beginning made.old made.caller made.moment made.call reply ≡ after made.beginning (before made) made.caller made.moment made.call reply
+same_after : (made : Made) (reply : Reply) → after made.beginning.params made.old made.caller made.moment made.call reply ≡ after made.beginning.params (before made) made.caller made.moment made.call reply
 same_after made reply =
     ap (λ (s : State). record (behind reply (refused s made.call) (answered made.beginning.params.room s made.caller made.call).state) { entries = s.entries + 1 }) (same_state made)
 
 -- what is kept once the answer's entry is counted
 abbrev pub counted : (made : Made) → Answered made → State
-counted made done = record done.new { entries = length made.entries + 1 }
+counted made done = record done.new { entries = made.old.entries + 1 }
 
 -- what is kept behind the answer is the state that the entries and the answer's reach
 reaches_behind : (made : Made) (done : Answered made) → as_seen (counted made done) ≡ as_seen (reached made.beginning (made.entries ++ entry_with made done.answer.kept ∷ []))
 reaches_behind made done =
     let told = done.answer.told in
-    let left : State = after made.beginning (before made) made.caller made.moment made.call told in
-    let moment : left.moment ≡ made.moment = (after_grows made.beginning (before made) made.caller made.moment made.call told).moment in
-    let count : length made.entries + 1 ≡ made.old.entries + 1 = omega (arith, made.sound.counted) in
+    let left : State = after made.beginning.params (before made) made.caller made.moment made.call told in
+    let moment : left.moment ≡ made.moment = (after_grows made.beginning.params (before made) made.caller made.moment made.call told).moment in
     ap (λ (m : ℕ). at_moment m (counted made done)) done.answers.moment
-    ∙ ap (λ (s : State). record s { entries = length made.entries + 1 }) done.answers.leaves
-    ∙ ap (λ (n : ℕ). at_moment made.moment (record (behind told (refused (at_moment made.moment made.old) made.call) (step_of made.beginning made.old made.caller made.moment made.call).state) { entries = n })) count
+    ∙ ap (λ (s : State). record s { entries = made.old.entries + 1 }) done.answers.leaves
     ∙ ap (at_moment made.moment) (same_after made told)
     ∙ ap (λ (m : ℕ). at_moment m left) (sym moment)
-    ∙ ap (λ (r : Reply). as_seen (next_state made.beginning (before made) (entry_with made r))) (sym done.answers.twice)
+    ∙ ap (λ (r : Reply). as_seen (next_state made.beginning.params (before made) (entry_with made r))) (sym done.answers.twice)
     ∙ ap as_seen (sym (reached-push made.beginning made.entries (entry_with made done.answer.kept)))
 
 -- what is reserved behind the answer is at most what the call had to fit with
 reserve_left : (made : Made) (done : Answered made) → reserve done.new ≤ 64 * made.opens
 reserve_left made done =
-    let least = reserve-after made.beginning made.old made.caller made.moment made.call done.answer.told done.answers.allows in
+    let least = reserve-after made.beginning.params made.old made.caller made.moment made.call done.answer.told done.answers.allows in
     omega (arith, least, made.reserves, ap reserve done.answers.leaves)
 
 pub sound_behind : (made : Made) (done : Answered made) (larger : ℕ) → length made.entries + 1 + length done.new.rounds + length done.new.fetches ≤ larger → Sound made.beginning (made.entries ++ entry_with made done.answer.kept ∷ []) larger (made.used + bytes_of made.call) (counted made done)
 sound_behind made done larger room_ =
     let entry : Entry = entry_with made done.answer.kept in
     let left = reserve_left made done in
+    let next : State = reached made.beginning (made.entries ++ entry ∷ []) in
+    let sound = sound_from made.beginning.params made.beginning.base (made.entries ++ entry ∷ []) made.sound.base.sound in
+    let there = reaches_behind made done in
     record {
-      reaches = reaches_behind made done;
+      base = made.sound.base;
+      reaches = there;
       counts = omega (arith, made.sound.counts, bytes_of_all-push made.entries entry);
-      counted = omega (arith, length-append made.entries (entry ∷ []));
       within = omega (arith, done.within, left);
-      numbers = omega (arith, ap (λ (s : State). s.next) done.answers.leaves, (after_grows made.beginning made.old made.caller made.moment made.call done.answer.told).next, made.sound.numbers, length-append made.entries (entry ∷ []));
+      counted = omega (arith, done.few, left);
+      numbers = omega (arith, sound.drew, ap (λ (s : State). s.next) there, ap (λ (s : State). s.entries) there);
+      issues = omega (arith, sound.issued, ap (λ (s : State). s.issued) there, ap (λ (s : State). s.entries) there);
       reserved = omega (arith, room_, length-append made.entries (entry ∷ []));
     }
 
@@ -139,7 +155,7 @@ entered made done place last =
         waited = made.waited;
         answer = subst (λ (s : State). MayAnswer s made.call (answered made.beginning.params.room s made.caller made.call).reply done.answer.told) (same_state made) done.answers.allows;
       };
-      fits = fits_behind made done.number done.within;
+      fits = fits_behind made done.number done.within done.few;
     }
 
 -- an entry that joined a legal history leaves it legal
@@ -161,8 +177,8 @@ kept_too beginning entries room used state sound caller call kept = ap (λ (s : 
 -- what an answer leaves reserves no more than the law's answer
 pub answer_reserves : (room : ℕ) (old new : State) (caller moment : ℕ) (call : Call) (answer : Answer) → Answers old new moment call (answered room (at_moment moment old) caller call) answer → reserve new ≤ reserve (answered room (at_moment moment old) caller call).state
 answer_reserves room old new caller moment call answer answers =
-    let beginning : Beginning = record { params = record { room = room; history = 0 }; base = old } in
-    let least = reserve-after beginning old caller moment call answer.told answers.allows in
+    let params : Params = record { room = room; history = 0 } in
+    let least = reserve-after params old caller moment call answer.told answers.allows in
     omega (arith, least, ap reserve answers.leaves)
 
 -- a fetch that is closed frees what is reserved for it

@@ -48,11 +48,11 @@ abbrev pub found_by_scan : Query → List OpenFetch → Seen → Found
 found_by_scan query fetches seen =
     record { finding = finding_by query (least_token query.key fetches) seen.fresh seen.grace seen.stale; fates = seen.fates }
 
-abbrev pub found_in : ℕ → Query → List Issued → List OpenFetch → List StoredObject → Found
-found_in now query bans fetches objects =
+abbrev pub found_in : ℕ → Query → ℕ → List Issued → List OpenFetch → List StoredObject → Found
+found_in now query issued bans fetches objects =
     if query.options.always_miss
     then record { finding = Miss None; fates = [] }
-    else found_by_scan query fetches (seen_all now query bans objects)
+    else found_by_scan query fetches (seen_all now query issued bans objects)
 
 -- it opens a fetch
 abbrev pub opens_fetch : Finding → Bool

@@ -1,5 +1,5 @@
 -- What a lookup's scan sees in the objects in memory, and what becomes of them.
-use Rattle.std.specs.Prelude.{ℕ, Bool, true, false, List, [], ◌∷◌, ◌++◌, ◌-◌, ◌&&◌, ◌==◌, Some, None, length, take, if◌then◌else◌}
+use Rattle.std.specs.Prelude.{ℕ, Bool, true, false, List, [], ◌∷◌, ◌++◌, ◌&&◌, ◌==◌, Some, None, if◌then◌else◌}
 use Rattle.std.specs.List.{list_any}
 use Rattle.std.specs.Option.{option_or}
 use Rattle.cache_law.specs.declared.object.Object.{Object}
@@ -15,7 +15,7 @@ use Rattle.flat_core.specs.declared.stored_object.Fate.TheVariants.{Stays, Teste
 use Rattle.flat_core.specs.declared.matching.LookupMatch.{LookupMatch}
 use Rattle.flat_core.specs.declared.matching.LookupMatch.TheVariants.{Other, Banned, Unfit, Aged, Fresh}
 use Rattle.flat_core.specs.declared.scan.Seen.{Seen}
-use Rattle.flat_core.specs.StoredObject.{is_waiting}
+use Rattle.flat_core.specs.StoredObject.{is_waiting, since}
 
 -- the ban waits for lookups and matches the object with the request
 abbrev pub is_struck : Object → RequestView → Issued → Bool
@@ -27,7 +27,7 @@ fit_sight now query object = if is_chosen_by query object then (if is_fresh now 
 -- where it is in time and of the key
 abbrev pub our_sight : ℕ → Query → List Issued → StoredObject → LookupMatch
 our_sight now query bans kept =
-    if list_any (is_struck kept.view.object query.request) (take (length bans - kept.tested) bans)
+    if list_any (is_struck kept.view.object query.request) (since kept.tested bans)
     then Banned
     else fit_sight now query kept.view.object
 
@@ -43,7 +43,7 @@ is_end Unfit = false
 is_end Aged = false
 is_end Fresh = true
 
--- what becomes of an object that was tested on all bans, which are so many
+-- what becomes of an object that was tested on all bans, of which so many were issued
 abbrev pub tested_fate : ℕ → StoredObject → Fate
 tested_fate count kept = if kept.tested == count then Stays else Tested
 
@@ -68,10 +68,10 @@ seeing now query count Fresh kept later =
     record { fresh = Some kept.view; grace = None; stale = None; fates = fate_of count Fresh kept ∷ [] }
 seeing now query count sight kept later = record later { fates = fate_of count sight kept ∷ later.fates }
 
-abbrev pub seen_all : ℕ → Query → List Issued → List StoredObject → Seen
-seen_all now query bans [] = nothing_seen
-seen_all now query bans (kept ∷ objects) =
-    seeing now query (length bans) (sight_of now query bans kept) kept (seen_all now query bans objects)
+abbrev pub seen_all : ℕ → Query → ℕ → List Issued → List StoredObject → Seen
+seen_all now query issued bans [] = nothing_seen
+seen_all now query issued bans (kept ∷ objects) =
+    seeing now query issued (sight_of now query bans kept) kept (seen_all now query issued bans objects)
 
 -- what a scan sees that saw this first and then that
 abbrev pub joined : Seen → Seen → Seen

@@ -1,5 +1,5 @@
 -- How the objects in memory stand for those of the law, and the changes of them.
-use Rattle.std.specs.Prelude.{ℕ, Bool, true, false, not, List, [], ◌∷◌, ◌++◌, ◌-◌, ◌==◌, ◌≤◌, Option, Some, None, filter, find, map, length, take, if◌then◌else◌}
+use Rattle.std.specs.Prelude.{ℕ, Bool, true, false, not, List, [], ◌∷◌, ◌++◌, ◌+◌, ◌==◌, ◌≤◌, nat_lt, Option, Some, None, filter, find, map, if◌then◌else◌}
 use Rattle.std.specs.List.{AllByRecursion}
 use Rattle.std.specs.Option.{option_map_or}
 use Rattle.cache_law.specs.declared.object.Object.{Object}
@@ -8,6 +8,7 @@ use Rattle.cache_law.specs.Bans.{object_only}
 use Rattle.cache_law.specs.BansAtOnce.{cleared}
 use Rattle.cache_law.specs.Lookup.{raised}
 use Rattle.cache_law.specs.State.{Held}
+use Rattle.cache_law.specs.Bases.{AreFalling}
 use Rattle.flat_core.specs.declared.stored_object.StoredObject.{StoredObject}
 use Rattle.flat_core.specs.declared.stored_object.Fate.{Fate}
 use Rattle.flat_core.specs.declared.stored_object.Fate.TheVariants.{Stays, Tested, Goes}
@@ -16,9 +17,14 @@ use Rattle.flat_core.specs.declared.stored_object.Fate.TheVariants.{Stays, Teste
 abbrev pub is_waiting : Issued → Bool
 is_waiting issued = not (object_only issued.ban)
 
--- the bans, newest first, that an object has still to be tested on which was tested when there were so many
+-- the bans, newest first, that were issued behind so many
+abbrev pub since : ℕ → List Issued → List Issued
+since count [] = []
+since count (ban ∷ bans) = if nat_lt count ban.number then ban ∷ since count bans else []
+
+-- the bans, newest first, that an object has still to be tested on which was tested when so many had been issued
 abbrev pub waiting : List Issued → ℕ → List Issued
-waiting bans tested = filter is_waiting (take (length bans - tested) bans)
+waiting bans tested = filter is_waiting (since tested bans)
 
 -- a stored object as the law has it, where these bans were issued
 abbrev pub held_of : List Issued → StoredObject → Held
@@ -27,11 +33,16 @@ held_of bans kept = record { view = kept.view; used = kept.used; pending = waiti
 abbrev pub held_all : List Issued → List StoredObject → List Held
 held_all bans objects = map (held_of bans) objects
 
--- no object was tested on more bans than there are
-abbrev pub AreTested : List Issued → List StoredObject → Type 0
-AreTested bans objects = AllByRecursion (λ kept. kept.tested ≤ length bans) objects
+-- no object was tested on more bans than were issued
+abbrev pub AreTested : ℕ → List StoredObject → Type 0
+AreTested issued objects = AllByRecursion (λ kept. kept.tested ≤ issued) objects
 
--- what is left of an object, where there are so many bans
+-- the bans have falling numbers, of which so many were given, and no object was tested on more
+pub record AreOrdered (issued : ℕ) (bans : List Issued) (objects : List StoredObject) : Type 0 where
+  pub falling : AreFalling (issued + 1) bans
+  pub tested : AreTested issued objects
+
+-- what is left of an object, where so many bans were issued
 abbrev pub left_of : ℕ → Fate → StoredObject → List StoredObject
 left_of count Stays kept = kept ∷ []
 left_of count Tested kept = record kept { tested = count } ∷ []
@@ -87,7 +98,7 @@ abbrev pub stays : Option ℕ → StoredObject → Bool
 stays None kept = true
 stays (Some stale) kept = not (kept.view.number == stale)
 
--- how many bans there were when the stale object was last tested, or without one how many there are
+-- how many bans had been issued when the stale object was last tested, or without one how many were
 abbrev pub tested_for : ℕ → Option ℕ → List StoredObject → ℕ
 tested_for count None objects = count
 tested_for count (Some stale) objects = option_map_or (λ kept. kept.tested) (find (λ kept. kept.view.number == stale) objects) count

@@ -1,25 +1,27 @@
 // What becomes of the objects when a ban is issued.
-ghost use Rattle.std.specs.Prelude.{◌≡◌, ◌∷◌, length, map, IfOk, OnOk, OnErr};
-ghost use Rattle.cache_law.specs.BansAtOnce.{issued_behind, open_line, open_lines};
-ghost use Rattle.flat_core.specs.Banning.{ban_fates, banned_fate};
+ghost use Rattle.std.specs.Prelude.{◌≡◌, filter, map, nat_lt, IfOk};
+ghost use Rattle.std.specs.List.{list_any};
+ghost use Rattle.cache_law.specs.BansAtOnce.{open_line, open_lines};
+ghost use Rattle.flat_core.specs.Banning.{ban_fates, banned_fate, is_needed};
 
+use crate::stored_ban::StoredBan;
 use crate::stored_object::{Fate, StoredObject};
-use ban_expr::{object_only, test};
-use cache_law::{Ban, BanLine, Issued, is_in_time};
+use ban_expr::{Prepared, object_only};
+use cache_law::{BanLine, is_in_time};
 use std::alloc::{AllocError, Global};
 use std::collections::VecDeque;
-use units::{Sequence, Shared};
+use units::Sequence;
 
 fn banned_fate(
     alloc: Global,
     moment: u64,
-    ban: &Ban,
+    ban: &Prepared,
     kept: &StoredObject,
 ) -> Result<Fate, AllocError>
     ensures { IfOk result (λ fate. fate ≡ banned_fate moment ban.now kept.now) }
 {
     let object = &kept.view.object;
-    if is_in_time(moment, object) && test(alloc, ban, moment, object, None)? {
+    if is_in_time(moment, object) && ban.test(alloc, moment, object, None)? {
         Ok(Fate::Goes)
     } else {
         Ok(Fate::Stays)
@@ -29,7 +31,7 @@ fn banned_fate(
 fn banned_fates(
     alloc: Global,
     moment: u64,
-    ban: &Ban,
+    ban: &Prepared,
     objects: &VecDeque<StoredObject>,
 ) -> Result<Sequence<Fate>, AllocError>
     ensures { IfOk result (λ fates. fates ≡ map (banned_fate moment ban.now) objects.now.items) }
@@ -46,41 +48,51 @@ fn banned_fates(
 pub(crate) fn ban_fates(
     alloc: Global,
     moment: u64,
-    ban: &Ban,
+    ban: &Prepared,
     objects: &VecDeque<StoredObject>,
 ) -> Result<Sequence<Fate>, AllocError>
     ensures { IfOk result (λ fates. fates ≡ ban_fates moment ban.now objects.now.items) }
 {
-    if object_only(ban) {
+    if object_only(ban.ban()) {
         banned_fates(alloc, moment, ban, objects)
     } else {
         Ok(Sequence::new(alloc))
     }
 }
 
-/// Puts the ban before the others, under the next number.
-pub(crate) fn issue(
-    bans: &mut VecDeque<Issued>,
-    moment: u64,
-    ban: &Shared<Ban>,
-) -> Result<(), AllocError>
-    ensures ok { OnOk result (bans.new.items ≡ issued_behind (length bans.old.items) moment ban.now ∷ bans.old.items) }
-    ensures err { OnErr result (bans.new.items ≡ bans.old.items) }
+/// Whether the object was last tested before the ban of this number was issued.
+fn was_tested_before(number: u64, kept: &StoredObject) -> bool
+    ensures { result ≡ nat_lt kept.now.tested number }
 {
-    let issued = Issued {
-        number: bans.len() as u64 + 1,
-        moment,
-        ban: ban.copy()?,
-    };
-    bans.push_front(issued)?;
-    Ok(())
+    kept.tested < number
 }
 
-fn ban_line(issued: &Issued) -> Result<BanLine, AllocError>
-    ensures { IfOk result (λ line. line ≡ open_line issued.now) }
+/// Whether one of the objects was last tested before the ban of this number was issued.
+fn is_before_one(number: u64, objects: &VecDeque<StoredObject>) -> bool
+    ensures { result ≡ list_any (λ kept. nat_lt kept.tested number) objects.now.items }
+{
+    objects.iter().any(|kept| was_tested_before(number, kept))
+}
+
+/// Whether the ban waits for one of the objects.
+fn is_needed(ban: &StoredBan, objects: &VecDeque<StoredObject>) -> bool
+    ensures { result ≡ is_needed objects.now.items ban.now }
+{
+    ban.is_waiting() && is_before_one(ban.number(), objects)
+}
+
+/// Drops the bans that wait for none of the objects.
+pub(crate) fn keep_needed(bans: &mut VecDeque<StoredBan>, objects: &VecDeque<StoredObject>)
+    ensures { bans.new.items ≡ filter (is_needed objects.now.items) bans.old.items }
+{
+    bans.retain(|ban| is_needed(ban, objects));
+}
+
+fn ban_line(ban: &StoredBan) -> Result<BanLine, AllocError>
+    ensures { IfOk result (λ line. line ≡ open_line ban.now) }
 {
     Ok(BanLine {
-        issued: issued.copy()?,
+        issued: ban.issued()?,
         completed: false,
     })
 }
@@ -88,7 +100,7 @@ fn ban_line(issued: &Issued) -> Result<BanLine, AllocError>
 /// A line for each ban, newest first.
 pub(crate) fn ban_lines(
     alloc: Global,
-    bans: &VecDeque<Issued>,
+    bans: &VecDeque<StoredBan>,
 ) -> Result<Sequence<BanLine>, AllocError>
     ensures { IfOk result (λ lines. lines ≡ open_lines bans.now.items) }
 {

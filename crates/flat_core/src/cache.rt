@@ -3,24 +3,27 @@ ghost use Rattle.std.specs.Prelude.{◌≡◌, ◌∷◌, ◌++◌, ◌+◌, ◌
 ghost use Rattle.std.specs.Vec.{vec_capacity};
 ghost use Rattle.cache_law.specs.State.{at_moment, reserve};
 ghost use Rattle.cache_law.specs.Law.{answered};
-ghost use Rattle.cache_law.specs.Core.{is_kept};
-ghost use Rattle.cache_law.specs.History.{bytes_of, is_numbered};
+ghost use Rattle.cache_law.specs.Bases.{IsBase};
+ghost use Rattle.cache_law.specs.Core.{is_closing as closes_only, is_kept};
+ghost use Rattle.cache_law.specs.History.{bytes_of, is_numbered, most_entries};
 ghost use Rattle.flat_core.specs.Found.{FindsFor};
 ghost use Rattle.flat_core.specs.Step.{Answers};
 
 use crate::answer::Answer;
 use crate::finding::Found;
 use crate::store::Store;
-use cache_law::{Boot, CacheCore, Call, Entry, Params, StepError, Told, entry_bytes};
+use cache_law::{Boot, CacheCore, Call, Entry, Kept, Params, StepError, Told, entry_bytes};
 use std::alloc::{AllocError, Global};
 use std::marker::Model;
+use std::snapshot::Snapshot;
 use units::{Sequence, out_of_memory};
 
 /// The plain cache. It implements `CacheCore`, and is made by its `make`.
 #[derive(Drop)]
 pub struct FlatCore {
     params: Params,
-    boot: Boot,
+    // the store as it was before the first entry
+    base: Snapshot<Store>,
     entries: Vec<Entry>,
     // what the entries take of the history
     used: u64,
@@ -29,14 +32,13 @@ pub struct FlatCore {
 
 impl Model for FlatCore {
     ghost use Rattle.std.specs.Vec.{vec_capacity};
-    ghost use Rattle.cache_law.specs.Beginning.{beginning_of};
     ghost use Rattle.flat_core.specs.Plain.{Plain, Sound};
 
     ghost Value = { Plain };
 
-    ghost view = { λ c. record { beginning = beginning_of c.params c.boot; entries = c.entries.items } };
+    ghost view = { λ c. record { beginning = record { params = c.params; base = c.base.value }; entries = c.entries.items } };
 
-    ghost invariant = { λ c. Sound (beginning_of c.params c.boot) c.entries.items (vec_capacity c.entries) c.used c.store };
+    ghost invariant = { λ c. Sound (record { params = c.params; base = c.base.value }) c.entries.items (vec_capacity c.entries) c.used c.store };
 }
 
 impl CacheCore for FlatCore {
@@ -49,13 +51,8 @@ impl CacheCore for FlatCore {
             Ok(store) => store,
             Err(_) => return Err(out_of_memory(boot)),
         };
-        Ok(FlatCore {
-            params: *params,
-            boot,
-            entries: Vec::new(alloc),
-            used: 0,
-            store,
-        })
+        drop(boot);
+        Ok(over(alloc, *params, store))
     }
 
     fn step(
@@ -75,6 +72,10 @@ impl CacheCore for FlatCore {
             return Err(given_up((call, found), StepError::HistoryFull));
         }
         if !fits(self.params.history, self.used, &call, open) {
+            return Err(given_up((call, found), StepError::HistoryFull));
+        }
+        let entries = self.store.entries();
+        if !is_counted(entries, open) {
             return Err(given_up((call, found), StepError::HistoryFull));
         }
         let open = open as usize;
@@ -102,7 +103,7 @@ impl CacheCore for FlatCore {
             reply: answer.kept,
         };
         push_within_room(&mut self.entries, entry);
-        self.store.set_entries(place + 1);
+        self.store.set_entries(entries + 1);
         Ok(Told {
             moment,
             place,
@@ -122,9 +123,68 @@ impl CacheCore for FlatCore {
         self.store.closed(token)
     }
 
+    fn is_segment_full(&self, caller: u32, call: &Call) -> bool {
+        !self.store.has_round(caller)
+            && !is_closing(call)
+            && !self.entries.is_empty()
+            && self.params.history / 2 <= self.used
+    }
+
+    fn reopen(self, alloc: Global) -> Result<(Sequence<Entry>, FlatCore), Kept<FlatCore>> {
+        let FlatCore {
+            params,
+            base: _,
+            entries,
+            used: _,
+            store,
+        } = self;
+        let mut store = store;
+        store.cut();
+        Ok((Sequence::from_vec(entries), over(alloc, params, store)))
+    }
+
     fn into_history(self) -> Sequence<Entry> {
         Sequence::from_vec(self.entries)
     }
+}
+
+/// The most entries that a run makes.
+const MOST_ENTRIES: u128 = 1 << 63;
+
+/// A cache that begins with what the store holds.
+fn over(alloc: Global, params: Params, store: Store) -> FlatCore
+    requires base { IsBase store }
+    requires few { store.entries ≤ most_entries }
+    ensures { result ≡ record { beginning = record { params = params; base = store }; entries = [] } }
+{
+    FlatCore {
+        params,
+        base: Snapshot::of(&store),
+        entries: Vec::new(alloc),
+        used: 0,
+        store,
+    }
+}
+
+/// Whether the call opens nothing.
+fn is_closing(call: &Call) -> bool
+    ensures { result ≡ closes_only call.now }
+{
+    match call {
+        Call::Drop { .. } | Call::End => true,
+        Call::Begin | Call::Draw | Call::Lookup(_) | Call::Pick { .. } => false,
+        Call::Insert { .. } | Call::Ban(_) | Call::BanList | Call::Purge { .. } => false,
+        Call::Xkey { .. } | Call::SetHealth { .. } | Call::Load(_) => false,
+        Call::Switch { .. } | Call::Discard { .. } | Call::VclList => false,
+    }
+}
+
+/// Whether a run of so many entries may have one more, and one for each of so many rounds and fetches that are then open.
+fn is_counted(entries: u64, closings: u128) -> bool
+    requires { closings ≤ 2 ^ 65 }
+    ensures { IsTrue result ↔ (entries + 1 + closings ≤ most_entries) }
+{
+    u128::from(entries) + 1 + closings <= MOST_ENTRIES
 }
 
 /// Lets go of what belongs to a call that isn't answered.
@@ -149,6 +209,7 @@ fn answer_within(
 ) -> Result<Answer, AllocError>
     requires found { FindsFor store.old moment caller call.now found }
     requires numbers { store.old.next + 1 < 2 ^ 64 }
+    requires issues { store.old.issued + 1 < 2 ^ 64 }
     requires vcls { is_numbered (answered room (at_moment moment store.old) caller call.now).reply ≡ true }
     requires bound { closings < 2 ^ 63 }
     requires reserves { 64 * closings ≡ reserve (answered room (at_moment moment store.old) caller call.now).state }

@@ -6,8 +6,9 @@ ghost use Rattle.flat_core.specs.Found.{fetch_finding, finding_by, found_in, giv
 
 use crate::lists::least_token;
 use crate::scan::scan;
+use crate::stored_ban::StoredBan;
 use crate::stored_object::{Fate, StoredObject};
-use cache_law::{Issued, Object, ObjectView, OpenFetch, Query, Reply};
+use cache_law::{Object, ObjectView, OpenFetch, Query, Reply};
 use std::alloc::{AllocError, Global};
 use std::collections::VecDeque;
 use units::Sequence;
@@ -114,12 +115,13 @@ fn finding_by(
 pub(crate) fn seek(
     alloc: Global,
     objects: &VecDeque<StoredObject>,
-    bans: &VecDeque<Issued>,
+    issued: u64,
+    bans: &VecDeque<StoredBan>,
     fetches: &VecDeque<OpenFetch>,
     moment: u64,
     query: &Query,
 ) -> Result<Found, AllocError>
-    ensures { IfOk result (λ found. found ≡ found_in moment query.now bans.now.items fetches.now.items objects.now.items) }
+    ensures { IfOk result (λ found. found ≡ found_in moment query.now issued bans.now.items fetches.now.items objects.now.items) }
 {
     if query.options.always_miss {
         return Ok(Found {
@@ -127,7 +129,7 @@ pub(crate) fn seek(
             fates: Sequence::new(alloc),
         });
     }
-    let seen = scan(alloc, objects, bans, moment, query)?;
+    let seen = scan(alloc, objects, issued, bans, moment, query)?;
     let under_way = least_token(fetches, query.key.as_slice());
     Ok(Found {
         finding: finding_by(query, under_way, seen.fresh, seen.grace, seen.stale),

@@ -10,12 +10,14 @@ mod banning;
 mod cache;
 mod finding;
 mod lists;
+mod lurking;
 mod matching;
 mod picking;
 mod purging;
 mod room;
 mod scan;
 mod store;
+mod stored_ban;
 mod stored_object;
 mod vcls;
 

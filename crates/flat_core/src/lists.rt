@@ -218,8 +218,8 @@ fn fate_at(fates: &[Fate], place: usize) -> Fate
     }
 }
 
-/// What is left of the object, where there are so many bans.
-fn left_of(count: usize, fate: Fate, kept: StoredObject) -> Option<StoredObject>
+/// What is left of the object, where so many bans were issued.
+fn left_of(count: u64, fate: Fate, kept: StoredObject) -> Option<StoredObject>
     ensures { option_to_list result ≡ left_of count fate kept }
 {
     match fate {
@@ -246,7 +246,7 @@ fn put_last(objects: &mut VecDeque<StoredObject>, left: Option<StoredObject>)
 }
 
 /// Passes the first object on to the end, as its fate leaves it.
-fn settle_first(objects: &mut VecDeque<StoredObject>, fate: Fate, count: usize)
+fn settle_first(objects: &mut VecDeque<StoredObject>, fate: Fate, count: u64)
     ensures { objects.new.items ≡ moved_on count fate objects.old.items }
 {
     if let Some(kept) = objects.pop_front() {
@@ -269,8 +269,8 @@ fn has_change(fates: &[Fate]) -> bool
     fates.iter().any(|fate| is_change(*fate))
 }
 
-/// Leaves of the objects what their fates leave, where there are so many bans. Where all stay, nothing moves.
-pub(crate) fn settle(objects: &mut VecDeque<StoredObject>, fates: &[Fate], count: usize)
+/// Leaves of the objects what their fates leave, where so many bans were issued. Where all stay, nothing moves.
+pub(crate) fn settle(objects: &mut VecDeque<StoredObject>, fates: &[Fate], count: u64)
     ensures { objects.new.items ≡ settled count fates.now objects.old.items }
 {
     if !has_change(fates) {
@@ -354,7 +354,7 @@ fn kept_of<'a>(
     }
 }
 
-fn tested_or(kept: Option<&StoredObject>, count: usize) -> usize
+fn tested_or(kept: Option<&StoredObject>, count: u64) -> u64
     ensures { result ≡ option_map_or (λ one. one.tested) (option_copied kept.entry) count }
 {
     match kept {
@@ -363,8 +363,8 @@ fn tested_or(kept: Option<&StoredObject>, count: usize) -> usize
     }
 }
 
-/// How many bans there were when the stale object was last tested, or without one how many there are.
-fn tested_for(count: usize, stale: Option<u64>, objects: &VecDeque<StoredObject>) -> usize
+/// How many bans had been issued when the stale object was last tested, or without one how many were.
+fn tested_for(count: u64, stale: Option<u64>, objects: &VecDeque<StoredObject>) -> u64
     ensures { result ≡ tested_for count stale objects.now.items }
 {
     let Some(stale) = stale else {
@@ -375,7 +375,7 @@ fn tested_for(count: usize, stale: Option<u64>, objects: &VecDeque<StoredObject>
 }
 
 /// Puts the object before the others, under the number of its fetch, in the stale one's place and used at this place of the
-/// history, where there are so many bans. The objects that were used before the bound go.
+/// history, where so many bans were issued. The objects that were used before the bound go.
 pub(crate) fn put_first(
     objects: &mut VecDeque<StoredObject>,
     used: u64,
@@ -383,7 +383,7 @@ pub(crate) fn put_first(
     object: &Shared<Object>,
     stale: Option<u64>,
     bound: u128,
-    count: usize,
+    count: u64,
 ) -> Result<(), AllocError>
     ensures ok { OnOk result (objects.new.items ≡ first_of used token object.now stale count objects.old.items ∷ filter (stays_from stale bound) objects.old.items) }
     ensures err { OnErr result (objects.new.items ≡ objects.old.items) }

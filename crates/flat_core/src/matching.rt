@@ -1,12 +1,13 @@
 // What a lookup sees in an object.
-ghost use Rattle.std.specs.Prelude.{◌≡◌, ◌&&◌, ◌-◌, length, take, IfOk};
+ghost use Rattle.std.specs.Prelude.{◌≡◌, ◌&&◌, IfOk};
 ghost use Rattle.std.specs.List.{list_any};
 ghost use Rattle.cache_law.specs.Object.{in_time, key_of, same_texts};
+ghost use Rattle.flat_core.specs.StoredObject.{since};
 ghost use Rattle.flat_core.specs.Scans.{fate_of, fit_sight as fits_so, is_end, is_struck, sight_of as seen_in, tested_fate as fate_tested};
 
+use crate::stored_ban::StoredBan;
 use crate::stored_object::{Fate, StoredObject};
-use ban_expr::{object_only, test};
-use cache_law::{Issued, Object, Query, RequestView, is_chosen_by, is_fresh_for, is_in_time};
+use cache_law::{Object, Query, RequestView, is_chosen_by, is_fresh_for, is_in_time};
 use std::alloc::{AllocError, Global};
 use std::collections::VecDeque;
 
@@ -33,30 +34,33 @@ fn is_ours(moment: u64, query: &Query, object: &Object) -> bool
 /// Whether the ban waits for lookups and matches the object with the request.
 fn matches_request_ban(
     alloc: Global,
-    issued: &Issued,
+    ban: &StoredBan,
     object: &Object,
     request: &RequestView,
 ) -> Result<bool, AllocError>
-    ensures { IfOk result (λ matches. matches ≡ is_struck object.now request.now issued.now) }
+    ensures { IfOk result (λ matches. matches ≡ is_struck object.now request.now ban.now) }
 {
-    if object_only(&issued.ban) {
+    if !ban.is_waiting() {
         return Ok(false);
     }
-    test(alloc, &issued.ban, issued.moment, object, Some(request))
+    ban.meets(alloc, object, request)
 }
 
 /// Whether a ban that waits for the object matches it with the request.
 fn is_banned(
     alloc: Global,
-    bans: &VecDeque<Issued>,
+    bans: &VecDeque<StoredBan>,
     kept: &StoredObject,
     request: &RequestView,
 ) -> Result<bool, AllocError>
-    ensures { IfOk result (λ met. met ≡ list_any (is_struck kept.now.view.object request.now) (take (length bans.now.items - kept.now.tested) bans.now.items)) }
+    ensures { IfOk result (λ met. met ≡ list_any (is_struck kept.now.view.object request.now) (since kept.now.tested bans.now.items)) }
 {
-    let count = bans.len().saturating_sub(kept.tested);
-    for place in 0..count {
-        if matches_request_ban(alloc, &bans[place], &kept.view.object, request)? {
+    for place in 0..bans.len() {
+        let ban = &bans[place];
+        if ban.number() <= kept.tested {
+            return Ok(false);
+        }
+        if matches_request_ban(alloc, ban, &kept.view.object, request)? {
             return Ok(true);
         }
     }
@@ -81,7 +85,7 @@ pub(crate) fn sight_of(
     alloc: Global,
     moment: u64,
     query: &Query,
-    bans: &VecDeque<Issued>,
+    bans: &VecDeque<StoredBan>,
     kept: &StoredObject,
 ) -> Result<LookupMatch, AllocError>
     ensures { IfOk result (λ sight. sight ≡ seen_in moment query.now bans.now.items kept.now) }
@@ -106,8 +110,8 @@ pub(crate) fn is_end(sight: LookupMatch) -> bool
     }
 }
 
-/// What becomes of an object that no ban matched, where there are so many bans.
-fn tested_fate(count: usize, kept: &StoredObject) -> Fate
+/// What becomes of an object that no ban matched, where so many bans were issued.
+fn tested_fate(count: u64, kept: &StoredObject) -> Fate
     ensures { result ≡ fate_tested count kept.now }
 {
     if kept.tested == count {
@@ -117,8 +121,8 @@ fn tested_fate(count: usize, kept: &StoredObject) -> Fate
     }
 }
 
-/// What becomes of the object in which the lookup sees this, where there are so many bans.
-pub(crate) fn fate_of(count: usize, sight: LookupMatch, kept: &StoredObject) -> Fate
+/// What becomes of the object in which the lookup sees this, where so many bans were issued.
+pub(crate) fn fate_of(count: u64, sight: LookupMatch, kept: &StoredObject) -> Fate
     ensures { result ≡ fate_of count sight kept.now }
 {
     match sight {

@@ -1,13 +1,14 @@
 // A lookup's scan of the objects in memory.
-ghost use Rattle.std.specs.Prelude.{◌≡◌, None, Some, length, IfOk, OnOk};
+ghost use Rattle.std.specs.Prelude.{◌≡◌, None, Some, IfOk, OnOk};
 ghost use Rattle.std.specs.Option.{option_or};
 ghost use Rattle.cache_law.specs.Lookup.{first_of as first_passing, is_in_grace};
 ghost use Rattle.cache_law.specs.Object.{can_confirm};
 ghost use Rattle.flat_core.specs.Scans.{joined, nothing_seen, seeing, seen_all, sight_of};
 
 use crate::matching::{LookupMatch, fate_of, is_end, sight_of};
+use crate::stored_ban::StoredBan;
 use crate::stored_object::{Fate, StoredObject};
-use cache_law::{Issued, ObjectView, Query, can_confirm, is_in_grace_for};
+use cache_law::{ObjectView, Query, can_confirm, is_in_grace_for};
 use std::alloc::{AllocError, Global};
 use std::collections::VecDeque;
 use units::{Sequence, out_of_memory};
@@ -72,7 +73,7 @@ impl Seen {
         &mut self,
         moment: u64,
         query: &Query,
-        count: usize,
+        count: u64,
         sight: LookupMatch,
         kept: &StoredObject,
     ) -> Result<(), AllocError>
@@ -93,15 +94,16 @@ impl Seen {
         alloc: Global,
         moment: u64,
         query: &Query,
-        bans: &VecDeque<Issued>,
+        issued: u64,
+        bans: &VecDeque<StoredBan>,
         kept: &StoredObject,
     ) -> Result<LookupMatch, AllocError>
         requires { self.old.fresh ≡ None }
         ensures sight { IfOk result (λ sight. sight ≡ sight_of moment query.now bans.now.items kept.now) }
-        ensures seen { IfOk result (λ sight. self.new ≡ joined self.old (seeing moment query.now (length bans.now.items) sight kept.now nothing_seen)) }
+        ensures seen { IfOk result (λ sight. self.new ≡ joined self.old (seeing moment query.now issued sight kept.now nothing_seen)) }
     {
         let sight = sight_of(alloc, moment, query, bans, kept)?;
-        self.add(moment, query, bans.len(), sight, kept)?;
+        self.add(moment, query, issued, sight, kept)?;
         Ok(sight)
     }
 }
@@ -110,15 +112,16 @@ impl Seen {
 pub(crate) fn scan(
     alloc: Global,
     objects: &VecDeque<StoredObject>,
-    bans: &VecDeque<Issued>,
+    issued: u64,
+    bans: &VecDeque<StoredBan>,
     moment: u64,
     query: &Query,
 ) -> Result<Seen, AllocError>
-    ensures { IfOk result (λ seen. seen ≡ seen_all moment query.now bans.now.items objects.now.items) }
+    ensures { IfOk result (λ seen. seen ≡ seen_all moment query.now issued bans.now.items objects.now.items) }
 {
     let mut seen = Seen::nothing(alloc);
     for place in 0..objects.len() {
-        let sight = match seen.look_at(alloc, moment, query, bans, &objects[place]) {
+        let sight = match seen.look_at(alloc, moment, query, issued, bans, &objects[place]) {
             Ok(sight) => sight,
             Err(_) => return Err(out_of_memory(seen)),
         };

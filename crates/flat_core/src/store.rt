@@ -4,17 +4,18 @@ ghost use Rattle.cache_law.specs.declared.object.Object.{Object as Made};
 ghost use Rattle.directors.specs.declared.target.Target.{Target as Aim};
 ghost use Rattle.cache_law.specs.declared.call.Call.TheVariants.{Begin as BeginCall, Draw as DrawCall, Lookup as LookupCall, Pick as PickCall, Insert as InsertCall, Ban as BanCall, BanList as BanListCall, Purge as PurgeCall, Xkey as XkeyCall, SetHealth as SetHealthCall, Load as LoadCall, Switch as SwitchCall, Discard as DiscardCall, VclList as VclListCall, Drop as DropCall, End as EndCall};
 ghost use Rattle.cache_law.specs.declared.call.Reply.TheVariants.{Began, Bans};
-ghost use Rattle.cache_law.specs.State.{at_moment, awaits, reserve, has_round, has_fetch, is_closed, is_gone, those_in_time, without_fetch, without_fetches_of, without_round_of};
+ghost use Rattle.cache_law.specs.Bases.{AreAlike, IsBase, IsClosed, IsSound};
+ghost use Rattle.cache_law.specs.State.{as_seen, at_moment, awaits, reserve, has_round, has_fetch, is_closed, is_gone, those_in_time, without_fetch, without_fetches_of, without_round_of};
 ghost use Rattle.cache_law.specs.Beginning.{base_of, boot_vcl};
 ghost use Rattle.cache_law.specs.BansAtOnce.{open_lines};
 ghost use Rattle.cache_law.specs.Law.{answered, begun, drawn, dropped, leaving, inserted, banned, purged, purged_by, picked, picked_at, health_set, loaded, switched, discarded, vcls_listed, ended};
 ghost use Rattle.cache_law.specs.History.{is_numbered};
-ghost use Rattle.cache_law.specs.Core.{is_kept};
+ghost use Rattle.cache_law.specs.Core.{is_kept, is_lookup};
 ghost use Rattle.flat_core.specs.Found.{is_insertion, opens_more, told_so, FindsFor};
 ghost use Rattle.flat_core.specs.Step.{Answers};
 
 use crate::answer::Answer;
-use crate::banning::{ban_fates, ban_lines, issue};
+use crate::banning::{ban_fates, ban_lines, keep_needed};
 use crate::finding::{Finding, Found, hit_in, marker_in, opens_fetch, reply_of, seek, wait_in};
 use crate::lists::{
     awaits, close_fetch, close_fetches_of, close_round_of, count_fetches_without, count_hit_of,
@@ -24,11 +25,13 @@ use crate::lists::{
 use crate::picking::{chosen, count_on, name_at, set_health_of};
 use crate::purging::{count_of_key, count_of_xkeys, drop_key, drop_xkeys, softened_all};
 use crate::room::bound_of;
+use crate::stored_ban::StoredBan;
 use crate::stored_object::{Fate, StoredObject};
 use crate::vcls::{called, discard, has_backend, is_taken, keep_used, numbered, vcl_lines};
+use ban_expr::prepare;
 use cache_law::{
-    Ban, Boot, Call, Counter, ForcedHealth, Health, Issued, LoadedVcl, Object, OpenFetch,
-    OpenRound, Query, Reply, Vcl, VclSource, is_in_time,
+    Ban, Boot, Call, Counter, ForcedHealth, Health, LoadedVcl, Object, OpenFetch, OpenRound, Query,
+    Reply, Vcl, VclSource, is_in_time,
 };
 use directors::Target;
 use std::alloc::{AllocError, Global};
@@ -56,22 +59,23 @@ pub(crate) struct Store {
     vcls: Vec<LoadedVcl>,
     counters: Vec<Counter>,
     health: Vec<ForcedHealth>,
-    bans: VecDeque<Issued>,
+    // how many bans were issued
+    issued: u64,
+    bans: VecDeque<StoredBan>,
     objects: VecDeque<StoredObject>,
     fetches: VecDeque<OpenFetch>,
     rounds: VecDeque<OpenRound>,
 }
 
 impl Model for Store {
-    ghost use Rattle.std.specs.Prelude.{length};
     ghost use Rattle.cache_law.specs.State.{State};
-    ghost use Rattle.flat_core.specs.StoredObject.{AreTested, held_all};
+    ghost use Rattle.flat_core.specs.StoredObject.{AreOrdered, held_all};
 
     ghost Value = { State };
 
     ghost view = { λ s. record {
       entries = s.entries;
-      issued = length s.bans.items;
+      issued = s.issued;
       moment = s.moment;
       next = s.next;
       next_vcl = s.next_vcl;
@@ -85,7 +89,7 @@ impl Model for Store {
       rounds = s.rounds.items;
     } };
 
-    ghost invariant = { λ s. AreTested s.bans.items s.objects.items };
+    ghost invariant = { λ s. AreOrdered s.issued s.bans.items s.objects.items };
 }
 
 impl Store {
@@ -106,6 +110,7 @@ impl Store {
             vcls,
             counters: Vec::new(alloc),
             health: Vec::new(alloc),
+            issued: 0,
             bans: VecDeque::new(alloc),
             objects: VecDeque::new(alloc),
             fetches: VecDeque::new(alloc),
@@ -133,11 +138,36 @@ impl Store {
         self.moment
     }
 
+    /// How many entries there are from a run's beginning on.
+    pub fn entries(&self) -> u64
+        ensures { result ≡ self.now.entries }
+    {
+        self.entries
+    }
+
     /// Takes note of how many entries there are.
     pub fn set_entries(&mut self, entries: u64)
         ensures { self.new ≡ record self.old { entries = entries } }
     {
         self.entries = entries;
+    }
+
+    /// Whether the caller's round is open.
+    pub fn has_round(&self, caller: u32) -> bool
+        ensures { result ≡ has_round self.now.rounds caller }
+    {
+        has_round(&self.rounds, caller)
+    }
+
+    /// Drops the objects that aren't in time any more, and the bans that wait for none of those that are.
+    pub fn cut(&mut self)
+        requires sound { IsSound (as_seen self.old) }
+        requires closed { IsClosed self.old }
+        ensures base { IsBase self.new }
+        ensures alike { AreAlike self.new self.old }
+    {
+        keep_in_time(&mut self.objects, self.moment);
+        keep_needed(&mut self.bans, &self.objects);
     }
 
     /// What a call of the caller finds: a lookup in its open round finds something, and no other call does.
@@ -150,6 +180,7 @@ impl Store {
     ) -> Result<Option<Found>, AllocError>
         ensures found { IfOk result (λ found. FindsFor self.now moment caller call.now found) }
         ensures kept { is_kept self.now caller call.now ≡ true → IsOk result }
+        ensures other { is_lookup call.now ≡ false → IsOk result }
     {
         match call {
             Call::Lookup(query) => self.find_for(alloc, caller, moment, query),
@@ -175,6 +206,7 @@ impl Store {
         let found = seek(
             alloc,
             &self.objects,
+            self.issued,
             &self.bans,
             &self.fetches,
             moment,
@@ -314,6 +346,7 @@ impl Store {
     ) -> Result<Answer, AllocError>
         requires found { FindsFor self.old moment caller call.now found.old }
         requires numbers { self.old.next + 1 < 2 ^ 64 }
+        requires issues { self.old.issued + 1 < 2 ^ 64 }
         requires vcls { is_numbered (answered room (at_moment moment self.old) caller call.now).reply ≡ true }
         ensures ok { IfOk result (Answers self.old self.new moment call.now (answered room (at_moment moment self.old) caller call.now)) }
         ensures err { OnErr result (self.new ≡ self.old) }
@@ -480,7 +513,7 @@ impl Store {
             return Err(out_of_memory(answer));
         }
         self.next = next_after(opens, token);
-        settle(&mut self.objects, fates, self.bans.len());
+        settle(&mut self.objects, fates, self.issued);
         count_hit_of(&mut self.objects, self.entries, hit);
         touch_of(&mut self.objects, self.entries, marker);
         remember(&mut self.rounds, caller, wait_in(&answer.told));
@@ -490,14 +523,21 @@ impl Store {
 
     /// Issues the ban.
     fn ban(&mut self, alloc: Global, moment: u64, ban: &Shared<Ban>) -> Result<Answer, AllocError>
+        requires { self.old.issued + 1 < 2 ^ 64 }
         ensures ok { IfOk result (Answers self.old self.new moment (BanCall ban.now) (banned (at_moment moment self.old) ban.now)) }
         ensures err { OnErr result (self.new ≡ self.old) }
     {
-        let fates = ban_fates(alloc, moment, ban, &self.objects)?;
-        if issue(&mut self.bans, moment, ban).is_err() {
+        let prepared = prepare(alloc, ban)?;
+        let fates = match ban_fates(alloc, moment, &prepared, &self.objects) {
+            Ok(fates) => fates,
+            Err(_) => return Err(out_of_memory(prepared)),
+        };
+        let stored = StoredBan::new(self.issued + 1, moment, prepared);
+        if self.bans.push_front(stored).is_err() {
             return Err(out_of_memory(fates));
         }
-        settle(&mut self.objects, fates.as_slice(), self.bans.len());
+        self.issued += 1;
+        settle(&mut self.objects, fates.as_slice(), self.issued);
         self.moment = moment;
         Ok(Answer {
             told: Reply::Banned,
@@ -778,7 +818,7 @@ impl Store {
                 kept: Reply::NoRoom,
             };
         };
-        let count = self.bans.len();
+        let count = self.issued;
         let put = put_first(
             &mut self.objects,
             self.entries,

@@ -3,7 +3,15 @@ use crate::bytes::{bytes_of, first_word, numbers_of, shown};
 use std::alloc::{AllocError, Global};
 use std::collections::VecDeque;
 use units::Text;
-use wire::{DialError, Dialer, FailingDialer, Link, Plan, UnfailingDialer, write_link};
+use wire::{DialError, Dialer, FailingDialer, Link, Plan, TimeLimits, UnfailingDialer, write_link};
+
+// Limits that no dialer in memory feels.
+const LIMITS: TimeLimits = TimeLimits {
+    connecting: 1,
+    first_byte: 1,
+    between_bytes: 1,
+    whole: Some(1),
+};
 
 // Writes over a connection, takes one byte from it, and hands it back. Whether it could be dialed.
 fn talk<D: Dialer>(dialer: &mut D, host: &Text) -> Result<bool, AllocError> {
@@ -14,6 +22,8 @@ fn talk<D: Dialer>(dialer: &mut D, host: &Text) -> Result<bool, AllocError> {
     };
     let _ = write_link(&mut link, b"hello");
     let _ = link.read(&mut [0u8; 1]);
+    link.allow_reuse();
+    link.shut();
     dialer.hang_up(link);
     Ok(true)
 }
@@ -63,6 +73,7 @@ pub fn dials_shown(alloc: Global, count: usize, row: &str) -> Result<String, All
     let (failing, planned) = first_word(row);
     let failing = numbers_of(alloc, failing)?;
     let mut dialer = FailingDialer::new(alloc, plans(alloc, planned)?, failing);
+    dialer.within(LIMITS);
     let host = Text::of(alloc, b"h")?;
     let mut out = String::new(alloc);
     for _ in 0..count {
@@ -84,6 +95,7 @@ fn unfailing(alloc: Global, room: &str, bytes: &str) -> Result<UnfailingDialer, 
 pub fn unfailing_dials_shown(alloc: Global, count: usize, row: &str) -> Result<String, AllocError> {
     let (room, bytes) = first_word(row);
     let mut dialer = unfailing(alloc, room, bytes)?;
+    dialer.within(LIMITS);
     let host = Text::of(alloc, b"h")?;
     let mut out = String::new(alloc);
     for _ in 0..count {

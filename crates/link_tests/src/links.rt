@@ -44,3 +44,19 @@ fn reads_shown(alloc: Global, count: usize, link: &mut FailingLink) -> Result<St
     write!(out, "{room} {} {}", link.read_faults(), link.write_faults())?;
     Ok(out)
 }
+
+/// What so many waits answer of a connection of which this many find nothing yet, and whether it is open before it is ended and
+/// behind that.
+pub fn wait_shown(alloc: Global, count: usize, row: &str) -> Result<String, AllocError> {
+    let (reads, writes) = (direction(alloc, "", 1)?, direction(alloc, "", 1)?);
+    let quiet = row.parse::<u64>().unwrap_or(0);
+    let mut link = link(alloc, Vec::new(alloc), reads, writes).quiet_for(quiet);
+    let mut out = String::new(alloc);
+    for _ in 0..count {
+        write!(out, "{:?} ", link.wait())?;
+    }
+    let before = link.is_open();
+    link.shut();
+    write!(out, "{before} {}", link.is_open())?;
+    Ok(out)
+}

@@ -10,6 +10,7 @@ mod links;
 mod memory;
 mod messages;
 mod process;
+mod reuse;
 mod serving;
 mod streams;
 mod tcp;
@@ -52,6 +53,9 @@ fn said(rt: &HostRuntime, word: &str, number: usize, row: &str) -> Result<String
         "tell" => process::tell_shown(rt, alloc, row),
         "system_clock" => process::system_clock_shown(*rt, alloc, number),
         "tcp" => tcp::tcp_shown(*rt, alloc, number),
+        "tcp_within" => tcp::within_shown(*rt, alloc, number),
+        "reuse" => reuse::reuse_shown(*rt, alloc, row),
+        "rest" => process::rest_shown(*rt, alloc, number),
         "clock" => process::clock_shown(alloc, number, row),
         "stream_read" => streams::read_shown(alloc, number, row),
         "stream_write" => streams::write_shown(alloc, number, row),
@@ -68,6 +72,7 @@ fn memory_said(alloc: Global, word: &str, number: usize, row: &str) -> Result<St
         "unfailing_sink" => memory::unfailing_sink_shown(alloc, number, row),
         "link_write" => links::write_shown(alloc, number, row),
         "link_read" => links::read_shown(alloc, number, row),
+        "link_wait" => links::wait_shown(alloc, number, row),
         "dials" => dialers::dials_shown(alloc, number, row),
         "unfailing_dials" => dialers::unfailing_dials_shown(alloc, number, row),
         _ => message_said(alloc, word, number, row),

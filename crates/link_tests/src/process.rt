@@ -3,6 +3,7 @@ use crate::bytes::{first_word, numbers_of, shown};
 use std::alloc::{AllocError, Global};
 use std::random::RandomSource;
 use std::rt;
+use std::time::Instant;
 use system::{SystemClock, WordsError, read_words, tell};
 use wire::{Clock, ScriptedClock};
 
@@ -36,6 +37,7 @@ pub fn clock_shown(alloc: Global, count: usize, row: &str) -> Result<String, All
         return format!(in alloc; "nothing to tell");
     }
     let mut clock = ScriptedClock::new(readings, words);
+    clock.rest(1);
     let mut out = String::new(alloc);
     for _ in 0..count {
         let (reading, word) = (clock.now(), clock.word());
@@ -55,4 +57,21 @@ pub fn system_clock_shown<R: rt::Clock + RandomSource + Drop>(
     let is_later = clock.now() > moment as u64;
     let (first, second) = (clock.word(), clock.word());
     format!(in alloc; "{is_later} {}", first != second)
+}
+
+/// Whether a rest of so many milliseconds takes no less.
+pub fn rest_shown<R: rt::Clock + RandomSource + Copy + Drop>(
+    rt: R,
+    alloc: Global,
+    millis: usize,
+) -> Result<String, AllocError> {
+    let mut clock = SystemClock::new(rt);
+    let Ok(start) = Instant::now(&rt) else {
+        return format!(in alloc; "no time");
+    };
+    clock.rest(millis as u64);
+    match start.elapsed(&rt) {
+        Ok(spent) => format!(in alloc; "{}", spent.as_millis() >= millis as u128),
+        Err(_) => format!(in alloc; "no time"),
+    }
 }

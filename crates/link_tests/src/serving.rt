@@ -65,7 +65,7 @@ pub fn serve_shown(alloc: Global, most: usize, row: &str) -> Result<String, Allo
     let (writes, bytes) = first_word(row);
     let reads = direction(alloc, reads, most)?;
     let (writes, bytes) = (direction(alloc, writes, 20)?, bytes_of(alloc, bytes)?);
-    let mut link = link(alloc, bytes, reads, writes);
+    let mut link = link(alloc, bytes, reads, writes).quiet_for(3);
     let mut held = Intake::new(alloc);
     let mut room = [0u8; 64];
     let ended = serve(alloc, &mut link, &mut held, &mut room, &mut Echo);

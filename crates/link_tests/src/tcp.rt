@@ -1,18 +1,18 @@
 // A connection over TCP.
-use std::alloc::{AllocError, Global};
+use std::alloc::{AllocError, AllocGlobal, Global};
 use std::io;
 use std::net::{Net, OpenStream, TcpListener, TcpStream};
 use std::rt::Clock;
-use std::time::Duration;
-use system::{TcpDialer, TcpLink};
+use std::time::{Duration, Instant};
+use system::{BackendLink, TcpDialer, TcpLink};
 use units::Text;
-use wire::{Dialer, Link, Peer, write_link};
+use wire::{Dialer, Link, Peer, TimeLimits, write_link};
 
-fn port_text(alloc: Global, port: u16) -> Result<Text, AllocError> {
+pub(crate) fn port_text(alloc: Global, port: u16) -> Result<Text, AllocError> {
     Text::of(alloc, format!(in alloc; "{port}")?.as_bytes())
 }
 
-// Whether small pieces are sent at once, and a call that takes longer than so many seconds fails.
+// Whether small pieces are sent at once, and a call that takes longer than so many seconds fails. It is asked behind a read.
 fn is_set_up<T: OpenStream>(stream: &T, seconds: u64) -> io::Result<bool> {
     let most = Some(Duration::from_secs(seconds));
     Ok(stream.nodelay()? && stream.read_timeout()? == most && stream.write_timeout()? == most)
@@ -43,23 +43,26 @@ fn write_on<L: Link>(link: &mut L) {
 }
 
 // What is exchanged over a dialed connection, and its faults once the other end is gone.
-fn talk<R: Net<Stream = TcpStream> + Clock + Drop>(
+fn talk<R: Net<Stream = TcpStream> + Clock + AllocGlobal + Copy + Drop>(
     dialer: &mut TcpDialer<R>,
     alloc: Global,
-    mut link: TcpLink<TcpStream>,
+    mut link: BackendLink<R>,
     other: TcpStream,
-) -> Result<String, AllocError> {
+    seconds: u64,
+) -> io::Result<String> {
     let mut other = TcpLink::new(other, Peer::Accepted([127, 0, 0, 1]));
     let is_exchanged = is_exchanged(&mut link, &mut other);
+    let is_set_up = is_set_up(&link.link.stream, seconds)?;
     drop(other);
     write_on(&mut link);
-    let (reads, writes) = (link.read_faults, link.write_faults);
+    let (reads, writes) = (link.link.read_faults, link.link.write_faults);
+    link.shut();
     dialer.hang_up(link);
-    format!(in alloc; "{is_exchanged} {reads} {writes}")
+    Ok(format!(in alloc; "{is_set_up} {is_exchanged} {reads} {writes}")?)
 }
 
 // A dial to a port at which someone listens, and one when nobody does any more.
-fn dial<R: Net<Listener = TcpListener, Stream = TcpStream> + Clock + Drop>(
+fn dial<R: Net<Listener = TcpListener, Stream = TcpStream> + Clock + AllocGlobal + Copy + Drop>(
     dialer: &mut TcpDialer<R>,
     alloc: Global,
     listener: TcpListener,
@@ -70,21 +73,18 @@ fn dial<R: Net<Listener = TcpListener, Stream = TcpStream> + Clock + Drop>(
     let Ok(link) = dialer.dial(&host, &port) else {
         return Ok(format!(in alloc; "no dial")?);
     };
-    let is_set_up = is_set_up(&link.stream, seconds)?;
     let (stream, _) = listener.accept()?;
-    let said = talk(dialer, alloc, link, stream)?;
+    let said = talk(dialer, alloc, link, stream, seconds)?;
     drop(listener);
     let is_refused = dialer.dial(&host, &port).is_err();
-    Ok(format!(in alloc; "{is_set_up} {said} {is_refused}")?)
+    Ok(format!(in alloc; "{said} {is_refused}")?)
 }
 
 /// A connection over TCP: whether it is set up with so many seconds for a call, whether pieces go both ways, its faults of reads
 /// and writes, whether a dial to a closed port fails, and the dialer's faults of dials and writes.
-pub fn tcp_shown<R: Net<Listener = TcpListener, Stream = TcpStream> + Clock + Copy + Drop>(
-    rt: R,
-    alloc: Global,
-    seconds: usize,
-) -> Result<String, AllocError> {
+pub fn tcp_shown<
+    R: Net<Listener = TcpListener, Stream = TcpStream> + Clock + AllocGlobal + Copy + Drop,
+>(rt: R, alloc: Global, seconds: usize) -> Result<String, AllocError> {
     let Ok(listener) = TcpListener::bind(&rt, "127.0.0.1:0") else {
         return format!(in alloc; "no port");
     };
@@ -93,4 +93,50 @@ pub fn tcp_shown<R: Net<Listener = TcpListener, Stream = TcpStream> + Clock + Co
         return format!(in alloc; "the system fails");
     };
     format!(in alloc; "{said} {} {}", dialer.dial_faults, dialer.write_faults)
+}
+
+// A read from someone who sends nothing: whether it fails, in no less than so many milliseconds and no more than ten seconds more.
+fn unanswered<
+    R: Net<Listener = TcpListener, Stream = TcpStream> + Clock + AllocGlobal + Copy + Drop,
+>(rt: R, alloc: Global, dialer: &mut TcpDialer<R>, millis: u64) -> io::Result<String> {
+    let listener = TcpListener::bind(&rt, "127.0.0.1:0")?;
+    let host = Text::of(alloc, b"127.0.0.1")?;
+    let port = port_text(alloc, listener.local_addr()?.port())?;
+    let Ok(mut link) = dialer.dial(&host, &port) else {
+        return Ok(format!(in alloc; "no dial")?);
+    };
+    let start = Instant::now(&rt)?;
+    let fails = link.read(&mut [0u8; 1]).is_err();
+    let spent = start.elapsed(&rt)?.as_millis();
+    let least = u128::from(millis);
+    let in_time = spent >= least && spent <= least.saturating_add(10_000);
+    link.shut();
+    dialer.hang_up(link);
+    Ok(format!(in alloc; "{fails} {in_time} {}", dialer.read_faults)?)
+}
+
+/// The same where the first byte, and then where the whole, is to come within so many milliseconds; each with the dialer's faults of
+/// reads.
+pub fn within_shown<
+    R: Net<Listener = TcpListener, Stream = TcpStream> + Clock + AllocGlobal + Copy + Drop,
+>(rt: R, alloc: Global, millis: usize) -> Result<String, AllocError> {
+    let limits = TimeLimits {
+        connecting: 3_500,
+        first_byte: millis as u64,
+        between_bytes: 60_000,
+        whole: None,
+    };
+    let mut dialer = TcpDialer::new(rt);
+    dialer.within(limits);
+    let first = unanswered(rt, alloc, &mut dialer, millis as u64);
+    dialer.within(TimeLimits {
+        first_byte: 60_000,
+        whole: Some((millis as u64).saturating_add(20)),
+        ..limits
+    });
+    let whole = unanswered(rt, alloc, &mut dialer, millis as u64);
+    match (first, whole) {
+        (Ok(first), Ok(whole)) => format!(in alloc; "{first}, {whole}"),
+        _ => format!(in alloc; "the system fails"),
+    }
 }

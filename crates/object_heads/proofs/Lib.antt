@@ -2,3 +2,4 @@ pub mod NameLemmas
 pub mod IndexLemmas
 pub mod HeadLemmas
 pub mod MemberLemmas
+pub mod DropLemmas

@@ -1,12 +1,16 @@
 -- Objects of a cache with their handles, the newest first: each member is its handle and its item, and an item is an
 -- object with a payload. The newer a member, the lower its handle.
 use Rattle.std.specs.Prelude.{ℕ, ◌<◌, Bool, not, nat_eq, nat_le, List, Option, filter, map, slice_get, if◌then◌else◌}
-use Rattle.std.specs.List.{AllByRecursion}
+use Rattle.std.specs.List.{list_any, AllByRecursion}
 use Rattle.std.specs.Map.{keys_of}
 use Rattle.cache_law.specs.declared.object.Object.{Object}
 use Rattle.cache_law.specs.Object.{key_of, same_texts}
 use Rattle.cache_law.specs.Lookup.{raised}
 use Rattle.object_heads.specs.declared.item.Item.{Item}
+
+-- the handle is one of these
+abbrev pub is_one_of : List ℕ → ℕ → Bool
+is_one_of handles own = list_any (λ handle. nat_eq handle own) handles
 
 module _ {P : Type 0} where
   -- its object has this key
@@ -41,6 +45,10 @@ module _ {X : Type 0} where
   -- the others than the one of this handle
   abbrev pub without : ℕ → List (ℕ × X) → List (ℕ × X)
   without handle members = filter (λ member. not (nat_eq handle member.0)) members
+
+  -- the others than those of these handles
+  abbrev pub without_all : List ℕ → List (ℕ × X) → List (ℕ × X)
+  without_all handles members = filter (λ member. not (is_one_of handles member.0)) members
 
   -- the members, where that of this handle is changed
   abbrev pub changed : ℕ → (X → X) → List (ℕ × X) → List (ℕ × X)

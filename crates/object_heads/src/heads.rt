@@ -5,7 +5,7 @@ ghost use Rattle.std.specs.Ordering.{nat_cmp};
 ghost use Rattle.std.specs.BTreeSet.{IsOrdered};
 ghost use Rattle.std.specs.Map.{lookup};
 ghost use Rattle.cache_law.specs.Object.{key_of};
-ghost use Rattle.object_heads.specs.Members.{IsNewest, changed, first_from, handle_at, handles_where, has_key, with_hit, with_object, with_payload, without};
+ghost use Rattle.object_heads.specs.Members.{IsNewest, changed, first_from, handle_at, handles_where, has_key, with_hit, with_object, with_payload, without, without_all};
 
 use crate::item::Item;
 use crate::name::Name;
@@ -97,6 +97,15 @@ impl<P: Drop> Heads<P> {
         let Kept { name, item } = self.items.remove(&handle)?;
         self.places.leave(handle, &name, item.view.number);
         Some(item)
+    }
+
+    /// Takes the members of these handles out, as far as they are there. It takes no memory.
+    pub fn drop_all(&mut self, handles: &[u64])
+        ensures { self.new ≡ without_all handles.now self.old }
+    {
+        for handle in handles {
+            self.take(*handle);
+        }
     }
 
     /// The item of this handle.

@@ -25,10 +25,11 @@ fn arrivals(alloc: Global, coming: u64) -> Result<VecDeque<Coming>, AllocError> 
     Ok(all)
 }
 
-/// A listener to which so many connections come as the setting `coming` says, numbered by their addresses from 0 on, and whose
-/// calls with the numbers of `failing` fail.
+/// A listener to which so many connections come as the setting `coming` says, numbered by their addresses from 0 on, whose calls with
+/// the numbers of `failing` fail, and of which as many others as `quiet` says find nobody yet.
 pub fn listener_of(alloc: Global, row: &str) -> Result<FailingListener, AllocError> {
     let coming = arrivals(alloc, number(row, "coming", 0))?;
     let failing = numbers(alloc, row, "failing")?;
-    Ok(FailingListener::new(alloc, coming, failing))
+    let quiet = number(row, "quiet", 0);
+    Ok(FailingListener::new(alloc, coming, failing, quiet))
 }

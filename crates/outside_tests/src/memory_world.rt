@@ -2,8 +2,8 @@
 use crate::worlds::small_world;
 use std::alloc::{AllocError, Global};
 use units::Text;
-use wire::{Clock, Failed, FailingLink, Kept, write_link};
-use world::{FailingWorld, Gate, Listener, OpenGate, Place, ShelfError, World};
+use wire::{Clock, Failed, FailingLink, Kept, Link, write_link};
+use world::{Awaited, FailingWorld, Gate, Listener, OpenGate, Place, Shelf, ShelfError, World};
 
 /// What each of the files is found to have.
 pub fn push_files<W: World>(
@@ -12,9 +12,21 @@ pub fn push_files<W: World>(
     world: &mut W,
     names: &str,
 ) -> Result<(), AllocError> {
+    let mut shelf = world.shelf()?;
+    let pushed = push_read(alloc, out, &mut shelf, names);
+    world.retire_shelf(shelf);
+    pushed
+}
+
+fn push_read<S: Shelf>(
+    alloc: Global,
+    out: &mut String,
+    shelf: &mut S,
+    names: &str,
+) -> Result<(), AllocError> {
     for name in names.split(' ') {
         let name = Text::of(alloc, name.as_bytes())?;
-        push_file(out, world.shelf(&name))?;
+        push_file(out, shelf.read(&name))?;
     }
     Ok(())
 }
@@ -45,11 +57,13 @@ fn greet_all<W: World>(world: &mut W, listener: &mut W::Listener) -> u32 {
     let mut failures: u32 = 0;
     for _ in 0..9u32 {
         match listener.accept() {
-            Ok(Some((mut link, _))) => {
+            Ok(Awaited::Came(mut link, _)) => {
                 let _ = write_link(&mut link, b"hello");
+                link.shut();
                 world.keep_link(link);
             }
-            Ok(None) => break,
+            Ok(Awaited::NobodyYet) => {}
+            Ok(Awaited::End) => break,
             Err(Failed) => failures = failures.saturating_add(1),
         }
     }

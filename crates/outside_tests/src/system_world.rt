@@ -7,7 +7,7 @@ use std::time::{Duration, Instant};
 use system::{PortLink, PortListener, SystemWorld};
 use units::Text;
 use wire::{Dialer, Link, write_link};
-use world::{Listener, World};
+use world::{Awaited, Listener, World};
 
 const HOME: [u8; 4] = [127, 0, 0, 1];
 
@@ -22,11 +22,16 @@ fn dialed<D: Dialer>(alloc: Global, dialer: &mut D, port: u16) -> io::Result<D::
     dialer.dial(&host, &port).map_err(|_| broken())
 }
 
+// The connection that was just dialed. It may take some waits to come.
 fn accepted<L: Listener>(listener: &mut L) -> io::Result<(L::Link, [u8; 4])> {
-    match listener.accept() {
-        Ok(Some(found)) => Ok(found),
-        _ => Err(broken()),
+    for _ in 0..99u32 {
+        match listener.accept() {
+            Ok(Awaited::Came(link, address)) => return Ok((link, address)),
+            Ok(Awaited::NobodyYet) => {}
+            _ => return Err(broken()),
+        }
     }
+    Err(broken())
 }
 
 // Small pieces are sent at once, and a write that takes longer than a minute fails.
@@ -105,6 +110,17 @@ fn push_waits<A: Link>(
     Ok(write!(out, "after {seconds} s faults {} ", near.read_faults)?)
 }
 
+// What a wait answers before anything comes, and behind that, and how long the next read takes then at most.
+fn push_asks<A: Link>(
+    out: &mut String,
+    far: &mut A,
+    near: &mut PortLink,
+) -> Result<(), AllocError> {
+    write!(out, "{:?} ", near.wait())?;
+    push_write(out, far, b"a")?;
+    write!(out, "{:?} {} ms ", near.wait(), near.waited)
+}
+
 // How a connection is used, as the word says.
 fn push_use<A: Link>(
     rt: HostRuntime,
@@ -115,6 +131,7 @@ fn push_use<A: Link>(
 ) -> io::Result<()> {
     match word {
         "waits" => push_waits(rt, out, far, near),
+        "asks" => Ok(push_asks(out, far, near)?),
         _ => push_talk(out, far, near),
     }
 }
@@ -133,6 +150,8 @@ fn push_connection(
     let (mut near, address) = accepted(listener)?;
     write!(out, "{address:?} ")?;
     let used = push_use(rt, out, &mut far, &mut near, word);
+    near.shut();
+    far.shut();
     world.keep_link(near);
     kit.dialer.hang_up(far);
     world.keep_kit(kit);
@@ -150,7 +169,8 @@ fn push_listener(
     push_connection(rt, out, world, listener, word)?;
     let port = listener.listener.local_addr()?.port();
     let taken = world.listen(port).is_err();
-    Ok(write!(out, "taken {taken} ")?)
+    let nobody = matches!(listener.accept(), Ok(Awaited::NobodyYet));
+    Ok(write!(out, "taken {taken} nobody {nobody} ")?)
 }
 
 // The same of a listener that is handed back.
@@ -187,5 +207,6 @@ fn push_said(
         return Ok(write!(out, " faults {}", world.shelf_faults)?);
     }
     push_port(rt, out, world, word)?;
-    Ok(write!(out, "kept {} faults {}", world.kept, world.listen_faults)?)
+    let (kept, given) = (world.kept, world.given);
+    Ok(write!(out, "kept {kept} of {given} faults {}", world.listen_faults)?)
 }

@@ -26,6 +26,7 @@ fn listening(alloc: Global) -> Result<Listening, AllocError> {
     Ok(Listening {
         coming: arrivals(alloc)?,
         failing: vec![in alloc; 1]?,
+        quiet: 1,
     })
 }
 
@@ -67,8 +68,8 @@ fn fill(alloc: Global, parts: &mut Parts) -> Result<(), AllocError> {
     Ok(())
 }
 
-/// One listener, to which two connections come and whose second call fails; one file; one kit, whose clock tells 5. The second
-/// listening and the second reading of a file fail.
+/// One listener, to which two connections come, whose first call finds nobody yet and whose second one fails; one file; one kit,
+/// whose clock tells 5. The second listening, and the second reading of a file at a shelf, fail.
 pub fn small_world(alloc: Global) -> Result<FailingWorld, AllocError> {
     let mut parts = Parts {
         listening: VecDeque::new(alloc),

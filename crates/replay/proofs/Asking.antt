@@ -18,6 +18,7 @@ use Rattle.replay.specs.declared.policy.Want.{Want}
 use Rattle.replay.specs.declared.policy.Want.TheVariants.{Ask}
 use Rattle.replay.specs.Policy.{IsDue, answers, ends_wait}
 use Rattle.replay.specs.Waits.{KeepsOthers, wait_of}
+use Rattle.replay.specs.Plan.{plan_of}
 use Rattle.replay.specs.Scene.{Scene, Round, calls, gave}
 use Rattle.replay.specs.Endings.{WantsTooMuch}
 use Rattle.replay.specs.Went.{Went, Leads, CanLead, HasTurn, IsAt, IsInStep, Met, spare}
@@ -47,7 +48,7 @@ pub in_step_moment : (beginning : Beginning) (old : List Entry) (moment : ℕ) �
 in_step_moment beginning old moment in_step = let le = in_step.no_later in omega arith
 
 -- a call that doesn't fit
-pub too_much : {P : Type 0} (wants : Request → List Given → Want → Type 0) (stands : P → Request → List Given → Type 0) (policy : P) (beginning : Beginning) (old new : List Entry) (client moment : ℕ) (call : Call) (scene : Scene) → IsInStep beginning old moment → new ≡ old → (FitsBehind beginning old client (moment_of beginning old moment) call → ⊥) → IsAt beginning old moment scene → HasTurn wants stands policy client (Ask call) scene → WantsTooMuch wants beginning new scene
+pub too_much : {P : Type 0} (wants : Request → List Given → Want → Type 0) (stands : P → Request → List Given → Type 0) (policy : P) (beginning : Beginning) (old new : List Entry) (client moment : ℕ) (call : Call) (scene : Scene) → IsInStep beginning old moment → new ≡ old → (FitsBehind beginning old client (moment_of beginning old moment) call → ⊥) → IsAt beginning old moment scene → HasTurn wants stands policy client (Ask call) scene → WantsTooMuch (plan_of wants beginning) new scene
 too_much wants stands policy beginning old new client moment call scene in_step same full at turn =
     record {
       round = turn.round;
@@ -68,7 +69,7 @@ module _ (beginning : Beginning) (old new : List Entry) (client moment : ℕ) (c
   pub told_moment : told.moment ≡ moment
   told_moment = entered.moment ∙ in_step_moment beginning old moment in_step
 
-  reached_new : reached beginning new ≡ next_state beginning (reached beginning old) (entry_of client call told)
+  reached_new : reached beginning new ≡ next_state beginning.params (reached beginning old) (entry_of client call told)
   reached_new = ap (λ (es : List Entry). reached beginning es) entered.joined ∙ reached-push beginning old (entry_of client call told)
 
   pub still_in_step : (after : Beginning) → after ≡ beginning → IsInStep after new moment
@@ -105,18 +106,18 @@ module _ (beginning : Beginning) (old new : List Entry) (client moment : ℕ) (c
 
   -- the scene behind the entry
   abbrev pub behind : Scene → Round → Scene
-  behind scene round = record scene { state = next_state beginning scene.state (entry_of client call told); running = Some (gave round (Told told.moment told.reply)) }
+  behind scene round = record scene { state = next_state beginning.params scene.state (entry_of client call told); running = Some (gave round (Told told.moment told.reply)) }
 
   -- the entry is the move that the round wanted
-  pub asked : {P : Type 0} (wants : Request → List Given → Want → Type 0) (stands : P → Request → List Given → Type 0) (policy : P) (scene : Scene) → IsAt beginning old moment scene → (turn : HasTurn wants stands policy client (Ask call) scene) → (H : Scene → List ℕ → Type 0) → H (behind scene turn.round) [] → Went wants beginning scene [] old new H
+  pub asked : {P : Type 0} (wants : Request → List Given → Want → Type 0) (stands : P → Request → List Given → Type 0) (policy : P) (scene : Scene) → IsAt beginning old moment scene → (turn : HasTurn wants stands policy client (Ask call) scene) → (H : Scene → List ℕ → Type 0) → H (behind scene turn.round) [] → Went (plan_of wants beginning) scene [] old new H
   asked wants stands policy scene at turn H h =
-      went-one wants beginning scene (behind scene turn.round) (calls (entry_of client call told)) old new H
+      went-one (plan_of wants beginning) scene (behind scene turn.round) (calls (entry_of client call told)) old new H
       (turn.round, record { turn = turn.turn; wanted = turn.leads.wanted }, sym turn.leads.client_is, told_moment ∙ at.moment_is, refl) entered.joined h
 
-  pub met : {P : Type 0} (wants : Request → List Given → Want → Type 0) (stands : P → Request → List Given → Type 0) (policy after : P) (want : Want) (scene : Scene) → IsAt beginning old moment scene → (turn : HasTurn wants stands policy client (Ask call) scene) → Leads wants stands after client want (gave turn.round (Told told.moment told.reply)) → Met wants stands beginning new moment after client want scene (behind scene turn.round)
+  pub met : {P : Type 0} (wants : Request → List Given → Want → Type 0) (stands : P → Request → List Given → Type 0) (policy after : P) (want : Want) (scene : Scene) → IsAt beginning old moment scene → (turn : HasTurn wants stands policy client (Ask call) scene) → Leads wants stands after client want (gave turn.round (Told told.moment told.reply)) → Met (plan_of wants beginning) stands new moment after client want scene (behind scene turn.round)
   met wants stands policy after want scene at turn leads =
       record {
         has_turn = record { round = gave turn.round (Told told.moment told.reply); turn = refl; leads = leads };
-        at = record { moment_is = at.moment_is; state_is = ap (λ (s : State). next_state beginning s (entry_of client call told)) at.state_is ∙ sym reached_new };
+        at = record { moment_is = at.moment_is; state_is = ap (λ (s : State). next_state beginning.params s (entry_of client call told)) at.state_is ∙ sym reached_new };
         keeps = record { waiting_same = refl; parked_same = refl };
       }

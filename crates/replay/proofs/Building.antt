@@ -1,17 +1,15 @@
 -- Lines and the events that they stand for, one after another.
 use Rattle.std.proofs.Common.{◌≡◌, ℕ, Bool, true, false, List, [], ◌∷◌, ◌++◌, sym, ◌∙◌, subst}
 use Rattle.std.proofs.lemmas.Bool.{true≢false}
+use Rattle.std.specs.List.{AllByRecursion}
 use Rattle.http_heads.specs.declared.message.RequestHead.{RequestHead}
 use Rattle.seen_request.specs.Sites.{is_of_one_site}
 use Rattle.session_text.specs.declared.session.NumberedLine.{NumberedLine}
-use Rattle.session_text.specs.declared.session.Session.{Session}
 use Rattle.vmod_host.specs.declared.signature.Stored.{Stored}
 use Rattle.replay.specs.declared.policy.Message.TheVariants.{Unreadable}
 use Rattle.replay.specs.declared.event.NumberedEvent.{NumberedEvent}
 use Rattle.replay.specs.Whole.{IsTheWholeRequest, LacksWholeRequest}
-use Rattle.replay.specs.declared.script.BuildError.{BuildError}
-use Rattle.replay.specs.declared.script.BuildError.TheVariants.{NotBuilt, NoMemory}
-use Rattle.replay.specs.Build.{StandsFor, IsMessage, IsBuiltAs, IsBuildError, IsLineError, IsOneMore}
+use Rattle.replay.specs.Build.{StandsFor, IsMessage, IsBuiltAs, IsOneMore}
 
 built_push : (stored : List Stored) (lines : List NumberedLine) (events : List NumberedEvent) (line : NumberedLine) (event : NumberedEvent) → IsBuiltAs stored lines events → event.number ≡ line.number → StandsFor stored line.line event.event → IsBuiltAs stored (lines ++ line ∷ []) (events ++ event ∷ [])
 built_push stored [] [] line event are number stands = (number, stands, tt)
@@ -24,10 +22,10 @@ pub built_more : (stored : List Stored) (lines : List NumberedLine) (events more
 built_more stored lines events more line are one =
     subst (λ (es : List NumberedEvent). IsBuiltAs stored (lines ++ line ∷ []) es) (sym one.pushed) (built_push stored lines events line one.event are one.number_is one.stands)
 
--- the first that isn't built, or memory was wanting
-pub not_built : (stored : List Stored) (session : Session) (front back : List NumberedLine) (events : List NumberedEvent) (line : NumberedLine) (error : BuildError) → session.lines ≡ front ++ line ∷ back → IsBuiltAs stored front events → IsLineError stored line error → IsBuildError stored session error
-not_built stored session front back events line (NotBuilt number) split are is = (front, line, back, events, split, are, sym is.0, is.1)
-not_built stored session front back events line NoMemory split are is = tt
+-- what holds of each line holds of the one that stands here
+pub of_this : (P : NumberedLine → Type 0) (front : List NumberedLine) (line : NumberedLine) (back : List NumberedLine) → AllByRecursion P (front ++ line ∷ back) → P line
+of_this P [] line back all = all.0
+of_this P (first ∷ front) line back all = of_this P front line back all.1
 
 pub all_built : (stored : List Stored) (lines front : List NumberedLine) (events : List NumberedEvent) → front ≡ lines → IsBuiltAs stored front events → IsBuiltAs stored lines events
 all_built stored lines front events all are = subst (λ (ls : List NumberedLine). IsBuiltAs stored ls events) all are

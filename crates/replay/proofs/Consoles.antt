@@ -16,6 +16,7 @@ use Rattle.replay.specs.declared.console.Instruction.{Instruction}
 use Rattle.replay.specs.declared.console.Instruction.TheVariants as instruction
 use Rattle.replay.specs.declared.event.Event.{Event}
 use Rattle.replay.specs.declared.event.Event.TheVariants as events
+use Rattle.replay.specs.declared.event.Aside.TheVariants as asides
 use Rattle.replay.specs.declared.event.NumberedEvent.{NumberedEvent}
 use Rattle.replay.specs.declared.policy.Given.{Given}
 use Rattle.replay.specs.declared.policy.Given.TheVariants.{Start, Told, Came, Sent, Closed}
@@ -29,6 +30,7 @@ use Rattle.replay.specs.Build.{IsBuiltAs, IsLine, StandsFor}
 use Rattle.replay.specs.Console.{console_want, reply_want, said_want, start_want}
 use Rattle.replay.specs.Endings.{IsIdle}
 use Rattle.replay.specs.Laws.{ConsoleIsHeard}
+use Rattle.replay.specs.Plan.{Plan, plan_of}
 use Rattle.replay.specs.Scene.{Round, Waiting, Parked, Scene, Move, hears, calls, fetches, sends, parks, wakes, ends, events_of, Next, Path, begun, gave, is_free, is_under_way, opening_scene, waits_for}
 use Rattle.replay.specs.Turns.{Wants, MessageWants}
 use Rattle.replay.specs.Went.{events_in}
@@ -83,6 +85,7 @@ abbrev IsProperEvent : Event → Type 0
 IsProperEvent (events.Moment moment) = Unit {0}
 IsProperEvent (events.Request request) = IsProper request
 IsProperEvent (events.Reply number heard) = Unit {0}
+IsProperEvent (events.Aside aside) = Unit {0}
 
 -- the round isn't the console's
 abbrev IsOthers : Round → Type 0
@@ -148,7 +151,7 @@ turn_of round proper other is = let same : round ≡ other = cc in subst (λ (r 
 turn_none : (other : Round) → None ≡ Some other → IsProper other.request
 turn_none other is = absurd (cc)
 
-calm_on : {P : Type 0} (language : Language P) (beginning : Beginning) (old new : Scene) (move : Move) → AllByRecursion IsProperEvent (events_of move) → IsCalm old → Next (Wants language) beginning old move new → IsCalm new
+calm_on : {P : Type 0} (language : Language P) (beginning : Beginning) (old new : Scene) (move : Move) → AllByRecursion IsProperEvent (events_of move) → IsCalm old → Next (plan_of (Wants language) beginning) old move new → IsCalm new
 calm_on language beginning old new (hears (events.Moment moment)) proper calm next =
     subst IsCalm (sym next.1) (record { runs = calm.runs; waits = calm.waits; parks = calm.parks })
 calm_on language beginning old new (hears (events.Request request)) proper calm next =
@@ -160,6 +163,8 @@ calm_on language beginning old new (hears (events.Reply number heard)) proper ca
       waits = all_remove (λ (one : Waiting). IsOthers one.round) (position_or_len (waits_for number) old.waiting) old.waiting calm.waits;
       parks = calm.parks;
     })
+calm_on language beginning old new (hears (events.Aside (asides.Lurk count))) proper calm next = subst IsCalm (sym next.1) calm
+calm_on language beginning old new (hears (events.Aside (asides.Probe backend good))) proper calm next = absurd next
 calm_on language beginning old new (calls entry) proper calm next =
     subst IsCalm (sym next.4) (record { runs = turn_of (gave next.0 (Told entry.moment entry.reply)) (calm.runs next.0 next.1.turn); waits = calm.waits; parks = calm.parks })
 calm_on language beginning old new (fetches number backend request) proper calm next =
@@ -182,14 +187,14 @@ calm_on language beginning old new wakes proper calm next =
 calm_on language beginning old new ends proper calm next =
     subst IsCalm (sym next.2) (record { runs = turn_none; waits = calm.waits; parks = calm.parks })
 
-calm_path : {P : Type 0} (language : Language P) (beginning : Beginning) (old new : Scene) (moves : List Move) → AllByRecursion IsProperEvent (flat_map events_of moves) → IsCalm old → Path (Wants language) beginning old moves new → IsCalm new
+calm_path : {P : Type 0} (language : Language P) (beginning : Beginning) (old new : Scene) (moves : List Move) → AllByRecursion IsProperEvent (flat_map events_of moves) → IsCalm old → Path (plan_of (Wants language) beginning) old moves new → IsCalm new
 calm_path language beginning old new [] proper calm path = subst IsCalm path calm
 calm_path language beginning old new (move ∷ moves) proper calm path =
     calm_path language beginning path.0 new moves (all_back IsProperEvent (events_of move) (flat_map events_of moves) proper)
     (calm_on language beginning old path.0 move (all_front IsProperEvent (events_of move) (flat_map events_of moves) proper) calm path.1) path.2
 
-calm_first : (beginning : Beginning) → IsCalm (opening_scene beginning)
-calm_first beginning = record { runs = turn_none; waits = tt; parks = tt }
+calm_first : (plan : Plan) → IsCalm (opening_scene plan)
+calm_first plan = record { runs = turn_none; waits = tt; parks = tt }
 
 -- What the lines of a session stand for.
 
@@ -201,12 +206,14 @@ from_line stored text Unreadable is = absurd is
 proper_line : (stored : List Stored) (line : TextLine) (event : Event) → StandsFor stored line event → IsProperEvent event
 proper_line stored line (events.Moment moment) stands = tt
 proper_line stored line (events.Reply number heard) stands = tt
+proper_line stored line (events.Aside aside) stands = tt
 proper_line stored (lines.Req client text) (events.Request request) stands = λ is. absurd (omega (arith, is, stands.0, stands.2))
 proper_line stored (lines.Cli text) (events.Request request) stands = λ is. from_line stored text request.message stands.1
 proper_line stored (lines.At moment) (events.Request request) stands = absurd stands
 proper_line stored (lines.Reply fetch text) (events.Request request) stands = absurd stands
 proper_line stored (lines.Fail fetch) (events.Request request) stands = absurd stands
 proper_line stored (lines.Lurk count) (events.Request request) stands = absurd stands
+proper_line stored (lines.Probe backend good) (events.Request request) stands = absurd stands
 
 -- the events before an idle one are proper, and it stands for a line of its number
 record IsReached (stored : List Stored) (told : List NumberedLine) (played : List NumberedEvent) (idle : NumberedEvent) : Type 0 where
@@ -239,15 +246,16 @@ reached_line stored (line ∷ others) (event ∷ more) idle rest built =
 heard_line : (stored : List Stored) (text : List ℕ) (event : Event) (scene : Scene) → IsCalm scene → StandsFor stored (lines.Cli text) event → IsIdle scene event → ⊥
 heard_line stored text (events.Moment moment) scene calm stands idle = stands
 heard_line stored text (events.Reply number heard) scene calm stands idle = stands
+heard_line stored text (events.Aside aside) scene calm stands idle = stands
 heard_line stored text (events.Request request) scene calm stands idle =
     true≢false (sym idle ∙ (ap (λ (client : ℕ). is_under_way client scene) stands.0 ∙ calm_free scene calm))
 
-pub console_is_heard : {P : Type 0} (language : Language P) → ConsoleIsHeard (Wants language)
-console_is_heard language stored session beginning history before now line ended =
+pub console_is_heard : {P : Type 0} (language : Language P) (beginning : Beginning) → ConsoleIsHeard (plan_of (Wants language) beginning)
+console_is_heard language beginning stored session history before now line ended =
     let told = ended.2 in
     let built : IsBuiltAs stored session.lines (told.0 ++ told.1 ∷ told.2) = subst (λ (es : List NumberedEvent). IsBuiltAs stored session.lines es) told.3 ended.1.lines_are in
     let at = reached_line stored session.lines told.0 told.1 told.2 built in
     let went = told.5.went in
     let proper : AllByRecursion IsProperEvent (flat_map events_of went.run.moves) = subst (λ (es : List Event). AllByRecursion IsProperEvent es) (sym went.run.reads) at.proper in
-    let calm : IsCalm went.scene = calm_path language beginning (opening_scene beginning) went.scene went.run.moves proper (calm_first beginning) went.run.path in
+    let calm : IsCalm went.scene = calm_path language beginning (opening_scene (plan_of (Wants language) beginning)) went.scene went.run.moves proper (calm_first (plan_of (Wants language) beginning)) went.run.path in
     (at.front, at.one, at.back, at.split, sym at.number ∙ told.4, λ text is. heard_line stored text told.1.event went.scene calm (subst (λ (l : TextLine). StandsFor stored l told.1.event) is at.stands) went.fact.1)

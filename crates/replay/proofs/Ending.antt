@@ -19,7 +19,8 @@ use Rattle.replay.specs.declared.rounds.Break.TheVariants as breaks
 use Rattle.replay.specs.declared.schedule.Halt.{Halt}
 use Rattle.replay.specs.declared.schedule.Halt.TheVariants as halts
 use Rattle.replay.specs.declared.session.ReplayError.{ReplayError}
-use Rattle.replay.specs.declared.session.ReplayError.TheVariants.{NotBuilt, Idle, Unanswered, WriteFault, HistoryFull, NoMemory}
+use Rattle.replay.specs.declared.session.ReplayError.TheVariants.{Idle, Unanswered, WriteFault, HistoryFull, NoMemory}
+use Rattle.replay.specs.Plan.{Plan, plan_of}
 use Rattle.replay.specs.Scene.{Scene, opening_scene}
 use Rattle.replay.specs.Pieces.{Pieces, pieces, Takes, LosesEnd}
 use Rattle.replay.specs.Went.{Went, Stage, IsStage, IsPending, IsParked, PlaysAll, events_in}
@@ -40,17 +41,17 @@ is_nil xs e = nil_from_length xs (eqb-true (length xs) 0 e)
 nothing_kept : {X Y : Type 0} (xs : List X) (ys : List Y) → xs ≡ [] → ys ≡ [] → (length xs == 0) && (length ys == 0) ≡ true
 nothing_kept {X} {Y} xs ys p q = ap (λ (zs : List X). (length zs == 0) && (length ys == 0)) p ∙ ap (λ (zs : List Y). length zs == 0) q
 
-nobody_waits : {P : Type 0} (wants : Request → List Given → Want → Type 0) (stands : P → Request → List Given → Type 0) (beginning : Beginning) (stage : Stage P) (scene : Scene) → IsStage wants stands beginning stage scene → (length stage.waiting == 0) && (length stage.parked == 0) ≡ true → NobodyWaits scene
-nobody_waits wants stands beginning stage scene is none =
+nobody_waits : {P : Type 0} (plan : Plan) (stands : P → Request → List Given → Type 0) (stage : Stage P) (scene : Scene) → IsStage plan stands stage scene → (length stage.waiting == 0) && (length stage.parked == 0) ≡ true → NobodyWaits scene
+nobody_waits plan stands stage scene is none =
     let parts = both (length stage.waiting == 0) (length stage.parked == 0) none in
     record {
-      for_replies = alike-nil (IsPending wants stands) stage.waiting scene.waiting is.waiting_are (is_nil stage.waiting parts.0);
-      for_tokens = alike-nil (IsParked wants stands) stage.parked scene.parked is.parked_are (is_nil stage.parked parts.1);
+      for_replies = alike-nil (IsPending plan.wants stands) stage.waiting scene.waiting is.waiting_are (is_nil stage.waiting parts.0);
+      for_tokens = alike-nil (IsParked plan.wants stands) stage.parked scene.parked is.parked_are (is_nil stage.parked parts.1);
     }
 
-somebody_waits : {P : Type 0} (wants : Request → List Given → Want → Type 0) (stands : P → Request → List Given → Type 0) (beginning : Beginning) (stage : Stage P) (scene : Scene) → IsStage wants stands beginning stage scene → (length stage.waiting == 0) && (length stage.parked == 0) ≡ false → NobodyWaits scene → ⊥
-somebody_waits wants stands beginning stage scene is some nobody =
-    let none = nothing_kept stage.waiting stage.parked (alike-some (IsPending wants stands) stage.waiting scene.waiting is.waiting_are nobody.for_replies) (alike-some (IsParked wants stands) stage.parked scene.parked is.parked_are nobody.for_tokens) in
+somebody_waits : {P : Type 0} (plan : Plan) (stands : P → Request → List Given → Type 0) (stage : Stage P) (scene : Scene) → IsStage plan stands stage scene → (length stage.waiting == 0) && (length stage.parked == 0) ≡ false → NobodyWaits scene → ⊥
+somebody_waits plan stands stage scene is some nobody =
+    let none = nothing_kept stage.waiting stage.parked (alike-some (IsPending plan.wants stands) stage.waiting scene.waiting is.waiting_are nobody.for_replies) (alike-some (IsParked plan.wants stands) stage.parked scene.parked is.parked_are nobody.for_tokens) in
     cc
 
 -- what was taken is written, or its end is lost
@@ -69,35 +70,34 @@ writing : (old : Pieces) (held : Option (List ℕ)) (ending told : Option Replay
 unfolding Writing
 writing old held (Some WriteFault) told is = is.fault refl
 writing old held None told is = is.other refl
-writing old held (Some (NotBuilt line)) told is = is.other refl
 writing old held (Some (Idle line)) told is = is.other refl
 writing old held (Some (Unanswered line)) told is = is.other refl
 writing old held (Some HistoryFull) told is = is.other refl
 writing old held (Some NoMemory) told is = is.other refl
 
-module _ {P : Type 0} (wants : Request → List Given → Want → Type 0) (stands : P → Request → List Given → Type 0) (beginning : Beginning) (script : Script) (start stage : Stage P) (before middle now : Option (List ℕ)) (unwritten : List ℕ) (start_is : start.history ≡ []) (legal : Legal beginning stage.history) where
-  came : {H H' : Scene → List ℕ → Type 0} {heard : List Event} → ((scene : Scene) (text : List ℕ) → H scene text → H' scene text) → Went wants beginning (opening_scene beginning) heard start.history stage.history H → CameTo wants beginning heard stage.history H'
+module _ {P : Type 0} (plan : Plan) (stands : P → Request → List Given → Type 0) (script : Script) (start stage : Stage P) (before middle now : Option (List ℕ)) (unwritten : List ℕ) (start_is : start.history ≡ []) (legal : Legal plan.beginning stage.history) where
+  came : {H H' : Scene → List ℕ → Type 0} {heard : List Event} → ((scene : Scene) (text : List ℕ) → H scene text → H' scene text) → Went plan (opening_scene plan) heard start.history stage.history H → CameTo plan heard stage.history H'
   came {H} {H'} {heard} f w =
       record {
-        went = went-map wants beginning (opening_scene beginning) heard [] stage.history _ _ f (subst (λ (h : List Entry). Went wants beginning (opening_scene beginning) heard h stage.history H) start_is w);
+        went = went-map plan (opening_scene plan) heard [] stage.history _ _ f (subst (λ (h : List Entry). Went plan (opening_scene plan) heard h stage.history H) start_is w);
         legal = legal;
       }
 
   -- the sink's fault behind some of the events
-  faulty : {H : Scene → List ℕ → Type 0} (heard rest : List Event) → events_in script.events ≡ heard ++ rest → ((scene : Scene) (text : List ℕ) → H scene text → LosesEnd (pieces before []) now text) → Went wants beginning (opening_scene beginning) heard start.history stage.history H → EndsSo wants beginning script stage.history before now (Some WriteFault)
+  faulty : {H : Scene → List ℕ → Type 0} (heard rest : List Event) → events_in script.events ≡ heard ++ rest → ((scene : Scene) (text : List ℕ) → H scene text → LosesEnd (pieces before []) now text) → Went plan (opening_scene plan) heard start.history stage.history H → EndsSo plan script stage.history before now (Some WriteFault)
   faulty heard rest split lost w = (heard, rest, split, came (λ scene text f. lost_end before now text (lost scene text f)) w)
 
-  told_so : (ending told : Option ReplayError) → told ≡ ending → EndsSo wants beginning script stage.history before now ending → EndsSo wants beginning script stage.history before now told
-  told_so ending told same ends = subst (λ (e : Option ReplayError). EndsSo wants beginning script stage.history before now e) (sym same) ends
+  told_so : (ending told : Option ReplayError) → told ≡ ending → EndsSo plan script stage.history before now ending → EndsSo plan script stage.history before now told
+  told_so ending told same ends = subst (λ (e : Option ReplayError). EndsSo plan script stage.history before now e) (sym same) ends
 
-  ends_so : (played : Result (Unit {0}) Halt) (empty : Bool) (told : Option ReplayError) → empty ≡ (length stage.waiting == 0) && (length stage.parked == 0) → PlaysAll wants stands beginning (changed start stage (pieces before []) (pieces middle unwritten)) script.events played → Writing (pieces middle unwritten) now (refusal_of played empty script.end) told → EndsSo wants beginning script stage.history before now told
+  ends_so : (played : Result (Unit {0}) Halt) (empty : Bool) (told : Option ReplayError) → empty ≡ (length stage.waiting == 0) && (length stage.parked == 0) → PlaysAll plan stands (changed start stage (pieces before []) (pieces middle unwritten)) script.events played → Writing (pieces middle unwritten) now (refusal_of played empty script.end) told → EndsSo plan script stage.history before now told
   unfolding Writing
   ends_so (Ok u) true told is plays (inl w) =
-      told_so None told w.0 (came (λ scene text f. (f.0, nobody_waits wants stands beginning stage scene f.1 (sym is), all_written before middle now unwritten text f.2 w.1)) plays)
+      told_so None told w.0 (came (λ scene text f. (f.0, nobody_waits plan stands stage scene f.1 (sym is), all_written before middle now unwritten text f.2 w.1)) plays)
   ends_so (Ok u) true told is plays (inr w) =
       told_so (Some WriteFault) told w.0 (faulty (events_in script.events) [] (sym (append-nil (events_in script.events))) (λ scene text f. some_lost before middle now unwritten text f.2 w.1) plays)
   ends_so (Ok u) false told is plays (inl w) =
-      told_so (Some (Unanswered script.end)) told w.0 (refl, came (λ scene text f. (f.0, somebody_waits wants stands beginning stage scene f.1 (sym is), all_written before middle now unwritten text f.2 w.1)) plays)
+      told_so (Some (Unanswered script.end)) told w.0 (refl, came (λ scene text f. (f.0, somebody_waits plan stands stage scene f.1 (sym is), all_written before middle now unwritten text f.2 w.1)) plays)
   ends_so (Ok u) false told is plays (inr w) =
       told_so (Some WriteFault) told w.0 (faulty (events_in script.events) [] (sym (append-nil (events_in script.events))) (λ scene text f. some_lost before middle now unwritten text f.2 w.1) plays)
   ends_so (Err (halts.Idle line)) empty told is plays (inl w) =
@@ -116,21 +116,21 @@ module _ {P : Type 0} (wants : Request → List Given → Want → Type 0) (stan
       told_so (Some WriteFault) told w.0 (faulty plays.0 plays.1 plays.2 (λ scene text b. some_lost before middle now unwritten text b w.1) plays.3)
 
 -- no cache could be made
-pub nothing_played : (wants : Request → List Given → Want → Type 0) (beginning : Beginning) (script : Script) (before : Option (List ℕ)) → Legal beginning [] → EndsSo wants beginning script [] before before (Some NoMemory)
-nothing_played wants beginning script before legal =
-    ([], events_in script.events, refl, record { went = went-here wants beginning (opening_scene beginning) [] _ (Appends-nil before); legal = legal })
+pub nothing_played : (plan : Plan) (script : Script) (before : Option (List ℕ)) → Legal plan.beginning [] → EndsSo plan script [] before before (Some NoMemory)
+nothing_played plan script before legal =
+    ([], events_in script.events, refl, record { went = went-here plan (opening_scene plan) [] _ (Appends-nil before); legal = legal })
 
 -- the same, as the calls of a whole session tell it
 pub ends_at : {P : Type 0} (wants : Request → List Given → Want → Type 0) (stands : P → Request → List Given → Type 0) (params : Params) (boot : Boot) (one two : Beginning) (script : Script) (start stage : Stage P) (history : List Entry) (before middle now : Option (List ℕ)) (fresh unwritten : List ℕ) (played : Result (Unit {0}) Halt) (empty : Bool) (told : Option ReplayError)
     → one ≡ beginning_of params boot → two ≡ one → start.history ≡ [] → history ≡ stage.history → fresh ≡ [] → (Legal one start.history → Legal two stage.history)
     → empty ≡ (length stage.waiting == 0) && (length stage.parked == 0)
-    → PlaysAll wants stands one (changed start stage (pieces before fresh) (pieces middle unwritten)) script.events played
+    → PlaysAll (plan_of wants one) stands (changed start stage (pieces before fresh) (pieces middle unwritten)) script.events played
     → IsWritten (pieces middle unwritten) now (refusal_of played empty script.end) told
-    → EndsSo wants (beginning_of params boot) script history before now told
+    → EndsSo (plan_of wants (beginning_of params boot)) script history before now told
 ends_at wants stands params boot one two script start stage history before middle now fresh unwritten played empty told begins same start_is history_is fresh_is legal is plays written =
     let begun : Legal one start.history = subst (λ (b : Beginning). Legal b start.history) (sym begins) (subst (λ (h : List Entry). Legal (beginning_of params boot) h) (sym start_is) (Legal-beginning_of params boot)) in
     let lawful : Legal one stage.history = subst (λ (b : Beginning). Legal b stage.history) same (legal begun) in
-    subst (λ (b : Beginning). EndsSo wants b script history before now told) begins
-    (subst (λ (h : List Entry). EndsSo wants one script h before now told) (sym history_is)
-    (ends_so wants stands one script start stage before middle now unwritten start_is lawful played empty told is
-    (subst (λ (f : List ℕ). PlaysAll wants stands one (changed start stage (pieces before f) (pieces middle unwritten)) script.events played) fresh_is plays) (writing (pieces middle unwritten) now (refusal_of played empty script.end) told written)))
+    subst (λ (b : Beginning). EndsSo (plan_of wants b) script history before now told) begins
+    (subst (λ (h : List Entry). EndsSo (plan_of wants one) script h before now told) (sym history_is)
+    (ends_so (plan_of wants one) stands script start stage before middle now unwritten start_is lawful played empty told is
+    (subst (λ (f : List ℕ). PlaysAll (plan_of wants one) stands (changed start stage (pieces before f) (pieces middle unwritten)) script.events played) fresh_is plays) (writing (pieces middle unwritten) now (refusal_of played empty script.end) told written)))

@@ -22,3 +22,4 @@ pub mod Wholes
 pub mod Instructions
 pub mod Consoles
 pub mod Sessions
+pub mod Sweeping

@@ -13,19 +13,19 @@ use Rattle.cache_law.specs.declared.call.Call.TheVariants.{Insert, BanList}
 use Rattle.cache_law.specs.Beginning.{Beginning}
 use Rattle.cache_law.specs.Law.{step_of, MayAnswer}
 use Rattle.cache_law.specs.Core.{FitsBehind}
-use Rattle.cache_law.specs.History.{Legal, LegalFrom, next_state, reached, bytes_of_all}
+use Rattle.cache_law.specs.History.{FollowAll, Legal, WithinAll, next_state, reached, bytes_of_all}
 use Rattle.cache_law.proofs.Histories.{reached-push, bytes_of_all-push}
 use Rattle.replay.specs.declared.policy.Request.{Request}
-use Rattle.replay.specs.declared.policy.Given.{Given}
-use Rattle.replay.specs.declared.policy.Want.{Want}
 use Rattle.replay.specs.declared.policy.Want.TheVariants.{Ask}
 use Rattle.replay.specs.declared.event.Event.{Event}
 use Rattle.replay.specs.declared.event.Event.TheVariants as events
+use Rattle.replay.specs.declared.event.Aside.TheVariants as asides
 use Rattle.replay.specs.declared.event.NumberedEvent.{NumberedEvent}
 use Rattle.replay.specs.declared.event.Script.{Script}
 use Rattle.replay.specs.declared.session.ReplayError.{ReplayError}
-use Rattle.replay.specs.declared.session.ReplayError.TheVariants.{NotBuilt, Idle, Unanswered, WriteFault, HistoryFull, NoMemory}
+use Rattle.replay.specs.declared.session.ReplayError.TheVariants.{Idle, Unanswered, WriteFault, HistoryFull, NoMemory}
 use Rattle.replay.specs.Policy.{HasOneWant}
+use Rattle.replay.specs.Plan.{Plan}
 use Rattle.replay.specs.Scene.{Scene, Round, Move, hears, calls, fetches, sends, parks, wakes, ends, events_of, entries_of, text_of, AtRest, Hears, Run, opening_scene}
 use Rattle.replay.specs.Endings.{IsIdle, WantsTooMuch}
 use Rattle.replay.specs.Went.{Went, events_in}
@@ -48,24 +48,35 @@ within_one all before entry other more others p q =
 within_all : (all entries : List Entry) → entries ≡ all → IsWithin all [] entries
 within_all all entries is = ([], sym is ∙ sym (append-nil entries))
 
-pub one_text : (wants : Request → List Given → Want → Type 0) → HasOneWant wants → OneText wants
-one_text wants one_want beginning events entries scene other text said r q rests stops =
+pub one_text : (plan : Plan) → HasOneWant plan.wants → OneText plan
+one_text plan one_want events entries scene other text said r q rests stops =
     let all : flat_map events_of r.moves ++ [] ≡ flat_map events_of q.moves ++ [] = ap (λ (xs : List Event). xs ++ []) (r.reads ∙ sym q.reads) in
-    let way = one_way wants one_want beginning (IsWithin entries) (within_on entries) (λ before e f more others s t who when what. within_one entries before e f more others s t)
-    (opening_scene beginning) scene other r.moves q.moves [] [] r.path q.path all (within_all entries _ r.enters) (within_all entries _ q.enters)
-    (stuck_at_rest wants one_want beginning (IsWithin entries) (within_on entries) (λ before e f more others s t who when what. within_one entries before e f more others s t) scene [] _ rests refl)
-    (stuck_at_rest wants one_want beginning (IsWithin entries) (within_on entries) (λ before e f more others s t who when what. within_one entries before e f more others s t) other [] _ stops refl) in
+    let way = one_way plan one_want (IsWithin entries) (within_on entries) (λ before e f more others s t who when what. within_one entries before e f more others s t)
+    (opening_scene plan) scene other r.moves q.moves [] [] r.path q.path all (within_all entries _ r.enters) (within_all entries _ q.enters)
+    (stuck_at_rest plan one_want (IsWithin entries) (within_on entries) (λ before e f more others s t who when what. within_one entries before e f more others s t) scene [] _ rests refl)
+    (stuck_at_rest plan one_want (IsWithin entries) (within_on entries) (λ before e f more others s t who when what. within_one entries before e f more others s t) other [] _ stops refl) in
     (way.1, sym q.writes ∙ (ap (λ (ms : List Move). flat_map text_of ms) way.0 ∙ r.writes))
+
+-- each of these entries follows those before it, and fits
+record AreLegal (beginning : Beginning) (before more : List Entry) : Type 0 where
+  follow : FollowAll beginning.params (reached beginning before) more
+  within : WithinAll beginning.params (reached beginning before) (bytes_of_all before) more
 
 -- these entries may follow those before them, and the law leaves each one answer
 record IsLawful (beginning : Beginning) (before more : List Entry) : Type 0 where
-  legal : LegalFrom beginning (reached beginning before) (bytes_of_all before) more
+  legal : AreLegal beginning before more
   kept : AllBound more
 
-legal_on : (beginning : Beginning) (before : List Entry) (entry : Entry) (more : List Entry) → LegalFrom beginning (reached beginning before) (bytes_of_all before) (entry ∷ more) → LegalFrom beginning (reached beginning (before ++ entry ∷ [])) (bytes_of_all (before ++ entry ∷ [])) more
+legal_on : (beginning : Beginning) (before : List Entry) (entry : Entry) (more : List Entry) → AreLegal beginning before (entry ∷ more) → AreLegal beginning (before ++ entry ∷ []) more
 legal_on beginning before entry more legal =
-    subst (λ (state : State). LegalFrom beginning state (bytes_of_all (before ++ entry ∷ [])) more) (sym (reached-push beginning before entry))
-    (subst (λ (used : ℕ). LegalFrom beginning (next_state beginning (reached beginning before) entry) used more) (sym (bytes_of_all-push before entry)) legal.2)
+    record {
+      follow = subst (λ (state : State). FollowAll beginning.params state more) (sym (reached-push beginning before entry)) legal.follow.1;
+      within = subst (λ (state : State). WithinAll beginning.params state (bytes_of_all (before ++ entry ∷ [])) more) (sym (reached-push beginning before entry))
+          (subst (λ (used : ℕ). WithinAll beginning.params (next_state beginning.params (reached beginning before) entry) used more) (sym (bytes_of_all-push before entry)) legal.within.1);
+    }
+
+all_legal : (beginning : Beginning) (history : List Entry) → Legal beginning history → AreLegal beginning [] history
+all_legal beginning history legal = record { follow = legal.follow; within = legal.within }
 
 lawful_on : (beginning : Beginning) (before : List Entry) (entry : Entry) (more : List Entry) → IsLawful beginning before (entry ∷ more) → IsLawful beginning (before ++ entry ∷ []) more
 lawful_on beginning before entry more is = record { legal = legal_on beginning before entry more is.legal; kept = is.kept.1 }
@@ -84,87 +95,87 @@ same_entry entry other who when what reply =
     ∙ (ap (λ (x : Call). record other { caller = entry.caller; moment = entry.moment; call = x }) what ∙ ap (λ (x : Reply). record entry { reply = x }) reply))
 
 law_of : Beginning → List Entry → ℕ → ℕ → Call → Reply
-law_of beginning before caller moment call = (step_of beginning (reached beginning before) caller moment call).reply
+law_of beginning before caller moment call = (step_of beginning.params (reached beginning before) caller moment call).reply
 
 lawful_one : (beginning : Beginning) (before : List Entry) (entry other : Entry) (more others : List Entry) → IsLawful beginning before (entry ∷ more) → IsLawful beginning before (other ∷ others) → other.caller ≡ entry.caller → other.moment ≡ entry.moment → other.call ≡ entry.call → other ≡ entry
 unfolding law_of
 lawful_one beginning before entry other more others p q who when what =
-    let mine : entry.reply ≡ law_of beginning before entry.caller entry.moment entry.call = told (at_moment entry.moment (reached beginning before)) entry.call _ entry.reply p.legal.0.answer p.kept.0.0 p.kept.0.1 in
-    let its : other.reply ≡ law_of beginning before other.caller other.moment other.call = told (at_moment other.moment (reached beginning before)) other.call _ other.reply q.legal.0.answer q.kept.0.0 q.kept.0.1 in
+    let mine : entry.reply ≡ law_of beginning before entry.caller entry.moment entry.call = told (at_moment entry.moment (reached beginning before)) entry.call _ entry.reply p.legal.follow.0.answer p.kept.0.0 p.kept.0.1 in
+    let its : other.reply ≡ law_of beginning before other.caller other.moment other.call = told (at_moment other.moment (reached beginning before)) other.call _ other.reply q.legal.follow.0.answer q.kept.0.0 q.kept.0.1 in
     let same : law_of beginning before other.caller other.moment other.call ≡ law_of beginning before entry.caller entry.moment entry.call =
     ap (λ (n : ℕ). law_of beginning before n other.moment other.call) who
     ∙ (ap (λ (n : ℕ). law_of beginning before entry.caller n other.call) when ∙ ap (λ (c : Call). law_of beginning before entry.caller entry.moment c) what) in
     same_entry entry other who when what (its ∙ (same ∙ sym mine))
 
-pub one_history : (wants : Request → List Given → Want → Type 0) → HasOneWant wants → OneHistory wants
-one_history wants one_want beginning events entries others scene other text said r q rests stops legal lawful kept keeps =
+pub one_history : (plan : Plan) → HasOneWant plan.wants → OneHistory plan
+one_history plan one_want events entries others scene other text said r q rests stops legal lawful kept keeps =
     let all : flat_map events_of r.moves ++ [] ≡ flat_map events_of q.moves ++ [] = ap (λ (xs : List Event). xs ++ []) (r.reads ∙ sym q.reads) in
-    let mine : IsLawful beginning [] entries = record { legal = legal.each; kept = kept } in
-    let its : IsLawful beginning [] others = record { legal = lawful.each; kept = keeps } in
-    let way = one_way wants one_want beginning (IsLawful beginning) (lawful_on beginning) (lawful_one beginning)
-    (opening_scene beginning) scene other r.moves q.moves [] [] r.path q.path all
-    (subst (λ (es : List Entry). IsLawful beginning [] es) (sym r.enters) mine) (subst (λ (es : List Entry). IsLawful beginning [] es) (sym q.enters) its)
-    (stuck_at_rest wants one_want beginning (IsLawful beginning) (lawful_on beginning) (lawful_one beginning) scene [] _ rests refl)
-    (stuck_at_rest wants one_want beginning (IsLawful beginning) (lawful_on beginning) (lawful_one beginning) other [] _ stops refl) in
+    let mine : IsLawful plan.beginning [] entries = record { legal = all_legal plan.beginning entries legal; kept = kept } in
+    let its : IsLawful plan.beginning [] others = record { legal = all_legal plan.beginning others lawful; kept = keeps } in
+    let way = one_way plan one_want (IsLawful plan.beginning) (lawful_on plan.beginning) (lawful_one plan.beginning)
+    (opening_scene plan) scene other r.moves q.moves [] [] r.path q.path all
+    (subst (λ (es : List Entry). IsLawful plan.beginning [] es) (sym r.enters) mine) (subst (λ (es : List Entry). IsLawful plan.beginning [] es) (sym q.enters) its)
+    (stuck_at_rest plan one_want (IsLawful plan.beginning) (lawful_on plan.beginning) (lawful_one plan.beginning) scene [] _ rests refl)
+    (stuck_at_rest plan one_want (IsLawful plan.beginning) (lawful_on plan.beginning) (lawful_one plan.beginning) other [] _ stops refl) in
     (sym q.enters ∙ (ap (λ (ms : List Move). flat_map entries_of ms) way.0 ∙ r.enters), way.1, sym q.writes ∙ (ap (λ (ms : List Move). flat_map text_of ms) way.0 ∙ r.writes))
 
 -- why the session ends in this scene, its events read but for those that are left
-IsWhy : (Request → List Given → Want → Type 0) → Beginning → Script → List Entry → Scene → List Event → List Event → Option ReplayError → Type 0
-IsWhy wants beginning script history scene heard left None = AtRest scene × (left ≡ []) × NobodyWaits scene
-IsWhy wants beginning script history scene heard left (Some (Unanswered line)) = AtRest scene × (left ≡ []) × (NobodyWaits scene → ⊥) × (line ≡ script.end)
-IsWhy wants beginning script history scene heard left (Some (Idle line)) =
+IsWhy : Plan → Script → List Entry → Scene → List Event → List Event → Option ReplayError → Type 0
+IsWhy plan script history scene heard left None = AtRest scene × (left ≡ []) × NobodyWaits scene
+IsWhy plan script history scene heard left (Some (Unanswered line)) = AtRest scene × (left ≡ []) × (NobodyWaits scene → ⊥) × (line ≡ script.end)
+IsWhy plan script history scene heard left (Some (Idle line)) =
     (played : List NumberedEvent) × (idle : NumberedEvent) × (rest : List NumberedEvent) × (script.events ≡ played ++ idle ∷ rest) × (idle.number ≡ line)
     × (heard ≡ events_in played) × (left ≡ idle.event ∷ events_in rest) × AtRest scene × IsIdle scene idle.event
-IsWhy wants beginning script history scene heard left (Some HistoryFull) = WantsTooMuch wants beginning history scene
-IsWhy wants beginning script history scene heard left (Some (NotBuilt line)) = ⊥
-IsWhy wants beginning script history scene heard left (Some WriteFault) = ⊥
-IsWhy wants beginning script history scene heard left (Some NoMemory) = ⊥
+IsWhy plan script history scene heard left (Some HistoryFull) = WantsTooMuch plan history scene
+IsWhy plan script history scene heard left (Some WriteFault) = ⊥
+IsWhy plan script history scene heard left (Some NoMemory) = ⊥
 
 -- the way to an ending of the session's own
-record Ended (wants : Request → List Given → Want → Type 0) (beginning : Beginning) (script : Script) (history : List Entry) (before now : Option (List ℕ)) (ending : Option ReplayError) : Type 0 where
+record Ended (plan : Plan) (script : Script) (history : List Entry) (before now : Option (List ℕ)) (ending : Option ReplayError) : Type 0 where
   scene : Scene
   heard : List Event
   left : List Event
   text : List ℕ
-  run : Run wants beginning (opening_scene beginning) scene heard history text
+  run : Run plan (opening_scene plan) scene heard history text
   split : events_in script.events ≡ heard ++ left
   holds : Appends before now text
-  why : IsWhy wants beginning script history scene heard left ending
+  why : IsWhy plan script history scene heard left ending
 
-run_of : (wants : Request → List Given → Want → Type 0) (beginning : Beginning) (heard : List Event) (history : List Entry) (H : Scene → List ℕ → Type 0) (went : Went wants beginning (opening_scene beginning) heard [] history H) → Run wants beginning (opening_scene beginning) went.scene heard history went.text
-run_of wants beginning heard history H went = subst (λ (es : List Entry). Run wants beginning (opening_scene beginning) went.scene heard es went.text) (sym went.history) went.run
+run_of : (plan : Plan) (heard : List Event) (history : List Entry) (H : Scene → List ℕ → Type 0) (went : Went plan (opening_scene plan) heard [] history H) → Run plan (opening_scene plan) went.scene heard history went.text
+run_of plan heard history H went = subst (λ (es : List Entry). Run plan (opening_scene plan) went.scene heard es went.text) (sym went.history) went.run
 
-ended : (wants : Request → List Given → Want → Type 0) (beginning : Beginning) (script : Script) (history : List Entry) (before now : Option (List ℕ)) (ending : Option ReplayError) → IsOwnEnding ending → EndsSo wants beginning script history before now ending → Ended wants beginning script history before now ending
+ended : (plan : Plan) (script : Script) (history : List Entry) (before now : Option (List ℕ)) (ending : Option ReplayError) → IsOwnEnding ending → EndsSo plan script history before now ending → Ended plan script history before now ending
 unfolding IsWhy
-ended wants beginning script history before now None own e =
+ended plan script history before now None own e =
     let w = e.went in
-    record { scene = w.scene; heard = events_in script.events; left = []; text = w.text; run = run_of wants beginning _ history _ w; split = sym (append-nil (events_in script.events)); holds = w.fact.2; why = (w.fact.0, refl, w.fact.1) }
-ended wants beginning script history before now (Some (Unanswered line)) own e =
+    record { scene = w.scene; heard = events_in script.events; left = []; text = w.text; run = run_of plan _ history _ w; split = sym (append-nil (events_in script.events)); holds = w.fact.2; why = (w.fact.0, refl, w.fact.1) }
+ended plan script history before now (Some (Unanswered line)) own e =
     let w = e.1.went in
-    record { scene = w.scene; heard = events_in script.events; left = []; text = w.text; run = run_of wants beginning _ history _ w; split = sym (append-nil (events_in script.events)); holds = w.fact.2; why = (w.fact.0, refl, w.fact.1, e.0) }
-ended wants beginning script history before now (Some (Idle line)) own e =
+    record { scene = w.scene; heard = events_in script.events; left = []; text = w.text; run = run_of plan _ history _ w; split = sym (append-nil (events_in script.events)); holds = w.fact.2; why = (w.fact.0, refl, w.fact.1, e.0) }
+ended plan script history before now (Some (Idle line)) own e =
     let w = e.5.went in
     record {
       scene = w.scene;
       heard = events_in e.0;
       left = e.1.event ∷ events_in e.2;
       text = w.text;
-      run = run_of wants beginning _ history _ w;
+      run = run_of plan _ history _ w;
       split = ap events_in e.3 ∙ map-append (λ (n : NumberedEvent). n.event) e.0 (e.1 ∷ e.2);
       holds = w.fact.2;
       why = (e.0, e.1, e.2, e.3, e.4, refl, refl, w.fact.0, w.fact.1);
     }
-ended wants beginning script history before now (Some HistoryFull) own e =
+ended plan script history before now (Some HistoryFull) own e =
     let w = e.3.went in
-    record { scene = w.scene; heard = e.0; left = e.1; text = w.text; run = run_of wants beginning _ history _ w; split = e.2; holds = w.fact.1; why = w.fact.0 }
-ended wants beginning script history before now (Some (NotBuilt line)) own e = absurd own
-ended wants beginning script history before now (Some WriteFault) own e = absurd own
-ended wants beginning script history before now (Some NoMemory) own e = absurd own
+    record { scene = w.scene; heard = e.0; left = e.1; text = w.text; run = run_of plan _ history _ w; split = e.2; holds = w.fact.1; why = w.fact.0 }
+ended plan script history before now (Some WriteFault) own e = absurd own
+ended plan script history before now (Some NoMemory) own e = absurd own
 
 -- an idle event isn't heard
 not_heard : (scene new : Scene) (event : Event) → IsIdle scene event → Hears scene event new → ⊥
 not_heard scene new (events.Moment moment) idle heard = idle
 not_heard scene new (events.Request request) idle heard = let free = heard.1 in cc
+not_heard scene new (events.Aside (asides.Lurk count)) idle heard = idle
+not_heard scene new (events.Aside (asides.Probe backend good)) idle heard = heard
 not_heard scene new (events.Reply number bytes) idle heard = let found = heard.2 in cc
 
 same_idle : (played others : List NumberedEvent) (idle other : NumberedEvent) (rest more : List NumberedEvent) → others ++ other ∷ more ≡ played ++ idle ∷ rest → events_in others ≡ events_in played → other ≡ idle
@@ -173,62 +184,63 @@ same_idle [] (o ∷ os) idle other rest more split same = absurd (cc)
 same_idle (p ∷ ps) [] idle other rest more split same = absurd (cc)
 same_idle (p ∷ ps) (o ∷ os) idle other rest more split same = same_idle ps os idle other rest more (cc) (cc)
 
-module _ (wants : Request → List Given → Want → Type 0) (one_want : HasOneWant wants) (beginning : Beginning) (script : Script) where
+module _ (plan : Plan) (one_want : HasOneWant plan.wants) (script : Script) where
   module _ (Sure : List Entry → List Entry → Type 0)
       (on : (before : List Entry) (entry : Entry) (more : List Entry) → Sure before (entry ∷ more) → Sure (before ++ entry ∷ []) more)
       (one_entry : (before : List Entry) (entry other : Entry) (more others : List Entry) → Sure before (entry ∷ more) → Sure before (other ∷ others) → other.caller ≡ entry.caller → other.moment ≡ entry.moment → other.call ≡ entry.call → other ≡ entry)
-      (fits : (before : List Entry) (entry : Entry) (more : List Entry) → Sure before (entry ∷ more) → FitsBehind beginning before entry.caller entry.moment entry.call) where
+      (fits : (before : List Entry) (entry : Entry) (more : List Entry) → Sure before (entry ∷ more) → FitsBehind plan.beginning before entry.caller entry.moment entry.call) where
     -- no call that doesn't fit is entered, and no other move made
-    stuck_full : (scene : Scene) (left : List Event) (history : List Entry) → WantsTooMuch wants beginning history scene → IsStuck wants one_want beginning Sure on one_entry scene left history
+    stuck_full : (scene : Scene) (left : List Event) (history : List Entry) → WantsTooMuch plan history scene → IsStuck plan one_want Sure on one_entry scene left history
     stuck_full scene left history full (hears (events.Moment moment)) new others more next split sure = let turn = full.runs.turn in let none = next.0.nobody_runs in absurd (cc)
     stuck_full scene left history full (hears (events.Request request)) new others more next split sure = let turn = full.runs.turn in let none = next.0.nobody_runs in absurd (cc)
     stuck_full scene left history full (hears (events.Reply number heard)) new others more next split sure = let turn = full.runs.turn in let none = next.1.nobody_runs in absurd (cc)
+    stuck_full scene left history full (hears (events.Aside (asides.Lurk count))) new others more next split sure = let turn = full.runs.turn in let none = next.0.nobody_runs in absurd (cc)
+    stuck_full scene left history full (hears (events.Aside (asides.Probe backend good))) new others more next split sure = absurd next
     stuck_full scene left history full (calls entry) new others more next split sure =
-        let same = same_round wants one_want beginning scene full.round next.0 (Ask full.call) (Ask entry.call) full.runs next.1 in
+        let same = same_round plan one_want scene full.round next.0 (Ask full.call) (Ask entry.call) full.runs next.1 in
         let call : entry.call ≡ full.call = cc in
         let who : entry.caller ≡ full.round.request.client = next.2 ∙ ap (λ (r : Round). r.request.client) same.0 in
-        full.full (subst (λ (x : Call). FitsBehind beginning history full.round.request.client scene.moment x) call
-        (subst (λ (x : ℕ). FitsBehind beginning history full.round.request.client x entry.call) next.3
-        (subst (λ (x : ℕ). FitsBehind beginning history x entry.moment entry.call) who (fits history entry more sure))))
+        full.full (subst (λ (x : Call). FitsBehind plan.beginning history full.round.request.client scene.moment x) call
+        (subst (λ (x : ℕ). FitsBehind plan.beginning history full.round.request.client x entry.call) next.3
+        (subst (λ (x : ℕ). FitsBehind plan.beginning history x entry.moment entry.call) who (fits history entry more sure))))
     stuck_full scene left history full (fetches number backend request) new others more next split sure =
-        let same = same_round wants one_want beginning scene full.round next.0 _ _ full.runs next.1 in absurd (cc)
+        let same = same_round plan one_want scene full.round next.0 _ _ full.runs next.1 in absurd (cc)
     stuck_full scene left history full (sends client response) new others more next split sure =
-        let same = same_round wants one_want beginning scene full.round next.0 _ _ full.runs next.1 in absurd (cc)
+        let same = same_round plan one_want scene full.round next.0 _ _ full.runs next.1 in absurd (cc)
     stuck_full scene left history full (parks token) new others more next split sure =
-        let same = same_round wants one_want beginning scene full.round next.0 _ _ full.runs next.1 in absurd (cc)
+        let same = same_round plan one_want scene full.round next.0 _ _ full.runs next.1 in absurd (cc)
     stuck_full scene left history full wakes new others more next split sure = let turn = full.runs.turn in let none = next.1 in absurd (cc)
     stuck_full scene left history full ends new others more next split sure =
-        let same = same_round wants one_want beginning scene full.round next.0 _ _ full.runs next.1 in absurd (cc)
+        let same = same_round plan one_want scene full.round next.0 _ _ full.runs next.1 in absurd (cc)
 
     -- no idle event is heard
-    stuck_idle : (scene : Scene) (event : Event) (left rest : List Event) (history : List Entry) → left ≡ event ∷ rest → AtRest scene → IsIdle scene event → IsStuck wants one_want beginning Sure on one_entry scene left history
+    stuck_idle : (scene : Scene) (event : Event) (left rest : List Event) (history : List Entry) → left ≡ event ∷ rest → AtRest scene → IsIdle scene event → IsStuck plan one_want Sure on one_entry scene left history
     stuck_idle scene event left rest history is rests idle move new others more next split sure =
-        let only = only_hears wants one_want beginning Sure on one_entry scene new move rests next in
+        let only = only_hears plan one_want Sure on one_entry scene new move rests next in
         let heard : left ≡ only.0 ∷ others = split ∙ ap (λ (m : Move). events_of m ++ others) only.1 in
         let same : only.0 ≡ event = cc in
         not_heard scene new event idle (subst (λ (x : Event). Hears scene x new) same only.2)
 
-    stuck_why : (history : List Entry) (scene : Scene) (heard left : List Event) (ending : Option ReplayError) → IsWhy wants beginning script history scene heard left ending → IsStuck wants one_want beginning Sure on one_entry scene left history
+    stuck_why : (history : List Entry) (scene : Scene) (heard left : List Event) (ending : Option ReplayError) → IsWhy plan script history scene heard left ending → IsStuck plan one_want Sure on one_entry scene left history
     unfolding IsWhy
-    stuck_why history scene heard left None why = stuck_at_rest wants one_want beginning Sure on one_entry scene left history why.0 why.1
-    stuck_why history scene heard left (Some (Unanswered line)) why = stuck_at_rest wants one_want beginning Sure on one_entry scene left history why.0 why.1
+    stuck_why history scene heard left None why = stuck_at_rest plan one_want Sure on one_entry scene left history why.0 why.1
+    stuck_why history scene heard left (Some (Unanswered line)) why = stuck_at_rest plan one_want Sure on one_entry scene left history why.0 why.1
     stuck_why history scene heard left (Some (Idle line)) why = stuck_idle scene why.1.event left (events_in why.2) history why.6 why.7 why.8
     stuck_why history scene heard left (Some HistoryFull) why = stuck_full scene left history why
-    stuck_why history scene heard left (Some (NotBuilt line)) why = absurd why
     stuck_why history scene heard left (Some WriteFault) why = absurd why
     stuck_why history scene heard left (Some NoMemory) why = absurd why
 
-    one_end : (history other : List Entry) (before now before2 now2 : Option (List ℕ)) (ending ending2 : Option ReplayError) (e : Ended wants beginning script history before now ending) (f : Ended wants beginning script other before2 now2 ending2) → Sure [] history → Sure [] other → (f.run.moves ≡ e.run.moves) × (f.scene ≡ e.scene)
+    one_end : (history other : List Entry) (before now before2 now2 : Option (List ℕ)) (ending ending2 : Option ReplayError) (e : Ended plan script history before now ending) (f : Ended plan script other before2 now2 ending2) → Sure [] history → Sure [] other → (f.run.moves ≡ e.run.moves) × (f.scene ≡ e.scene)
     one_end history other before now before2 now2 ending ending2 e f sure sure2 =
         let all : flat_map events_of e.run.moves ++ e.left ≡ flat_map events_of f.run.moves ++ f.left =
         ap (λ (xs : List Event). xs ++ e.left) e.run.reads ∙ (sym e.split ∙ (f.split ∙ ap (λ (xs : List Event). xs ++ f.left) (sym f.run.reads))) in
-        one_way wants one_want beginning Sure on one_entry (opening_scene beginning) e.scene f.scene e.run.moves f.run.moves e.left f.left e.run.path f.run.path all
+        one_way plan one_want Sure on one_entry (opening_scene plan) e.scene f.scene e.run.moves f.run.moves e.left f.left e.run.path f.run.path all
         (subst (λ (es : List Entry). Sure [] es) (sym e.run.enters) sure) (subst (λ (es : List Entry). Sure [] es) (sym f.run.enters) sure2)
-        (subst (λ (h : List Entry). IsStuck wants one_want beginning Sure on one_entry e.scene e.left h) (sym e.run.enters) (stuck_why history e.scene e.heard e.left ending e.why))
-        (subst (λ (h : List Entry). IsStuck wants one_want beginning Sure on one_entry f.scene f.left h) (sym f.run.enters) (stuck_why other f.scene f.heard f.left ending2 f.why))
+        (subst (λ (h : List Entry). IsStuck plan one_want Sure on one_entry e.scene e.left h) (sym e.run.enters) (stuck_why history e.scene e.heard e.left ending e.why))
+        (subst (λ (h : List Entry). IsStuck plan one_want Sure on one_entry f.scene f.left h) (sym f.run.enters) (stuck_why other f.scene f.heard f.left ending2 f.why))
 
   -- one scene and what is left there tell the ending
-  same_ending : (history other : List Entry) (scene scene2 : Scene) (heard heard2 left left2 : List Event) (ending ending2 : Option ReplayError) → scene2 ≡ scene → heard2 ≡ heard → left2 ≡ left → IsWhy wants beginning script history scene heard left ending → IsWhy wants beginning script other scene2 heard2 left2 ending2 → ending2 ≡ ending
+  same_ending : (history other : List Entry) (scene scene2 : Scene) (heard heard2 left left2 : List Event) (ending ending2 : Option ReplayError) → scene2 ≡ scene → heard2 ≡ heard → left2 ≡ left → IsWhy plan script history scene heard left ending → IsWhy plan script other scene2 heard2 left2 ending2 → ending2 ≡ ending
   unfolding IsWhy
   same_ending history other scene scene2 heard heard2 left left2 None None s h l why too = refl
   same_ending history other scene scene2 heard heard2 left left2 None (Some (Unanswered line)) s h l why too = absurd (too.2 (subst NobodyWaits (sym s) why.2))
@@ -255,7 +267,7 @@ module _ (wants : Request → List Given → Want → Type 0) (one_want : HasOne
   same_ending history other scene scene2 heard heard2 left left2 _ ending2 s h l why too = absurd why
 
   -- the moves tell it all
-  one_told : (history other : List Entry) (before now before2 now2 : Option (List ℕ)) (ending ending2 : Option ReplayError) (e : Ended wants beginning script history before now ending) (f : Ended wants beginning script other before2 now2 ending2) → (f.run.moves ≡ e.run.moves) × (f.scene ≡ e.scene) → (ending2 ≡ ending) × (other ≡ history) × (text : List ℕ) × Appends before now text × Appends before2 now2 text
+  one_told : (history other : List Entry) (before now before2 now2 : Option (List ℕ)) (ending ending2 : Option ReplayError) (e : Ended plan script history before now ending) (f : Ended plan script other before2 now2 ending2) → (f.run.moves ≡ e.run.moves) × (f.scene ≡ e.scene) → (ending2 ≡ ending) × (other ≡ history) × (text : List ℕ) × Appends before now text × Appends before2 now2 text
   one_told history other before now before2 now2 ending ending2 e f same =
       let heard : f.heard ≡ e.heard = sym f.run.reads ∙ (ap (λ (ms : List Move). flat_map events_of ms) same.0 ∙ e.run.reads) in
       let left : f.left ≡ e.left = append_cancel_left e.heard f.left e.left (ap (λ (xs : List Event). xs ++ f.left) (sym heard) ∙ (sym f.split ∙ e.split)) in
@@ -269,36 +281,35 @@ module _ (wants : Request → List Given → Want → Type 0) (one_want : HasOne
 
 -- these entries stand behind those before them in a legal history
 record IsLegalWithin (beginning : Beginning) (all before more : List Entry) : Type 0 where
-  legal : LegalFrom beginning (reached beginning before) (bytes_of_all before) more
+  legal : AreLegal beginning before more
   within : IsWithin all before more
 
-legal_of : (wants : Request → List Given → Want → Type 0) (beginning : Beginning) (script : Script) (history : List Entry) (before now : Option (List ℕ)) (ending : Option ReplayError) → IsOwnEnding ending → EndsSo wants beginning script history before now ending → Legal beginning history
-legal_of wants beginning script history before now None own e = e.legal
-legal_of wants beginning script history before now (Some (Unanswered line)) own e = e.1.legal
-legal_of wants beginning script history before now (Some (Idle line)) own e = e.5.legal
-legal_of wants beginning script history before now (Some HistoryFull) own e = e.3.legal
-legal_of wants beginning script history before now (Some (NotBuilt line)) own e = absurd own
-legal_of wants beginning script history before now (Some WriteFault) own e = absurd own
-legal_of wants beginning script history before now (Some NoMemory) own e = absurd own
+legal_of : (plan : Plan) (script : Script) (history : List Entry) (before now : Option (List ℕ)) (ending : Option ReplayError) → IsOwnEnding ending → EndsSo plan script history before now ending → Legal plan.beginning history
+legal_of plan script history before now None own e = e.legal
+legal_of plan script history before now (Some (Unanswered line)) own e = e.1.legal
+legal_of plan script history before now (Some (Idle line)) own e = e.5.legal
+legal_of plan script history before now (Some HistoryFull) own e = e.3.legal
+legal_of plan script history before now (Some WriteFault) own e = absurd own
+legal_of plan script history before now (Some NoMemory) own e = absurd own
 
-pub one_ending : (wants : Request → List Given → Want → Type 0) → HasOneWant wants → OneEnding wants
-one_ending wants one_want beginning script history other before now before2 now2 ending ending2 so too own own2 (inl same) =
-    let e = ended wants beginning script history before now ending own so in
-    let f = ended wants beginning script other before2 now2 ending2 own2 too in
-    let legal = legal_of wants beginning script history before now ending own so in
-    let sure : IsLegalWithin beginning history [] history = record { legal = legal.each; within = within_all history history refl } in
-    one_told wants one_want beginning script history other before now before2 now2 ending ending2 e f
-    (one_end wants one_want beginning script (IsLegalWithin beginning history)
-    (λ before entry more is. record { legal = legal_on beginning before entry more is.legal; within = within_on history before entry more is.within })
+pub one_ending : (plan : Plan) → HasOneWant plan.wants → OneEnding plan
+one_ending plan one_want script history other before now before2 now2 ending ending2 so too own own2 (inl same) =
+    let e = ended plan script history before now ending own so in
+    let f = ended plan script other before2 now2 ending2 own2 too in
+    let legal = legal_of plan script history before now ending own so in
+    let sure : IsLegalWithin plan.beginning history [] history = record { legal = all_legal plan.beginning history legal; within = within_all history history refl } in
+    one_told plan one_want script history other before now before2 now2 ending ending2 e f
+    (one_end plan one_want script (IsLegalWithin plan.beginning history)
+    (λ before entry more is. record { legal = legal_on plan.beginning before entry more is.legal; within = within_on history before entry more is.within })
     (λ before entry other more others s t who when what. within_one history before entry other more others s.within t.within)
-    (λ before entry more is. is.legal.1)
-    history other before now before2 now2 ending ending2 e f sure (subst (λ (h : List Entry). IsLegalWithin beginning history [] h) (sym same) sure))
-one_ending wants one_want beginning script history other before now before2 now2 ending ending2 so too own own2 (inr kept) =
-    let e = ended wants beginning script history before now ending own so in
-    let f = ended wants beginning script other before2 now2 ending2 own2 too in
-    one_told wants one_want beginning script history other before now before2 now2 ending ending2 e f
-    (one_end wants one_want beginning script (IsLawful beginning) (lawful_on beginning) (lawful_one beginning)
-    (λ before entry more is. is.legal.1)
+    (λ before entry more is. is.legal.within.0)
+    history other before now before2 now2 ending ending2 e f sure (subst (λ (h : List Entry). IsLegalWithin plan.beginning history [] h) (sym same) sure))
+one_ending plan one_want script history other before now before2 now2 ending ending2 so too own own2 (inr kept) =
+    let e = ended plan script history before now ending own so in
+    let f = ended plan script other before2 now2 ending2 own2 too in
+    one_told plan one_want script history other before now before2 now2 ending ending2 e f
+    (one_end plan one_want script (IsLawful plan.beginning) (lawful_on plan.beginning) (lawful_one plan.beginning)
+    (λ before entry more is. is.legal.within.0)
     history other before now before2 now2 ending ending2 e f
-    (record { legal = (legal_of wants beginning script history before now ending own so).each; kept = kept.0 })
-    (record { legal = (legal_of wants beginning script other before2 now2 ending2 own2 too).each; kept = kept.1 }))
+    (record { legal = all_legal plan.beginning history (legal_of plan script history before now ending own so); kept = kept.0 })
+    (record { legal = all_legal plan.beginning other (legal_of plan script other before2 now2 ending2 own2 too); kept = kept.1 }))

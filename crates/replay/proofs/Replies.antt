@@ -63,5 +63,5 @@ pub lawful_reply : (room : ℕ) (state : State) (caller : ℕ) (call : Call) (an
 lawful_reply room state caller call answer may = may_reply state call _ answer may (law_replies room state caller call)
 
 -- behind an entry the state's moment is the entry's
-pub entered_moment : (beginning : Beginning) (state : State) (entry : Entry) → (next_state beginning state entry).moment ≡ entry.moment
-entered_moment beginning state entry = (after_grows beginning state entry.caller entry.moment entry.call entry.reply).moment
+pub entered_moment : (beginning : Beginning) (state : State) (entry : Entry) → (next_state beginning.params state entry).moment ≡ entry.moment
+entered_moment beginning state entry = (after_grows beginning.params state entry.caller entry.moment entry.call entry.reply).moment

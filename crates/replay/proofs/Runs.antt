@@ -3,11 +3,8 @@ use Rattle.std.proofs.Common.{◌≡◌, ℕ, List, [], ◌∷◌, ◌++◌, ref
 use Rattle.std.proofs.lemmas.List.{append-nil}
 use Rattle.std.specs.List.{flat_map}
 use Rattle.cache_law.specs.declared.call.Entry.{Entry}
-use Rattle.cache_law.specs.Beginning.{Beginning}
-use Rattle.replay.specs.declared.policy.Request.{Request}
-use Rattle.replay.specs.declared.policy.Given.{Given}
-use Rattle.replay.specs.declared.policy.Want.{Want}
 use Rattle.replay.specs.declared.event.Event.{Event}
+use Rattle.replay.specs.Plan.{Plan}
 use Rattle.replay.specs.Scene.{Scene, Move, events_of, entries_of, text_of, Next, Path, Run}
 use Rattle.replay.specs.Went.{Went}
 
@@ -15,15 +12,15 @@ pub flat_map-append : {X A : Type 0} (f : X → List A) (xs ys : List X) → fla
 flat_map-append f [] ys = refl
 flat_map-append f (x ∷ xs) ys = ap (λ zs. f x ++ zs) (flat_map-append f xs ys) ∙ sym (append_assoc (f x) (flat_map f xs) (flat_map f ys))
 
-module _ (wants : Request → List Given → Want → Type 0) (beginning : Beginning) where
-  path-append : (one two three : Scene) (ms ns : List Move) → Path wants beginning one ms two → Path wants beginning two ns three → Path wants beginning one (ms ++ ns) three
-  path-append one two three [] ns p q = subst (λ (s : Scene). Path wants beginning s ns three) (sym p) q
+module _ (plan : Plan) where
+  path-append : (one two three : Scene) (ms ns : List Move) → Path plan one ms two → Path plan two ns three → Path plan one (ms ++ ns) three
+  path-append one two three [] ns p q = subst (λ (s : Scene). Path plan s ns three) (sym p) q
   path-append one two three (m ∷ ms) ns p q = (p.0, p.1, path-append p.0 two three ms ns p.2 q)
 
-  pub run-here : (scene : Scene) → Run wants beginning scene scene [] [] []
+  pub run-here : (scene : Scene) → Run plan scene scene [] [] []
   run-here scene = record { moves = []; path = refl; reads = refl; enters = refl; writes = refl }
 
-  pub run-one : (old new : Scene) (move : Move) → Next wants beginning old move new → Run wants beginning old new (events_of move) (entries_of move) (text_of move)
+  pub run-one : (old new : Scene) (move : Move) → Next plan old move new → Run plan old new (events_of move) (entries_of move) (text_of move)
   run-one old new move next =
       record {
         moves = move ∷ [];
@@ -33,7 +30,7 @@ module _ (wants : Request → List Given → Want → Type 0) (beginning : Begin
         writes = append-nil (text_of move);
       }
 
-  pub run-then : (one two three : Scene) (e1 e2 : List Event) (n1 n2 : List Entry) (x1 x2 : List ℕ) → Run wants beginning one two e1 n1 x1 → Run wants beginning two three e2 n2 x2 → Run wants beginning one three (e1 ++ e2) (n1 ++ n2) (x1 ++ x2)
+  pub run-then : (one two three : Scene) (e1 e2 : List Event) (n1 n2 : List Entry) (x1 x2 : List ℕ) → Run plan one two e1 n1 x1 → Run plan two three e2 n2 x2 → Run plan one three (e1 ++ e2) (n1 ++ n2) (x1 ++ x2)
   run-then one two three e1 e2 n1 n2 x1 x2 r s =
       record {
         moves = r.moves ++ s.moves;
@@ -44,20 +41,20 @@ module _ (wants : Request → List Given → Want → Type 0) (beginning : Begin
       }
 
   -- nothing has happened yet
-  pub went-here : (scene : Scene) (history : List Entry) (H : Scene → List ℕ → Type 0) → H scene [] → Went wants beginning scene [] history history H
+  pub went-here : (scene : Scene) (history : List Entry) (H : Scene → List ℕ → Type 0) → H scene [] → Went plan scene [] history history H
   went-here scene history H h = record { scene = scene; entries = []; text = []; run = run-here scene; history = sym (append-nil history); fact = h }
 
   -- nothing was entered
-  pub went-still : (scene : Scene) (before now : List Entry) (H : Scene → List ℕ → Type 0) → now ≡ before → H scene [] → Went wants beginning scene [] before now H
+  pub went-still : (scene : Scene) (before now : List Entry) (H : Scene → List ℕ → Type 0) → now ≡ before → H scene [] → Went plan scene [] before now H
   went-still scene before now H same h = record { scene = scene; entries = []; text = []; run = run-here scene; history = same ∙ sym (append-nil before); fact = h }
 
   -- one move
-  pub went-one : (old new : Scene) (move : Move) (before now : List Entry) (H : Scene → List ℕ → Type 0) → Next wants beginning old move new → now ≡ before ++ entries_of move → H new (text_of move) → Went wants beginning old (events_of move) before now H
+  pub went-one : (old new : Scene) (move : Move) (before now : List Entry) (H : Scene → List ℕ → Type 0) → Next plan old move new → now ≡ before ++ entries_of move → H new (text_of move) → Went plan old (events_of move) before now H
   went-one old new move before now H next joined h =
       record { scene = new; entries = entries_of move; text = text_of move; run = run-one old new move next; history = joined; fact = h }
 
   -- one part, and another from where it led
-  pub went-at : (old : Scene) (e1 e2 : List Event) (before mid now : List Entry) (H H' : Scene → List ℕ → Type 0) (w : Went wants beginning old e1 before mid H) → Went wants beginning w.scene e2 mid now (λ next more. H' next (w.text ++ more)) → Went wants beginning old (e1 ++ e2) before now H'
+  pub went-at : (old : Scene) (e1 e2 : List Event) (before mid now : List Entry) (H H' : Scene → List ℕ → Type 0) (w : Went plan old e1 before mid H) → Went plan w.scene e2 mid now (λ next more. H' next (w.text ++ more)) → Went plan old (e1 ++ e2) before now H'
   went-at old e1 e2 before mid now H H' w n =
       record {
         scene = n.scene;
@@ -68,9 +65,9 @@ module _ (wants : Request → List Given → Want → Type 0) (beginning : Begin
         fact = n.fact;
       }
 
-  pub went-then : (old : Scene) (e1 e2 : List Event) (before mid now : List Entry) (H H' : Scene → List ℕ → Type 0) → Went wants beginning old e1 before mid H → ((scene : Scene) (text : List ℕ) → H scene text → Went wants beginning scene e2 mid now (λ next more. H' next (text ++ more))) → Went wants beginning old (e1 ++ e2) before now H'
+  pub went-then : (old : Scene) (e1 e2 : List Event) (before mid now : List Entry) (H H' : Scene → List ℕ → Type 0) → Went plan old e1 before mid H → ((scene : Scene) (text : List ℕ) → H scene text → Went plan scene e2 mid now (λ next more. H' next (text ++ more))) → Went plan old (e1 ++ e2) before now H'
   went-then old e1 e2 before mid now H H' w f = went-at old e1 e2 before mid now H H' w (f w.scene w.text w.fact)
 
   -- the same way, of which more is known
-  pub went-map : (old : Scene) (read : List Event) (before now : List Entry) (H H' : Scene → List ℕ → Type 0) → ((scene : Scene) (text : List ℕ) → H scene text → H' scene text) → Went wants beginning old read before now H → Went wants beginning old read before now H'
+  pub went-map : (old : Scene) (read : List Event) (before now : List Entry) (H H' : Scene → List ℕ → Type 0) → ((scene : Scene) (text : List ℕ) → H scene text → H' scene text) → Went plan old read before now H → Went plan old read before now H'
   went-map old read before now H H' f w = record { scene = w.scene; entries = w.entries; text = w.text; run = w.run; history = w.history; fact = f w.scene w.text w.fact }

@@ -1,5 +1,5 @@
 -- A session stands for one list of events, and so has one ending, one history and one text.
-use Rattle.std.proofs.Common.{◌≡◌, ℕ, List, [], ◌∷◌, Option, Some, None, drop, refl, sym, ◌∙◌, ap, subst}
+use Rattle.std.proofs.Common.{◌≡◌, ℕ, Bool, List, [], ◌∷◌, Option, Some, None, drop, refl, sym, ◌∙◌, ap, subst}
 use Rattle.std.specs.List.{AllByRecursion}
 use Rattle.http_heads.specs.declared.fields.Field.{Field}
 use Rattle.http_heads.specs.declared.message.RequestHead.{RequestHead}
@@ -14,23 +14,22 @@ use Rattle.session_text.specs.declared.session.Line.TheVariants as lines
 use Rattle.session_text.specs.declared.session.NumberedLine.{NumberedLine}
 use Rattle.session_text.specs.declared.session.Session.{Session}
 use Rattle.vmod_host.specs.declared.signature.Stored.{Stored}
-use Rattle.cache_law.specs.Beginning.{Beginning}
 use Rattle.cache_law.specs.declared.call.Entry.{Entry}
 use Rattle.replay.specs.declared.policy.Message.{Message}
 use Rattle.replay.specs.declared.policy.Message.TheVariants.{Whole, Unreadable, Line as ConsoleLine}
 use Rattle.replay.specs.declared.policy.Request.{Request}
-use Rattle.replay.specs.declared.policy.Given.{Given}
-use Rattle.replay.specs.declared.policy.Want.{Want}
 use Rattle.replay.specs.declared.event.Event.{Event}
 use Rattle.replay.specs.declared.event.Event.TheVariants as events
+use Rattle.replay.specs.declared.event.Aside.TheVariants as asides
 use Rattle.replay.specs.declared.event.Heard.{Heard}
 use Rattle.replay.specs.declared.event.NumberedEvent.{NumberedEvent}
 use Rattle.replay.specs.declared.event.Script.{Script}
 use Rattle.replay.specs.declared.session.ReplayError.{ReplayError}
-use Rattle.replay.specs.declared.session.ReplayError.TheVariants.{NotBuilt, Idle, Unanswered, WriteFault, HistoryFull, NoMemory}
+use Rattle.replay.specs.declared.session.ReplayError.TheVariants.{Idle, Unanswered, WriteFault, HistoryFull, NoMemory}
 use Rattle.replay.specs.Policy.{HasOneWant}
 use Rattle.replay.specs.Whole.{HasFramedBody, HasWholeRequest}
 use Rattle.replay.specs.Build.{IsBuilt, IsBuiltAs, IsLine, IsMessage, StandsFor}
+use Rattle.replay.specs.Plan.{Plan}
 use Rattle.replay.specs.Replayed.{EndsSo, PlayedTo, SessionEnds}
 use Rattle.replay.specs.Laws.{IsOwnEnding, IsPlain, LeadsToOne, OneSession}
 use Rattle.replay.proofs.Instructions.{one_instruction}
@@ -82,6 +81,8 @@ at_one stored moment (events.Moment one) (events.Request request) p q = absurd q
 at_one stored moment (events.Moment one) (events.Reply number heard) p q = absurd q
 at_one stored moment (events.Request request) b p q = absurd p
 at_one stored moment (events.Reply number heard) b p q = absurd p
+at_one stored moment (events.Moment one) (events.Aside aside) p q = absurd q
+at_one stored moment (events.Aside aside) b p q = absurd p
 
 request_one : (stored : List Stored) (client : ℕ) (text : List ℕ) (a b : Event) → StandsFor stored (lines.Req client text) a → StandsFor stored (lines.Req client text) b → b ≡ a
 request_one stored client text (events.Request one) (events.Request other) p q = same_request one other (q.2 ∙ sym p.2) (one_message text one.message other.message p.3 q.3)
@@ -89,6 +90,8 @@ request_one stored client text (events.Request one) (events.Moment moment) p q =
 request_one stored client text (events.Request one) (events.Reply number heard) p q = absurd q
 request_one stored client text (events.Moment moment) b p q = absurd p
 request_one stored client text (events.Reply number heard) b p q = absurd p
+request_one stored client text (events.Request one) (events.Aside aside) p q = absurd q
+request_one stored client text (events.Aside aside) b p q = absurd p
 
 reply_one : (stored : List Stored) (fetch : ℕ) (text : List ℕ) (a b : Event) → StandsFor stored (lines.Reply fetch text) a → StandsFor stored (lines.Reply fetch text) b → b ≡ a
 reply_one stored fetch text (events.Reply number heard) (events.Reply other said) p q = same_reply number other heard said (q.0 ∙ sym p.0) (q.1 ∙ sym p.1)
@@ -96,6 +99,8 @@ reply_one stored fetch text (events.Reply number heard) (events.Moment moment) p
 reply_one stored fetch text (events.Reply number heard) (events.Request request) p q = absurd q
 reply_one stored fetch text (events.Moment moment) b p q = absurd p
 reply_one stored fetch text (events.Request request) b p q = absurd p
+reply_one stored fetch text (events.Reply number heard) (events.Aside aside) p q = absurd q
+reply_one stored fetch text (events.Aside aside) b p q = absurd p
 
 fail_one : (stored : List Stored) (fetch : ℕ) (a b : Event) → StandsFor stored (lines.Fail fetch) a → StandsFor stored (lines.Fail fetch) b → b ≡ a
 fail_one stored fetch (events.Reply number heard) (events.Reply other said) p q = same_reply number other heard said (q.0 ∙ sym p.0) (q.1 ∙ sym p.1)
@@ -103,6 +108,8 @@ fail_one stored fetch (events.Reply number heard) (events.Moment moment) p q = a
 fail_one stored fetch (events.Reply number heard) (events.Request request) p q = absurd q
 fail_one stored fetch (events.Moment moment) b p q = absurd p
 fail_one stored fetch (events.Request request) b p q = absurd p
+fail_one stored fetch (events.Reply number heard) (events.Aside aside) p q = absurd q
+fail_one stored fetch (events.Aside aside) b p q = absurd p
 
 cli_one : (stored : List Stored) (text : List ℕ) (a b : Event) → LeadsToOne stored text → StandsFor stored (lines.Cli text) a → StandsFor stored (lines.Cli text) b → b ≡ a
 cli_one stored text (events.Request one) (events.Request other) only p q = same_request one other (q.0 ∙ sym p.0) (one_line stored text one.message other.message only p.1 q.1)
@@ -110,6 +117,31 @@ cli_one stored text (events.Request one) (events.Moment moment) only p q = absur
 cli_one stored text (events.Request one) (events.Reply number heard) only p q = absurd q
 cli_one stored text (events.Moment moment) b only p q = absurd p
 cli_one stored text (events.Reply number heard) b only p q = absurd p
+cli_one stored text (events.Request one) (events.Aside aside) only p q = absurd q
+cli_one stored text (events.Aside aside) b only p q = absurd p
+
+lurk_one : (stored : List Stored) (count : ℕ) (a b : Event) → StandsFor stored (lines.Lurk count) a → StandsFor stored (lines.Lurk count) b → b ≡ a
+lurk_one stored count (events.Aside (asides.Lurk one)) (events.Aside (asides.Lurk other)) p q = ap (λ (n : ℕ). events.Aside (asides.Lurk n)) (sym q ∙ p)
+lurk_one stored count (events.Aside (asides.Lurk one)) (events.Moment moment) p q = absurd q
+lurk_one stored count (events.Aside (asides.Lurk one)) (events.Request request) p q = absurd q
+lurk_one stored count (events.Aside (asides.Lurk one)) (events.Reply number heard) p q = absurd q
+lurk_one stored count (events.Aside (asides.Lurk one)) (events.Aside (asides.Probe backend good)) p q = absurd q
+lurk_one stored count (events.Aside (asides.Probe backend good)) b p q = absurd p
+lurk_one stored count (events.Moment moment) b p q = absurd p
+lurk_one stored count (events.Request request) b p q = absurd p
+lurk_one stored count (events.Reply number heard) b p q = absurd p
+
+probe_one : (stored : List Stored) (backend : List ℕ) (good : Bool) (a b : Event) → StandsFor stored (lines.Probe backend good) a → StandsFor stored (lines.Probe backend good) b → b ≡ a
+probe_one stored backend good (events.Aside (asides.Probe one was)) (events.Aside (asides.Probe other is)) p q =
+    ap (λ (x : List ℕ). events.Aside (asides.Probe x is)) (q.0 ∙ sym p.0) ∙ ap (λ (x : Bool). events.Aside (asides.Probe one x)) (q.1 ∙ sym p.1)
+probe_one stored backend good (events.Aside (asides.Probe one was)) (events.Aside (asides.Lurk count)) p q = absurd q
+probe_one stored backend good (events.Aside (asides.Probe one was)) (events.Moment moment) p q = absurd q
+probe_one stored backend good (events.Aside (asides.Probe one was)) (events.Request request) p q = absurd q
+probe_one stored backend good (events.Aside (asides.Probe one was)) (events.Reply number heard) p q = absurd q
+probe_one stored backend good (events.Aside (asides.Lurk count)) b p q = absurd p
+probe_one stored backend good (events.Moment moment) b p q = absurd p
+probe_one stored backend good (events.Request request) b p q = absurd p
+probe_one stored backend good (events.Reply number heard) b p q = absurd p
 
 one_event : (stored : List Stored) (line : Line) (a b : Event) → ((text : List ℕ) → line ≡ lines.Cli text → LeadsToOne stored text) → StandsFor stored line a → StandsFor stored line b → b ≡ a
 one_event stored (lines.At moment) a b only p q = at_one stored moment a b p q
@@ -117,7 +149,8 @@ one_event stored (lines.Req client text) a b only p q = request_one stored clien
 one_event stored (lines.Reply fetch text) a b only p q = reply_one stored fetch text a b p q
 one_event stored (lines.Cli text) a b only p q = cli_one stored text a b (only text refl) p q
 one_event stored (lines.Fail fetch) a b only p q = fail_one stored fetch a b p q
-one_event stored (lines.Lurk count) a b only p q = absurd p
+one_event stored (lines.Lurk count) a b only p q = lurk_one stored count a b p q
+one_event stored (lines.Probe backend good) a b only p q = probe_one stored backend good a b p q
 
 same_event : (a b : NumberedEvent) → b.number ≡ a.number → b.event ≡ a.event → b ≡ a
 same_event a b number event =
@@ -141,19 +174,18 @@ same_script stored session a b plain p q =
     ap (λ (es : List NumberedEvent). of es b.end) (same_events stored session.lines a.events b.events plain p.lines_are q.lines_are) ∙ ap (λ (n : ℕ). of a.events n) (q.end_is ∙ sym p.end_is)
 
 -- an ending of the session's own is one of its events
-played : (wants : Request → List Given → Want → Type 0) (stored : List Stored) (session : Session) (beginning : Beginning) (history : List Entry) (before now : Option (List ℕ)) (ending : Option ReplayError) → IsOwnEnding ending → SessionEnds stored wants session beginning history before now ending → PlayedTo stored wants session beginning history before now ending
-played wants stored session beginning history before now None own ends = ends
-played wants stored session beginning history before now (Some (Idle line)) own ends = ends
-played wants stored session beginning history before now (Some (Unanswered line)) own ends = ends
-played wants stored session beginning history before now (Some HistoryFull) own ends = ends
-played wants stored session beginning history before now (Some (NotBuilt line)) own ends = absurd own
-played wants stored session beginning history before now (Some WriteFault) own ends = absurd own
-played wants stored session beginning history before now (Some NoMemory) own ends = absurd own
+played : (plan : Plan) (stored : List Stored) (session : Session) (history : List Entry) (before now : Option (List ℕ)) (ending : Option ReplayError) → IsOwnEnding ending → SessionEnds stored plan session history before now ending → PlayedTo stored plan session history before now ending
+played plan stored session history before now None own ends = ends
+played plan stored session history before now (Some (Idle line)) own ends = ends
+played plan stored session history before now (Some (Unanswered line)) own ends = ends
+played plan stored session history before now (Some HistoryFull) own ends = ends
+played plan stored session history before now (Some WriteFault) own ends = absurd own
+played plan stored session history before now (Some NoMemory) own ends = absurd own
 
-pub one_session : (wants : Request → List Given → Want → Type 0) → HasOneWant wants → OneSession wants
-one_session wants one_want stored session beginning history other before now before2 now2 ending ending2 plain ends too own own2 alike =
-    let p = played wants stored session beginning history before now ending own ends in
-    let q = played wants stored session beginning other before2 now2 ending2 own2 too in
+pub one_session : (plan : Plan) → HasOneWant plan.wants → OneSession plan
+one_session plan one_want stored session history other before now before2 now2 ending ending2 plain ends too own own2 alike =
+    let p = played plan stored session history before now ending own ends in
+    let q = played plan stored session other before2 now2 ending2 own2 too in
     let same : q.0 ≡ p.0 = same_script stored session p.0 q.0 plain p.1 q.1 in
-    let so : EndsSo wants beginning p.0 other before2 now2 ending2 = subst (λ (s : Script). EndsSo wants beginning s other before2 now2 ending2) same q.2 in
-    one_ending wants one_want beginning p.0 history other before now before2 now2 ending ending2 p.2 so own own2 alike
+    let so : EndsSo plan p.0 other before2 now2 ending2 = subst (λ (s : Script). EndsSo plan s other before2 now2 ending2) same q.2 in
+    one_ending plan one_want p.0 history other before now before2 now2 ending ending2 p.2 so own own2 alike

@@ -127,7 +127,7 @@ module _ (state : State) (caller other : ℕ) (apart : other ≡ caller → ⊥)
   others_refused (Insert token object stale) = refl
   others_refused call = refl
 
-pub others_kept : (beginning : Beginning) (state : State) (entry : Entry) (other : ℕ) → (other ≡ entry.caller → ⊥) → told_to_wait (next_state beginning state entry).rounds other ≡ told_to_wait state.rounds other
+pub others_kept : (beginning : Beginning) (state : State) (entry : Entry) (other : ℕ) → (other ≡ entry.caller → ⊥) → told_to_wait (next_state beginning.params state entry).rounds other ≡ told_to_wait state.rounds other
 others_kept beginning state entry other apart =
     behind_either (λ (s : State). told_to_wait s.rounds other ≡ told_to_wait state.rounds other) entry.reply _ _
     (others_refused (at_moment entry.moment state) entry.caller other apart entry.call)
@@ -259,5 +259,5 @@ module _ (room : ℕ) (state : State) (caller : ℕ) where
   own_may (Drop token) answer (inr ends) may = absurd (cc)
   own_may End answer how may = own_lawful room state caller End answer _ (not_refused End answer (lawful_reply room state caller End answer may) refl) may (own_anew state caller room End refl)
 
-pub own_told : (beginning : Beginning) (state : State) (entry : Entry) → (told_to_wait state.rounds entry.caller ≡ None) ⊎ (ends_wait entry.call ≡ true) → MayAnswer (at_moment entry.moment state) entry.call (answered beginning.params.room (at_moment entry.moment state) entry.caller entry.call).reply entry.reply → told_to_wait (next_state beginning state entry).rounds entry.caller ≡ wait_in entry.reply
+pub own_told : (beginning : Beginning) (state : State) (entry : Entry) → (told_to_wait state.rounds entry.caller ≡ None) ⊎ (ends_wait entry.call ≡ true) → MayAnswer (at_moment entry.moment state) entry.call (answered beginning.params.room (at_moment entry.moment state) entry.caller entry.call).reply entry.reply → told_to_wait (next_state beginning.params state entry).rounds entry.caller ≡ wait_in entry.reply
 own_told beginning state entry how may = own_may beginning.params.room (at_moment entry.moment state) entry.caller entry.call entry.reply how may

@@ -11,14 +11,15 @@ use Rattle.replay.specs.declared.policy.Want.{Want}
 use Rattle.replay.specs.declared.policy.Want.TheVariants.{Ask, Exchange, Respond, Await, Done}
 use Rattle.replay.specs.declared.event.Event.{Event}
 use Rattle.replay.specs.declared.event.Event.TheVariants as events
+use Rattle.replay.specs.declared.event.Aside.TheVariants as asides
 use Rattle.replay.specs.Policy.{HasOneWant}
 use Rattle.replay.proofs.Runs.{flat_map-append}
 use Rattle.http_heads.specs.declared.exchange.BackendRequest.{BackendRequest}
 use Rattle.http_heads.specs.declared.exchange.Exchange.{Exchange as What}
 use Rattle.backend_link.specs.Exchanges.{asks_head}
 use Rattle.replay.proofs.Heards.{heard_once}
-use Rattle.cache_law.specs.Beginning.{Beginning}
 use Rattle.cache_law.specs.History.{next_state}
+use Rattle.replay.specs.Plan.{Plan}
 use Rattle.replay.specs.Scene.{IsHeardAs, Scene, Round, Waiting, Parked, Move, hears, calls, fetches, sends, parks, wakes, ends, events_of, entries_of, AtRest, Hears, Next, Path, Runs, gave, with_running, without_first, is_free, without_free}
 
 -- what makes a move: a line, a token that is closed, or what the round whose turn it is wants
@@ -47,17 +48,19 @@ record CanWake (scene : Scene) : Type 0 where
   nobody_runs : scene.running ≡ None
   free : find (is_free scene.state) scene.parked ≡ Some one
 
-who_moves : (wants : Request → List Given → Want → Type 0) (beginning : Beginning) (old new : Scene) (move : Move) → Next wants beginning old move new → ((cause_of move ≡ line) × AtRest old) ⊎ (((cause_of move ≡ closing) × CanWake old) ⊎ ((want : Want) × (cause_of move ≡ wish want) × Moves wants old want))
+who_moves : (plan : Plan) (old new : Scene) (move : Move) → Next plan old move new → ((cause_of move ≡ line) × AtRest old) ⊎ (((cause_of move ≡ closing) × CanWake old) ⊎ ((want : Want) × (cause_of move ≡ wish want) × Moves plan.wants old want))
 unfolding cause_of
-who_moves wants beginning old new (hears (events.Moment moment)) next = inl (refl, next.0)
-who_moves wants beginning old new (hears (events.Request request)) next = inl (refl, next.0)
-who_moves wants beginning old new (hears (events.Reply number heard)) next = inl (refl, next.1)
-who_moves wants beginning old new (calls entry) next = inr (inr (Ask entry.call, refl, record { round = next.0; runs = next.1 }))
-who_moves wants beginning old new (fetches number backend request) next = inr (inr (Exchange number backend request, refl, record { round = next.0; runs = next.1 }))
-who_moves wants beginning old new (sends client response) next = inr (inr (Respond response, refl, record { round = next.0; runs = next.1 }))
-who_moves wants beginning old new (parks token) next = inr (inr (Await token, refl, record { round = next.0; runs = next.1 }))
-who_moves wants beginning old new wakes next = inr (inl (refl, record { one = next.0; nobody_runs = next.1; free = next.2 }))
-who_moves wants beginning old new ends next = inr (inr (Done, refl, record { round = next.0; runs = next.1 }))
+who_moves plan old new (hears (events.Moment moment)) next = inl (refl, next.0)
+who_moves plan old new (hears (events.Request request)) next = inl (refl, next.0)
+who_moves plan old new (hears (events.Reply number heard)) next = inl (refl, next.1)
+who_moves plan old new (hears (events.Aside (asides.Lurk count))) next = inl (refl, next.0)
+who_moves plan old new (hears (events.Aside (asides.Probe backend good))) next = absurd next
+who_moves plan old new (calls entry) next = inr (inr (Ask entry.call, refl, record { round = next.0; runs = next.1 }))
+who_moves plan old new (fetches number backend request) next = inr (inr (Exchange number backend request, refl, record { round = next.0; runs = next.1 }))
+who_moves plan old new (sends client response) next = inr (inr (Respond response, refl, record { round = next.0; runs = next.1 }))
+who_moves plan old new (parks token) next = inr (inr (Await token, refl, record { round = next.0; runs = next.1 }))
+who_moves plan old new wakes next = inr (inl (refl, record { one = next.0; nobody_runs = next.1; free = next.2 }))
+who_moves plan old new ends next = inr (inr (Done, refl, record { round = next.0; runs = next.1 }))
 
 -- what can't be at once
 rest_wakes : (scene : Scene) → AtRest scene → CanWake scene → ⊥
@@ -69,32 +72,32 @@ rest_moves wants scene want rests moves = let none = rests.nobody_runs in let tu
 wake_moves : (wants : Request → List Given → Want → Type 0) (scene : Scene) (want : Want) → CanWake scene → Moves wants scene want → ⊥
 wake_moves wants scene want wake moves = let none = wake.nobody_runs in let turn = moves.runs.turn in cc
 
-module _ (wants : Request → List Given → Want → Type 0) (one_want : HasOneWant wants) (beginning : Beginning) where
-  pub same_round : (scene : Scene) (a b : Round) (x y : Want) → Runs wants scene a x → Runs wants scene b y → (b ≡ a) × (y ≡ x)
+module _ (plan : Plan) (one_want : HasOneWant plan.wants) where
+  pub same_round : (scene : Scene) (a b : Round) (x y : Want) → Runs plan.wants scene a x → Runs plan.wants scene b y → (b ≡ a) × (y ≡ x)
   same_round scene a b x y p q =
       let turn : Some b ≡ Some a = sym q.turn ∙ p.turn in
       let same : b ≡ a = cc in
-      (same, one_want a.request a.givens x y p.wanted (subst (λ (r : Round). wants r.request r.givens y) same q.wanted))
+      (same, one_want a.request a.givens x y p.wanted (subst (λ (r : Round). plan.wants r.request r.givens y) same q.wanted))
 
-  same_cause : (old a b : Scene) (m n : Move) → Next wants beginning old m a → Next wants beginning old n b → cause_of n ≡ cause_of m
+  same_cause : (old a b : Scene) (m n : Move) → Next plan old m a → Next plan old n b → cause_of n ≡ cause_of m
   same_cause old a b m n p q =
-      elim (who_moves wants beginning old a m p) [
+      elim (who_moves plan old a m p) [
         | inl rests ↦
-            elim (who_moves wants beginning old b n q) [
+            elim (who_moves plan old b n q) [
               | inl too ↦ too.0 ∙ sym rests.0
               | inr (inl wake) ↦ absurd (rest_wakes old rests.1 wake.1)
-              | inr (inr other) ↦ absurd (rest_moves wants old other.0 rests.1 other.2)
+              | inr (inr other) ↦ absurd (rest_moves plan.wants old other.0 rests.1 other.2)
             ]
         | inr (inl wake) ↦
-            elim (who_moves wants beginning old b n q) [
+            elim (who_moves plan old b n q) [
               | inl rests ↦ absurd (rest_wakes old rests.1 wake.1)
               | inr (inl too) ↦ too.0 ∙ sym wake.0
-              | inr (inr other) ↦ absurd (wake_moves wants old other.0 wake.1 other.2)
+              | inr (inr other) ↦ absurd (wake_moves plan.wants old other.0 wake.1 other.2)
             ]
         | inr (inr one) ↦
-            elim (who_moves wants beginning old b n q) [
-              | inl rests ↦ absurd (rest_moves wants old one.0 rests.1 one.2)
-              | inr (inl wake) ↦ absurd (wake_moves wants old one.0 wake.1 one.2)
+            elim (who_moves plan old b n q) [
+              | inl rests ↦ absurd (rest_moves plan.wants old one.0 rests.1 one.2)
+              | inr (inl wake) ↦ absurd (wake_moves plan.wants old one.0 wake.1 one.2)
               | inr (inr other) ↦ other.1 ∙ (ap wish (same_round old one.2.round other.2.round one.0 other.0 one.2.runs other.2.runs).1 ∙ sym one.1)
             ]
       ]
@@ -102,6 +105,8 @@ module _ (wants : Request → List Given → Want → Type 0) (one_want : HasOne
   hears_one : (old a b : Scene) (event : Event) → Hears old event a → Hears old event b → b ≡ a
   hears_one old a b (events.Moment moment) p q = q.1 ∙ sym p.1
   hears_one old a b (events.Request request) p q = q.2 ∙ sym p.2
+  hears_one old a b (events.Aside (asides.Lurk count)) p q = q.1 ∙ sym p.1
+  hears_one old a b (events.Aside (asides.Probe backend good)) p q = absurd p
   hears_one old a b (events.Reply number heard) p q =
       let found : Some q.0 ≡ Some p.0 = sym q.2 ∙ p.2 in
       let same : q.0 ≡ p.0 = cc in
@@ -113,7 +118,7 @@ module _ (wants : Request → List Given → Want → Type 0) (one_want : HasOne
   module _ (Sure : List Entry → List Entry → Type 0)
       (on : (before : List Entry) (entry : Entry) (more : List Entry) → Sure before (entry ∷ more) → Sure (before ++ entry ∷ []) more)
       (one_entry : (before : List Entry) (entry other : Entry) (more others : List Entry) → Sure before (entry ∷ more) → Sure before (other ∷ others) → other.caller ≡ entry.caller → other.moment ≡ entry.moment → other.call ≡ entry.call → other ≡ entry) where
-    same_move : (before : List Entry) (old a b : Scene) (m n : Move) (es fs : List Event) (xs ys : List Entry) → cause_of n ≡ cause_of m → Next wants beginning old m a → Next wants beginning old n b → events_of m ++ es ≡ events_of n ++ fs → Sure before (entries_of m ++ xs) → Sure before (entries_of n ++ ys) → (n ≡ m) × (b ≡ a)
+    same_move : (before : List Entry) (old a b : Scene) (m n : Move) (es fs : List Event) (xs ys : List Entry) → cause_of n ≡ cause_of m → Next plan old m a → Next plan old n b → events_of m ++ es ≡ events_of n ++ fs → Sure before (entries_of m ++ xs) → Sure before (entries_of n ++ ys) → (n ≡ m) × (b ≡ a)
     unfolding cause_of
     same_move before old a b (hears e) (hears f) es fs xs ys is p q split s t =
         let same : f ≡ e = cc in
@@ -123,7 +128,7 @@ module _ (wants : Request → List Given → Want → Type 0) (one_want : HasOne
         let call : f.call ≡ e.call = cc in
         let who : f.caller ≡ e.caller = q.2 ∙ (ap (λ (r : Round). r.request.client) round.0 ∙ sym p.2) in
         let entry : f ≡ e = one_entry before e f xs ys s t who (q.3 ∙ sym p.3) call in
-        (ap calls entry, q.4 ∙ (ap (λ (r : Round). record old { state = next_state beginning old.state f; running = Some (gave r (Told f.moment f.reply)) }) round.0 ∙ (ap (λ (x : Entry). record old { state = next_state beginning old.state x; running = Some (gave p.0 (Told x.moment x.reply)) }) entry ∙ sym p.4)))
+        (ap calls entry, q.4 ∙ (ap (λ (r : Round). record old { state = next_state plan.beginning.params old.state f; running = Some (gave r (Told f.moment f.reply)) }) round.0 ∙ (ap (λ (x : Entry). record old { state = next_state plan.beginning.params old.state x; running = Some (gave p.0 (Told x.moment x.reply)) }) entry ∙ sym p.4)))
     same_move before old a b (fetches number backend request) (fetches other name text) es fs xs ys is p q split s t =
         let round = same_round old p.0 q.0 _ _ p.1 q.1 in
         let n : other ≡ number = cc in
@@ -160,16 +165,16 @@ module _ (wants : Request → List Given → Want → Type 0) (one_want : HasOne
     on_move before ends xs s = subst (λ (h : List Entry). Sure h xs) (sym (append-nil before)) s
 
     -- Of two ways from one scene through the same events one goes on where the other ends.
-    compared : (before : List Entry) (old a b : Scene) (ms ns : List Move) (es fs : List Event) → Path wants beginning old ms a → Path wants beginning old ns b → flat_map events_of ms ++ es ≡ flat_map events_of ns ++ fs → Sure before (flat_map entries_of ms) → Sure before (flat_map entries_of ns)
-        → ((more : List Move) × (ns ≡ ms ++ more) × Path wants beginning a more b) ⊎ ((more : List Move) × (ms ≡ ns ++ more) × Path wants beginning b more a)
-    compared before old a b [] ns es fs p q split s t = inl (ns, refl, subst (λ (x : Scene). Path wants beginning x ns b) p q)
-    compared before old a b (m ∷ ms) [] es fs p q split s t = inr (m ∷ ms, refl, subst (λ (x : Scene). Path wants beginning x (m ∷ ms) a) q p)
+    compared : (before : List Entry) (old a b : Scene) (ms ns : List Move) (es fs : List Event) → Path plan old ms a → Path plan old ns b → flat_map events_of ms ++ es ≡ flat_map events_of ns ++ fs → Sure before (flat_map entries_of ms) → Sure before (flat_map entries_of ns)
+        → ((more : List Move) × (ns ≡ ms ++ more) × Path plan a more b) ⊎ ((more : List Move) × (ms ≡ ns ++ more) × Path plan b more a)
+    compared before old a b [] ns es fs p q split s t = inl (ns, refl, subst (λ (x : Scene). Path plan x ns b) p q)
+    compared before old a b (m ∷ ms) [] es fs p q split s t = inr (m ∷ ms, refl, subst (λ (x : Scene). Path plan x (m ∷ ms) a) q p)
     compared before old a b (m ∷ ms) (n ∷ ns) es fs p q split s t =
         let left : events_of m ++ (flat_map events_of ms ++ es) ≡ events_of n ++ (flat_map events_of ns ++ fs) = sym (append_assoc (events_of m) (flat_map events_of ms) es) ∙ (split ∙ append_assoc (events_of n) (flat_map events_of ns) fs) in
         let one = same_move before old p.0 q.0 m n _ _ _ _ (same_cause old p.0 q.0 m n p.1 q.1) p.1 q.1 left s t in
         let others = cancel m _ _ (left ∙ ap (λ (x : Move). events_of x ++ (flat_map events_of ns ++ fs)) one.0) in
         let t_on = on_move before m (flat_map entries_of ns) (subst (λ (x : Move). Sure before (entries_of x ++ flat_map entries_of ns)) one.0 t) in
-        elim (compared (before ++ entries_of m) p.0 a b ms ns es fs p.2 (subst (λ (x : Scene). Path wants beginning x ns b) one.1 q.2) others (on_move before m (flat_map entries_of ms) s) t_on) [
+        elim (compared (before ++ entries_of m) p.0 a b ms ns es fs p.2 (subst (λ (x : Scene). Path plan x ns b) one.1 q.2) others (on_move before m (flat_map entries_of ms) s) t_on) [
           | inl on_ ↦ inl (on_.0, ap (λ (x : Move). x ∷ ns) one.0 ∙ ap (λ (xs : List Move). m ∷ xs) on_.1, on_.2)
           | inr on_ ↦ inr (on_.0, ap (λ (xs : List Move). m ∷ xs) on_.1 ∙ ap (λ (x : Move). x ∷ (ns ++ on_.0)) (sym one.0), on_.2)
         ]
@@ -182,9 +187,9 @@ module _ (wants : Request → List Given → Want → Type 0) (one_want : HasOne
 
     -- No move leads on from a scene, where these events are left behind this history.
     abbrev pub IsStuck : Scene → List Event → List Entry → Type 0
-    IsStuck scene left history = (move : Move) (new : Scene) (others : List Event) (more : List Entry) → Next wants beginning scene move new → left ≡ events_of move ++ others → Sure history (entries_of move ++ more) → ⊥
+    IsStuck scene left history = (move : Move) (new : Scene) (others : List Event) (more : List Entry) → Next plan scene move new → left ≡ events_of move ++ others → Sure history (entries_of move ++ more) → ⊥
 
-    ends_there : (scene end : Scene) (left : List Event) (history : List Entry) (more : List Move) (others : List Event) → IsStuck scene left history → Path wants beginning scene more end → left ≡ flat_map events_of more ++ others → Sure history (flat_map entries_of more) → (more ≡ []) × (end ≡ scene)
+    ends_there : (scene end : Scene) (left : List Event) (history : List Entry) (more : List Move) (others : List Event) → IsStuck scene left history → Path plan scene more end → left ≡ flat_map events_of more ++ others → Sure history (flat_map entries_of more) → (more ≡ []) × (end ≡ scene)
     ends_there scene end left history [] others stuck path split sure = (refl, sym path)
     ends_there scene end left history (m ∷ ms) others stuck path split sure =
         absurd (stuck m path.0 (flat_map events_of ms ++ others) (flat_map entries_of ms) path.1 (split ∙ append_assoc (events_of m) (flat_map events_of ms) others) sure)
@@ -195,7 +200,7 @@ module _ (wants : Request → List Given → Want → Type 0) (one_want : HasOne
         append_cancel_left (flat_map events_of ms) es (flat_map events_of more ++ fs) (split ∙ (ap (λ (xs : List Event). xs ++ fs) reads ∙ append_assoc (flat_map events_of ms) (flat_map events_of more) fs))
 
     -- Two ways to where no move leads on are one.
-    pub one_way : (old a b : Scene) (ms ns : List Move) (es fs : List Event) → Path wants beginning old ms a → Path wants beginning old ns b → flat_map events_of ms ++ es ≡ flat_map events_of ns ++ fs → Sure [] (flat_map entries_of ms) → Sure [] (flat_map entries_of ns) → IsStuck a es (flat_map entries_of ms) → IsStuck b fs (flat_map entries_of ns) → (ns ≡ ms) × (b ≡ a)
+    pub one_way : (old a b : Scene) (ms ns : List Move) (es fs : List Event) → Path plan old ms a → Path plan old ns b → flat_map events_of ms ++ es ≡ flat_map events_of ns ++ fs → Sure [] (flat_map entries_of ms) → Sure [] (flat_map entries_of ns) → IsStuck a es (flat_map entries_of ms) → IsStuck b fs (flat_map entries_of ns) → (ns ≡ ms) × (b ≡ a)
     one_way old a b ms ns es fs p q split s t stuck stopped =
         elim (compared [] old a b ms ns es fs p q split s t) [
           | inl on_ ↦
@@ -211,19 +216,19 @@ module _ (wants : Request → List Given → Want → Type 0) (one_want : HasOne
     -- at rest, where no event is left, no move leads on
     pub stuck_at_rest : (scene : Scene) (left : List Event) (history : List Entry) → AtRest scene → left ≡ [] → IsStuck scene left history
     stuck_at_rest scene left history rests none (hears event) new others more next split sure = absurd (cc)
-    stuck_at_rest scene left history rests none (calls entry) new others more next split sure = rest_moves wants scene _ rests (record { round = next.0; runs = next.1 })
-    stuck_at_rest scene left history rests none (fetches number backend request) new others more next split sure = rest_moves wants scene _ rests (record { round = next.0; runs = next.1 })
-    stuck_at_rest scene left history rests none (sends client response) new others more next split sure = rest_moves wants scene _ rests (record { round = next.0; runs = next.1 })
-    stuck_at_rest scene left history rests none (parks token) new others more next split sure = rest_moves wants scene _ rests (record { round = next.0; runs = next.1 })
+    stuck_at_rest scene left history rests none (calls entry) new others more next split sure = rest_moves plan.wants scene _ rests (record { round = next.0; runs = next.1 })
+    stuck_at_rest scene left history rests none (fetches number backend request) new others more next split sure = rest_moves plan.wants scene _ rests (record { round = next.0; runs = next.1 })
+    stuck_at_rest scene left history rests none (sends client response) new others more next split sure = rest_moves plan.wants scene _ rests (record { round = next.0; runs = next.1 })
+    stuck_at_rest scene left history rests none (parks token) new others more next split sure = rest_moves plan.wants scene _ rests (record { round = next.0; runs = next.1 })
     stuck_at_rest scene left history rests none wakes new others more next split sure = rest_wakes scene rests (record { one = next.0; nobody_runs = next.1; free = next.2 })
-    stuck_at_rest scene left history rests none ends new others more next split sure = rest_moves wants scene _ rests (record { round = next.0; runs = next.1 })
+    stuck_at_rest scene left history rests none ends new others more next split sure = rest_moves plan.wants scene _ rests (record { round = next.0; runs = next.1 })
 
     -- at rest no move but the hearing of the next event leads on
-    pub only_hears : (scene new : Scene) (move : Move) → AtRest scene → Next wants beginning scene move new → (event : Event) × (move ≡ hears event) × Hears scene event new
+    pub only_hears : (scene new : Scene) (move : Move) → AtRest scene → Next plan scene move new → (event : Event) × (move ≡ hears event) × Hears scene event new
     only_hears scene new (hears event) rests next = (event, refl, next)
-    only_hears scene new (calls entry) rests next = absurd (rest_moves wants scene _ rests (record { round = next.0; runs = next.1 }))
-    only_hears scene new (fetches number backend request) rests next = absurd (rest_moves wants scene _ rests (record { round = next.0; runs = next.1 }))
-    only_hears scene new (sends client response) rests next = absurd (rest_moves wants scene _ rests (record { round = next.0; runs = next.1 }))
-    only_hears scene new (parks token) rests next = absurd (rest_moves wants scene _ rests (record { round = next.0; runs = next.1 }))
+    only_hears scene new (calls entry) rests next = absurd (rest_moves plan.wants scene _ rests (record { round = next.0; runs = next.1 }))
+    only_hears scene new (fetches number backend request) rests next = absurd (rest_moves plan.wants scene _ rests (record { round = next.0; runs = next.1 }))
+    only_hears scene new (sends client response) rests next = absurd (rest_moves plan.wants scene _ rests (record { round = next.0; runs = next.1 }))
+    only_hears scene new (parks token) rests next = absurd (rest_moves plan.wants scene _ rests (record { round = next.0; runs = next.1 }))
     only_hears scene new wakes rests next = absurd (rest_wakes scene rests (record { one = next.0; nobody_runs = next.1; free = next.2 }))
-    only_hears scene new ends rests next = absurd (rest_moves wants scene _ rests (record { round = next.0; runs = next.1 }))
+    only_hears scene new ends rests next = absurd (rest_moves plan.wants scene _ rests (record { round = next.0; runs = next.1 }))

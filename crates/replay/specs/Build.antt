@@ -1,5 +1,6 @@
--- Which events the lines of a session stand for, as far as that is built.
+-- Which events the lines of a session stand for.
 use Rattle.std.specs.Prelude.{◌≡◌, ◌≤◌, ◌<◌, ℕ, true, List, [], ◌∷◌, ◌++◌}
+use Rattle.std.specs.List.{AllByRecursion}
 use Rattle.http_heads.specs.declared.message.RequestHead.{RequestHead}
 use Rattle.seen_request.specs.Sites.{is_of_one_site}
 use Rattle.session_text.specs.declared.session.Line.{Line}
@@ -11,11 +12,10 @@ use Rattle.replay.specs.declared.policy.Message.{Message}
 use Rattle.replay.specs.declared.policy.Message.TheVariants.{Whole, Unreadable, Line as ConsoleLine}
 use Rattle.replay.specs.declared.event.Event.{Event}
 use Rattle.replay.specs.declared.event.Event.TheVariants as events
+use Rattle.replay.specs.declared.event.Aside.TheVariants as asides
 use Rattle.replay.specs.declared.event.Heard.TheVariants.{Bytes, Fault}
 use Rattle.replay.specs.declared.event.NumberedEvent.{NumberedEvent}
 use Rattle.replay.specs.declared.event.Script.{Script}
-use Rattle.replay.specs.declared.script.BuildError.{BuildError}
-use Rattle.replay.specs.declared.script.BuildError.TheVariants.{NotBuilt, NoMemory}
 use Rattle.replay.specs.Whole.{HasWholeRequest}
 use Rattle.replay.specs.Console.{LeadsTo}
 
@@ -35,8 +35,8 @@ IsLine stored text (ConsoleLine instruction) = LeadsTo stored text instruction
 IsLine stored text (Whole head body) = ⊥
 IsLine stored text Unreadable = ⊥
 
--- the line stands for the event: a moment; a request of a client; the bytes of a reply; a backend that can't be reached; or a line of
--- the console
+-- the line stands for the event: a moment; a request of a client; the bytes of a reply; a backend that can't be reached; a line of
+-- the console; the lurker; or a probe
 abbrev pub StandsFor : List Stored → Line → Event → Type 0
 StandsFor stored (lines.At moment) (events.Moment same) = moment ≡ same
 StandsFor stored (lines.Req client text) (events.Request request) =
@@ -44,6 +44,8 @@ StandsFor stored (lines.Req client text) (events.Request request) =
 StandsFor stored (lines.Reply fetch text) (events.Reply number heard) = (number ≡ fetch) × (heard ≡ Bytes text)
 StandsFor stored (lines.Fail fetch) (events.Reply number heard) = (number ≡ fetch) × (heard ≡ Fault)
 StandsFor stored (lines.Cli text) (events.Request request) = (request.client ≡ 0) × IsLine stored text request.message
+StandsFor stored (lines.Lurk count) (events.Aside (asides.Lurk same)) = count ≡ same
+StandsFor stored (lines.Probe backend good) (events.Aside (asides.Probe name same)) = (name ≡ backend) × (same ≡ good)
 StandsFor stored line event = ⊥
 
 -- line by line, with the same numbers
@@ -60,21 +62,15 @@ pub record IsOneMore (stored : List Stored) (line : NumberedLine) (before now : 
   pub stands : StandsFor stored line.line event.event
   pub pushed : now ≡ before ++ event ∷ []
 
--- why there is none: the line stands for no event, or memory is wanting
-abbrev pub IsLineError : List Stored → NumberedLine → BuildError → Type 0
-IsLineError stored line (NotBuilt number) = (number ≡ line.number) × ((event : Event) → StandsFor stored line.line event → ⊥)
-IsLineError stored line NoMemory = Unit {0}
+-- the line is no client's, or that of a client 1 to 250
+abbrev pub IsOfClient : Line → Type 0
+IsOfClient (lines.Req client text) = (0 < client) × (client ≤ 250)
+IsOfClient line = Unit {0}
+
+-- each line of the session is so
+abbrev pub HasClients : Session → Type 0
+HasClients session = AllByRecursion (λ (one : NumberedLine). IsOfClient one.line) session.lines
 
 pub record IsBuilt (stored : List Stored) (session : Session) (script : Script) : Type 0 where
   pub lines_are : IsBuiltAs stored session.lines script.events
   pub end_is : script.end ≡ session.end
-
--- the first line that stands for no event has this number; those before it stand for some
-abbrev pub IsNotBuilt : List Stored → Session → ℕ → Type 0
-IsNotBuilt stored session number =
-    (front : List NumberedLine) × (first : NumberedLine) × (back : List NumberedLine) × (events : List NumberedEvent)
-    × (session.lines ≡ front ++ first ∷ back) × IsBuiltAs stored front events × (first.number ≡ number) × ((event : Event) → StandsFor stored first.line event → ⊥)
-
-abbrev pub IsBuildError : List Stored → Session → BuildError → Type 0
-IsBuildError stored session (NotBuilt number) = IsNotBuilt stored session number
-IsBuildError stored session NoMemory = Unit {0}

@@ -3,19 +3,16 @@
 use Rattle.std.specs.Prelude.{◌≡◌, ◌≢◌, ◌⊎◌, ◌++◌, ◌∷◌, ℕ, Bool, true, false, Option, Some, None, List}
 use Rattle.std.specs.List.{AllByRecursion}
 use Rattle.std.specs.Io.KnownBytes.{Appends}
-use Rattle.cache_law.specs.Beginning.{Beginning}
 use Rattle.cache_law.specs.declared.call.Call.{Call}
 use Rattle.cache_law.specs.declared.call.Call.TheVariants.{BanList}
 use Rattle.cache_law.specs.declared.call.Entry.{Entry}
 use Rattle.cache_law.specs.declared.call.Reply.TheVariants.{Refused}
 use Rattle.cache_law.specs.History.{Legal}
-use Rattle.replay.specs.declared.policy.Request.{Request}
-use Rattle.replay.specs.declared.policy.Given.{Given}
-use Rattle.replay.specs.declared.policy.Want.{Want}
 use Rattle.replay.specs.declared.event.Event.{Event}
 use Rattle.replay.specs.declared.event.Script.{Script}
 use Rattle.replay.specs.declared.session.ReplayError.{ReplayError}
-use Rattle.replay.specs.declared.session.ReplayError.TheVariants.{NotBuilt, Idle, Unanswered, WriteFault, HistoryFull, NoMemory}
+use Rattle.replay.specs.declared.session.ReplayError.TheVariants.{Idle, Unanswered, WriteFault, HistoryFull, NoMemory}
+use Rattle.replay.specs.Plan.{Plan}
 use Rattle.replay.specs.Scene.{Scene, AtRest, Run, opening_scene}
 use Rattle.session_text.specs.declared.session.Session.{Session}
 use Rattle.vmod_host.specs.declared.signature.Stored.{Stored}
@@ -42,19 +39,19 @@ AllBound entries = AllByRecursion IsBound entries
 
 -- Over given entries a session has one scene and one text: two runs that read the same events, enter the same entries
 -- and come to rest are one.
-abbrev pub OneText : (Request → List Given → Want → Type 0) → Type 0
-OneText wants =
-    (beginning : Beginning) (events : List Event) (entries : List Entry) (scene other : Scene) (text said : List ℕ)
-    → Run wants beginning (opening_scene beginning) scene events entries text → Run wants beginning (opening_scene beginning) other events entries said
+abbrev pub OneText : Plan → Type 0
+OneText plan =
+    (events : List Event) (entries : List Entry) (scene other : Scene) (text said : List ℕ)
+    → Run plan (opening_scene plan) scene events entries text → Run plan (opening_scene plan) other events entries said
     → AtRest scene → AtRest other → (other ≡ scene) × (said ≡ text)
 
 -- A session has one history in which the law leaves each entry one answer, and so one scene and one text with it.
-abbrev pub OneHistory : (Request → List Given → Want → Type 0) → Type 0
-OneHistory wants =
-    (beginning : Beginning) (events : List Event) (entries others : List Entry) (scene other : Scene) (text said : List ℕ)
-    → Run wants beginning (opening_scene beginning) scene events entries text → Run wants beginning (opening_scene beginning) other events others said
+abbrev pub OneHistory : Plan → Type 0
+OneHistory plan =
+    (events : List Event) (entries others : List Entry) (scene other : Scene) (text said : List ℕ)
+    → Run plan (opening_scene plan) scene events entries text → Run plan (opening_scene plan) other events others said
     → AtRest scene → AtRest other
-    → Legal beginning entries → Legal beginning others → AllBound entries → AllBound others
+    → Legal plan.beginning entries → Legal plan.beginning others → AllBound entries → AllBound others
     → (others ≡ entries) × (other ≡ scene) × (said ≡ text)
 
 -- an ending that the session itself has: neither the sink's fault nor want of memory
@@ -63,25 +60,24 @@ IsOwnEnding None = Unit {0}
 IsOwnEnding (Some (Idle line)) = Unit {0}
 IsOwnEnding (Some (Unanswered line)) = Unit {0}
 IsOwnEnding (Some HistoryFull) = Unit {0}
-IsOwnEnding (Some (NotBuilt line)) = ⊥
 IsOwnEnding (Some WriteFault) = ⊥
 IsOwnEnding (Some NoMemory) = ⊥
 
 -- A session has one ending over a history, and over all histories in which the law leaves each entry one answer: whole, Idle at one line,
 -- Unanswered, or a call that doesn't fit at one place. History and text are one with it.
-abbrev pub OneEnding : (Request → List Given → Want → Type 0) → Type 0
-OneEnding wants =
-    (beginning : Beginning) (script : Script) (history other : List Entry) (before now before2 now2 : Option (List ℕ)) (ending ending2 : Option ReplayError)
-    → EndsSo wants beginning script history before now ending → EndsSo wants beginning script other before2 now2 ending2
+abbrev pub OneEnding : Plan → Type 0
+OneEnding plan =
+    (script : Script) (history other : List Entry) (before now before2 now2 : Option (List ℕ)) (ending ending2 : Option ReplayError)
+    → EndsSo plan script history before now ending → EndsSo plan script other before2 now2 ending2
     → IsOwnEnding ending → IsOwnEnding ending2
     → (other ≡ history) ⊎ (AllBound history × AllBound other)
     → (ending2 ≡ ending) × (other ≡ history) × (text : List ℕ) × Appends before now text × Appends before2 now2 text
 
 -- Over this history nothing stops the session before its end: no line is idle, `end` isn't unanswered, and no call that is
 -- wanted lacks room.
-abbrev pub NothingStops : List Stored → (Request → List Given → Want → Type 0) → Session → Beginning → List Entry → Type 0
-NothingStops stored wants session beginning history =
-    (before now : Option (List ℕ)) (ending : ReplayError) → IsOwnEnding (Some ending) → PlayedTo stored wants session beginning history before now (Some ending) → ⊥
+abbrev pub NothingStops : List Stored → Plan → Session → List Entry → Type 0
+NothingStops stored plan session history =
+    (before now : Option (List ℕ)) (ending : ReplayError) → IsOwnEnding (Some ending) → PlayedTo stored plan session history before now (Some ending) → ⊥
 
 -- a line of the console leads to one thing
 abbrev pub LeadsToOne : List Stored → List ℕ → Type 0
@@ -97,19 +93,19 @@ IsPlain line = (text : List ℕ) → line.line ≡ lines.Cli text → BringsPlai
 
 -- A session whose texts of VCLs are plain has one ending over a history, and over all histories in which the law leaves each
 -- entry one answer; and history and text are one with it.
-abbrev pub OneSession : (Request → List Given → Want → Type 0) → Type 0
-OneSession wants =
-    (stored : List Stored) (session : Session) (beginning : Beginning) (history other : List Entry) (before now before2 now2 : Option (List ℕ)) (ending ending2 : Option ReplayError)
+abbrev pub OneSession : Plan → Type 0
+OneSession plan =
+    (stored : List Stored) (session : Session) (history other : List Entry) (before now before2 now2 : Option (List ℕ)) (ending ending2 : Option ReplayError)
     → AllByRecursion IsPlain session.lines
-    → SessionEnds stored wants session beginning history before now ending → SessionEnds stored wants session beginning other before2 now2 ending2
+    → SessionEnds stored plan session history before now ending → SessionEnds stored plan session other before2 now2 ending2
     → IsOwnEnding ending → IsOwnEnding ending2
     → (other ≡ history) ⊎ (AllBound history × AllBound other)
     → (ending2 ≡ ending) × (other ≡ history) × (text : List ℕ) × Appends before now text × Appends before2 now2 text
 
 -- Where a session is idle at a line, that is the number of one of its lines that is none of the console's.
-abbrev pub ConsoleIsHeard : (Request → List Given → Want → Type 0) → Type 0
-ConsoleIsHeard wants =
-    (stored : List Stored) (session : Session) (beginning : Beginning) (history : List Entry) (before now : Option (List ℕ)) (line : ℕ)
-    → SessionEnds stored wants session beginning history before now (Some (Idle line))
+abbrev pub ConsoleIsHeard : Plan → Type 0
+ConsoleIsHeard plan =
+    (stored : List Stored) (session : Session) (history : List Entry) (before now : Option (List ℕ)) (line : ℕ)
+    → SessionEnds stored plan session history before now (Some (Idle line))
     → (front : List NumberedLine) × (one : NumberedLine) × (back : List NumberedLine)
     × (session.lines ≡ front ++ one ∷ back) × (one.number ≡ line) × ((text : List ℕ) → one.line ≡ lines.Cli text → ⊥)

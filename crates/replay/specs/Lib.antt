@@ -3,6 +3,7 @@ pub mod Console
 pub mod Rounds
 pub mod Turns
 pub mod OneWant
+pub mod Plan
 pub mod Scene
 pub mod Endings
 pub mod Whole
@@ -12,3 +13,4 @@ pub mod Pieces
 pub mod Went
 pub mod Waits
 pub mod Replayed
+pub mod Swept

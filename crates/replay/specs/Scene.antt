@@ -10,7 +10,6 @@ use Rattle.backend_link.specs.Exchanges.{asks_head, sent_text}
 use Rattle.backend_link.specs.WholeReplies.{IsReplyTo}
 use Rattle.cache_law.specs.declared.call.Entry.{Entry}
 use Rattle.cache_law.specs.State.{State, is_closed}
-use Rattle.cache_law.specs.Beginning.{Beginning}
 use Rattle.cache_law.specs.History.{next_state}
 use Rattle.replay.specs.declared.policy.Request.{Request}
 use Rattle.replay.specs.declared.policy.Given.{Given}
@@ -19,8 +18,10 @@ use Rattle.replay.specs.declared.policy.Want.{Want}
 use Rattle.replay.specs.declared.policy.Want.TheVariants.{Ask, Exchange, Respond, Await, Done}
 use Rattle.replay.specs.declared.event.Event.{Event}
 use Rattle.replay.specs.declared.event.Event.TheVariants as events
+use Rattle.replay.specs.declared.event.Aside.TheVariants as asides
 use Rattle.replay.specs.declared.event.Heard.{Heard}
 use Rattle.replay.specs.declared.event.Heard.TheVariants.{Bytes, Fault}
+use Rattle.replay.specs.Plan.{Plan}
 
 -- a request under way, and what its round was given, newest first
 pub record Round : Type 0 where
@@ -50,8 +51,8 @@ pub record Scene : Type 0 where
   pub parked : List Parked
 
 -- before the first line
-abbrev pub opening_scene : Beginning → Scene
-opening_scene beginning = record { moment = 0; state = beginning.base; running = None; waiting = []; parked = [] }
+abbrev pub opening_scene : Plan → Scene
+opening_scene plan = record { moment = 0; state = plan.beginning.base; running = None; waiting = []; parked = [] }
 
 abbrev pub begun : ℕ → Request → Round
 begun moment request = record { request = request; givens = Start moment ∷ [] }
@@ -154,7 +155,7 @@ IsHeardAs to_head Fault exchange = exchange ≡ exchanges.Fault 1
 
 -- A line is heard when the schedule is at rest. A moment never goes back. A request begins a round of a client that has
 -- none under way; a reply is read as it is heard, and goes to the first round that waits
--- for it.
+-- for it. The lurker leaves all as it is. No backend is probed, so that no probe is heard.
 abbrev pub Hears : Scene → Event → Scene → Type 0
 Hears old (events.Moment moment) new =
     AtRest old × (new ≡ record old { moment = max old.moment moment })
@@ -167,39 +168,41 @@ Hears old (events.Reply number heard) new =
       running = Some (gave one.round (Came (record { moment = old.moment; exchange = exchange })));
       waiting = without_first number old.waiting;
     })
+Hears old (events.Aside (asides.Lurk count)) new = AtRest old × (new ≡ old)
+Hears old (events.Aside (asides.Probe backend good)) new = ⊥
 
--- Over a beginning each entry leads to the cache's next state. A round is parked behind those that are parked already,
+-- Each entry leads to the cache's next state. A round is parked behind those that are parked already,
 -- and the first whose token is closed wakes when nobody runs.
-abbrev pub Next : (Request → List Given → Want → Type 0) → Beginning → Scene → Move → Scene → Type 0
-Next wants beginning old (hears event) new = Hears old event new
-Next wants beginning old (calls entry) new =
-    (round : Round) × Runs wants old round (Ask entry.call)
+abbrev pub Next : Plan → Scene → Move → Scene → Type 0
+Next plan old (hears event) new = Hears old event new
+Next plan old (calls entry) new =
+    (round : Round) × Runs plan.wants old round (Ask entry.call)
     × (entry.caller ≡ round.request.client) × (entry.moment ≡ old.moment)
-    × (new ≡ record old { state = next_state beginning old.state entry; running = Some (gave round (Told entry.moment entry.reply)) })
-Next wants beginning old (fetches number backend request) new =
-    (round : Round) × Runs wants old round (Exchange number backend request)
+    × (new ≡ record old { state = next_state plan.beginning.params old.state entry; running = Some (gave round (Told entry.moment entry.reply)) })
+Next plan old (fetches number backend request) new =
+    (round : Round) × Runs plan.wants old round (Exchange number backend request)
     × (new ≡ record old { running = None; waiting = old.waiting ++ record { number = number; to_head = asks_head request; round = round } ∷ [] })
-Next wants beginning old (sends client response) new =
-    (round : Round) × Runs wants old round (Respond response) × (client ≡ round.request.client)
+Next plan old (sends client response) new =
+    (round : Round) × Runs plan.wants old round (Respond response) × (client ≡ round.request.client)
     × (new ≡ with_running old (gave round Sent))
-Next wants beginning old (parks token) new =
-    (round : Round) × Runs wants old round (Await token)
+Next plan old (parks token) new =
+    (round : Round) × Runs plan.wants old round (Await token)
     × (new ≡ record old { running = None; parked = old.parked ++ record { token = token; round = round } ∷ [] })
-Next wants beginning old wakes new =
+Next plan old wakes new =
     (one : Parked) × (old.running ≡ None) × (find (is_free old.state) old.parked ≡ Some one)
     × (new ≡ record old { running = Some (gave one.round Closed); parked = without_free old.state old.parked })
-Next wants beginning old ends new =
-    (round : Round) × Runs wants old round Done × (new ≡ record old { running = None })
+Next plan old ends new =
+    (round : Round) × Runs plan.wants old round Done × (new ≡ record old { running = None })
 
 -- moves, one after another
-abbrev pub Path : (Request → List Given → Want → Type 0) → Beginning → Scene → List Move → Scene → Type 0
-Path wants beginning old [] new = old ≡ new
-Path wants beginning old (move ∷ moves) new = (between : Scene) × Next wants beginning old move between × Path wants beginning between moves new
+abbrev pub Path : Plan → Scene → List Move → Scene → Type 0
+Path plan old [] new = old ≡ new
+Path plan old (move ∷ moves) new = (between : Scene) × Next plan old move between × Path plan between moves new
 
 -- Moves lead from one scene to another; together they read these events, enter these entries and write this text.
-pub record Run (wants : Request → List Given → Want → Type 0) (beginning : Beginning) (old new : Scene) (events_read : List Event) (entries : List Entry) (text : List ℕ) : Type 0 where
+pub record Run (plan : Plan) (old new : Scene) (events_read : List Event) (entries : List Entry) (text : List ℕ) : Type 0 where
   pub moves : List Move
-  pub path : Path wants beginning old moves new
+  pub path : Path plan old moves new
   pub reads : flat_map events_of moves ≡ events_read
   pub enters : flat_map entries_of moves ≡ entries
   pub writes : flat_map text_of moves ≡ text

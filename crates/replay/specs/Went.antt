@@ -19,17 +19,18 @@ use Rattle.replay.specs.declared.schedule.Stop.{Stop}
 use Rattle.replay.specs.declared.schedule.Stop.TheVariants.{Idle, Broken}
 use Rattle.replay.specs.declared.schedule.Halt.{Halt}
 use Rattle.replay.specs.declared.schedule.Halt.TheVariants as halts
+use Rattle.replay.specs.Plan.{Plan}
 use Rattle.replay.specs.Scene.{Round, Waiting, Parked, Scene, AtRest, Run, opening_scene}
 use Rattle.replay.specs.Pieces.{Pieces, pieces, Takes, LosesEnd, UsesSink}
 use Rattle.replay.specs.Endings.{WantsTooMuch, IsIdle}
 
 -- From a scene on, some moves read these events, led from one history to another and to a scene and a text of
 -- which this holds.
-pub record Went (wants : Request → List Given → Want → Type 0) (beginning : Beginning) (old : Scene) (events_read : List Event) (before now : List Entry) (holds : Scene → List ℕ → Type 0) : Type 0 where
+pub record Went (plan : Plan) (old : Scene) (events_read : List Event) (before now : List Entry) (holds : Scene → List ℕ → Type 0) : Type 0 where
   pub scene : Scene
   pub entries : List Entry
   pub text : List ℕ
-  pub run : Run wants beginning old scene events_read entries text
+  pub run : Run plan old scene events_read entries text
   pub history : now ≡ before ++ entries
   pub fact : holds scene text
 
@@ -102,15 +103,15 @@ pub record IsAt (beginning : Beginning) (history : List Entry) (moment : ℕ) (s
   pub state_is : scene.state ≡ reached beginning history
 
 -- the stage is the scene's
-pub record IsStage {P : Type 0} (wants : Request → List Given → Want → Type 0) (stands : P → Request → List Given → Type 0) (beginning : Beginning) (stage : Stage P) (scene : Scene) : Type 0 where
-  pub at : IsAt beginning stage.history stage.moment scene
-  pub waiting_are : AllAlike (IsPending wants stands) stage.waiting scene.waiting
-  pub parked_are : AllAlike (IsParked wants stands) stage.parked scene.parked
+pub record IsStage {P : Type 0} (plan : Plan) (stands : P → Request → List Given → Type 0) (stage : Stage P) (scene : Scene) : Type 0 where
+  pub at : IsAt plan.beginning stage.history stage.moment scene
+  pub waiting_are : AllAlike (IsPending plan.wants stands) stage.waiting scene.waiting
+  pub parked_are : AllAlike (IsParked plan.wants stands) stage.parked scene.parked
 
 -- the stage is that of some scene
-pub record IsSet {P : Type 0} (wants : Request → List Given → Want → Type 0) (stands : P → Request → List Given → Type 0) (beginning : Beginning) (stage : Stage P) : Type 0 where
+pub record IsSet {P : Type 0} (plan : Plan) (stands : P → Request → List Given → Type 0) (stage : Stage P) : Type 0 where
   pub scene : Scene
-  pub is_stage : IsStage wants stands beginning stage scene
+  pub is_stage : IsStage plan stands stage scene
 
 -- no entry is later than this moment
 pub record IsInStep (beginning : Beginning) (history : List Entry) (moment : ℕ) : Type 0 where
@@ -134,10 +135,10 @@ spare beginning entries = beginning.params.history - bytes_of_all entries
 
 -- What a break leaves: the text before it was taken. A full history has no room for the call that is wanted, and a
 -- write fault loses some of the end of the text.
-abbrev pub Breaks : (Request → List Given → Want → Type 0) → Beginning → List Entry → Pieces → Pieces → Break → Scene → List ℕ → Type 0
-Breaks wants beginning history old new HistoryFull scene text = WantsTooMuch wants beginning history scene × Takes old new text
-Breaks wants beginning history old new WriteFault scene text = LosesEnd old new.held text
-Breaks wants beginning history old new NoMemory scene text = Takes old new text
+abbrev pub Breaks : Plan → List Entry → Pieces → Pieces → Break → Scene → List ℕ → Type 0
+Breaks plan history old new HistoryFull scene text = WantsTooMuch plan history scene × Takes old new text
+Breaks plan history old new WriteFault scene text = LosesEnd old new.held text
+Breaks plan history old new NoMemory scene text = Takes old new text
 
 -- nothing but the turn and the cache changed
 pub record KeepsRounds (old new : Scene) : Type 0 where
@@ -145,37 +146,37 @@ pub record KeepsRounds (old new : Scene) : Type 0 where
   pub parked_same : new.parked ≡ old.parked
 
 -- what the round wanted was met, and it wants this next
-pub record Met {P : Type 0} (wants : Request → List Given → Want → Type 0) (stands : P → Request → List Given → Type 0) (beginning : Beginning) (history : List Entry) (moment : ℕ) (policy : P) (client : ℕ) (want : Want) (old new : Scene) : Type 0 where
-  pub has_turn : HasTurn wants stands policy client want new
-  pub at : IsAt beginning history moment new
+pub record Met {P : Type 0} (plan : Plan) (stands : P → Request → List Given → Type 0) (history : List Entry) (moment : ℕ) (policy : P) (client : ℕ) (want : Want) (old new : Scene) : Type 0 where
+  pub has_turn : HasTurn plan.wants stands policy client want new
+  pub at : IsAt plan.beginning history moment new
   pub keeps : KeepsRounds old new
 
 -- from a scene in which the round has its turn and wants this, it was met, or the session broke off
-abbrev pub Meets : {P : Type 0} → (Request → List Given → Want → Type 0) → (P → Request → List Given → Type 0) → Beginning → List Entry → ℕ → P → ℕ → Pieces → Pieces → Result Want Break → Scene → Scene → List ℕ → Type 0
-Meets wants stands beginning history moment policy client old new (Ok want) scene next text =
-    Met wants stands beginning history moment policy client want scene next × Takes old new text
-Meets wants stands beginning history moment policy client old new (Err broken) scene next text = Breaks wants beginning history old new broken next text
+abbrev pub Meets : {P : Type 0} → Plan → (P → Request → List Given → Type 0) → List Entry → ℕ → P → ℕ → Pieces → Pieces → Result Want Break → Scene → Scene → List ℕ → Type 0
+Meets plan stands history moment policy client old new (Ok want) scene next text =
+    Met plan stands history moment policy client want scene next × Takes old new text
+Meets plan stands history moment policy client old new (Err broken) scene next text = Breaks plan history old new broken next text
 
 abbrev pub NobodyRuns : Scene → Type 0
 NobodyRuns scene = scene.running ≡ None
 
 -- A round was led on to a scene that is still so, or the session broke off.
-abbrev pub ComesTo : {P : Type 0} → (Request → List Given → Want → Type 0) → (P → Request → List Given → Type 0) → Beginning → (Scene → Type 0) → Change P → Result (Unit {0}) Break → Scene → List ℕ → Type 0
-ComesTo wants stands beginning Still change (Ok u) scene text =
-    Still scene × IsStage wants stands beginning change.after scene × Takes change.old change.new text
-ComesTo wants stands beginning Still change (Err broken) scene text =
-    Breaks wants beginning change.after.history change.old change.new broken scene text
+abbrev pub ComesTo : {P : Type 0} → Plan → (P → Request → List Given → Type 0) → (Scene → Type 0) → Change P → Result (Unit {0}) Break → Scene → List ℕ → Type 0
+ComesTo plan stands Still change (Ok u) scene text =
+    Still scene × IsStage plan stands change.after scene × Takes change.old change.new text
+ComesTo plan stands Still change (Err broken) scene text =
+    Breaks plan change.after.history change.old change.new broken scene text
 
 -- What playing one event leads to, or why it isn't played: it can't be here, or it is broken off, before the
 -- line is heard or after it.
-abbrev pub Plays : {P : Type 0} → (Request → List Given → Want → Type 0) → (P → Request → List Given → Type 0) → Beginning → Change P → Scene → Event → Result (Unit {0}) Stop → Type 0
-Plays wants stands beginning change scene event (Ok u) =
-    Went wants beginning scene (event ∷ []) change.before.history change.after.history (ComesTo wants stands beginning AtRest change (Ok u))
-Plays wants stands beginning change scene event (Err Idle) =
+abbrev pub Plays : {P : Type 0} → Plan → (P → Request → List Given → Type 0) → Change P → Scene → Event → Result (Unit {0}) Stop → Type 0
+Plays plan stands change scene event (Ok u) =
+    Went plan scene (event ∷ []) change.before.history change.after.history (ComesTo plan stands AtRest change (Ok u))
+Plays plan stands change scene event (Err Idle) =
     IsIdle scene event × (change.after.history ≡ change.before.history) × Takes change.old change.new []
-Plays wants stands beginning change scene event (Err (Broken broken)) =
+Plays plan stands change scene event (Err (Broken broken)) =
     (heard : List Event) × (rest : List Event) × (event ∷ [] ≡ heard ++ rest)
-    × Went wants beginning scene heard change.before.history change.after.history (ComesTo wants stands beginning AtRest change (Err broken))
+    × Went plan scene heard change.before.history change.after.history (ComesTo plan stands AtRest change (Err broken))
 
 -- the events without their lines' numbers
 abbrev pub events_in : List NumberedEvent → List Event
@@ -183,12 +184,12 @@ events_in numbered = map (λ (one : NumberedEvent). one.event) numbered
 
 -- What playing events from the opening scene on leads to, or where it halts: at an idle event, behind those
 -- before it, or broken off, with some of the events heard.
-abbrev pub PlaysAll : {P : Type 0} → (Request → List Given → Want → Type 0) → (P → Request → List Given → Type 0) → Beginning → Change P → List NumberedEvent → Result (Unit {0}) Halt → Type 0
-PlaysAll wants stands beginning change events (Ok u) =
-    Went wants beginning (opening_scene beginning) (events_in events) change.before.history change.after.history (ComesTo wants stands beginning AtRest change (Ok u))
-PlaysAll wants stands beginning change events (Err (halts.Idle line)) =
+abbrev pub PlaysAll : {P : Type 0} → Plan → (P → Request → List Given → Type 0) → Change P → List NumberedEvent → Result (Unit {0}) Halt → Type 0
+PlaysAll plan stands change events (Ok u) =
+    Went plan (opening_scene plan) (events_in events) change.before.history change.after.history (ComesTo plan stands AtRest change (Ok u))
+PlaysAll plan stands change events (Err (halts.Idle line)) =
     (played : List NumberedEvent) × (idle : NumberedEvent) × (rest : List NumberedEvent) × (events ≡ played ++ idle ∷ rest) × (idle.number ≡ line)
-    × Went wants beginning (opening_scene beginning) (events_in played) change.before.history change.after.history (λ next text. AtRest next × IsIdle next idle.event × Takes change.old change.new text)
-PlaysAll wants stands beginning change events (Err (halts.Broken broken)) =
+    × Went plan (opening_scene plan) (events_in played) change.before.history change.after.history (λ next text. AtRest next × IsIdle next idle.event × Takes change.old change.new text)
+PlaysAll plan stands change events (Err (halts.Broken broken)) =
     (heard : List Event) × (rest : List Event) × (events_in events ≡ heard ++ rest)
-    × Went wants beginning (opening_scene beginning) heard change.before.history change.after.history (ComesTo wants stands beginning AtRest change (Err broken))
+    × Went plan (opening_scene plan) heard change.before.history change.after.history (ComesTo plan stands AtRest change (Err broken))

@@ -11,6 +11,16 @@ pub enum Event {
     Request(Boxed<Request>),
     /// The exchange of this fetch is over.
     Reply { fetch: u64, heard: Heard },
+    Aside(Aside),
+}
+
+/// What a line says that is none of a client's, a backend's or the console's.
+#[derive(Drop)]
+pub enum Aside {
+    /// The lurker tests so many objects at most.
+    Lurk(u32),
+    /// A probe of the backend of this name was good, or was not.
+    Probe { backend: Text, good: bool },
 }
 
 /// How an exchange is over.

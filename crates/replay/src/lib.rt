@@ -24,9 +24,9 @@ mod whole;
 
 pub use boxed::Boxed;
 pub use console::Instruction;
-pub use event::{Event, Heard, NumberedEvent, Script};
+pub use event::{Aside, Event, Heard, NumberedEvent, Script};
 pub use laws::{console_is_heard, one_ending, one_history, one_instruction, one_session, one_text};
 pub use led::Led;
 pub use policy::{Given, Message, Policy, Request, Want};
-pub use session::{ReplayError, Replayed, play_session, run_session};
+pub use session::{Played, ReplayError, Replayed, play_session, run_session};
 pub use turn::Turn;

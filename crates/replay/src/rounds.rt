@@ -4,6 +4,7 @@ ghost use Rattle.backend_link.specs.Exchanges.{asks_head, sent_text};
 ghost use Rattle.cache_law.specs.Beginning.{Beginning};
 ghost use Rattle.cache_law.specs.declared.call.Entry.{Entry as HistoryEntry};
 ghost use Rattle.cache_law.specs.History.{HasWaited, reached};
+ghost use Rattle.replay.specs.Plan.{plan_of};
 ghost use Rattle.replay.specs.Policy.{ends_wait, is_response, rests};
 ghost use Rattle.replay.specs.declared.policy.Want.TheVariants as wants;
 ghost use Rattle.replay.specs.Scene.{Scene, fetch_line};
@@ -71,7 +72,7 @@ pub(crate) fn ask<C: CacheCore, P: Policy>(
     requires can { CanLead P.wants P.stands policy.old client (wants.Ask call) }
     requires waited { HasWaited (reached (C.beginning core.old) (C.history core.old)) client call }
     ensures asked { (kept : Pieces) (scene : Scene) → IsAt (C.beginning core.old) (C.history core.old) moment scene → HasTurn P.wants P.stands policy.old client (wants.Ask call) scene →
-        Went P.wants (C.beginning core.old) scene [] (C.history core.old) (C.history core.new) (Meets P.wants P.stands (C.beginning core.old) (C.history core.new) moment policy.new client kept kept result scene) }
+        Went (plan_of P.wants (C.beginning core.old)) scene [] (C.history core.old) (C.history core.new) (Meets (plan_of P.wants (C.beginning core.old)) P.stands (C.history core.new) moment policy.new client kept kept result scene) }
     ensures can { IfOk result (CanLead P.wants P.stands policy.new client) }
     ensures kept { KeepsCore C.beginning C.history core.old core.new }
     ensures in_step { IsInStep (C.beginning core.new) (C.history core.new) moment }
@@ -108,7 +109,7 @@ fn respond<P: Policy, K: Sink>(
 ) -> Result<Want, Break>
     requires { CanLead P.wants P.stands policy.old client (wants.Respond response.now) }
     ensures sent { (beginning : Beginning) (history : List HistoryEntry) (moment : ℕ) (scene : Scene) → IsAt beginning history moment scene → HasTurn P.wants P.stands policy.old client (wants.Respond response.now) scene →
-        Went P.wants beginning scene [] history history (Meets P.wants P.stands beginning history moment policy.new client (pieces (K.held sink.old) unwritten.old.items) (pieces (K.held sink.new) unwritten.new.items) result scene) }
+        Went (plan_of P.wants beginning) scene [] history history (Meets (plan_of P.wants beginning) P.stands history moment policy.new client (pieces (K.held sink.old) unwritten.old.items) (pieces (K.held sink.new) unwritten.new.items) result scene) }
     ensures can { IfOk result (CanLead P.wants P.stands policy.new client) }
     ensures calm { IfOk result (λ want. is_response want ≡ false) }
     ensures sink { UsesSink K.faults sink.old sink.new (IsErrOf result Break.WriteFault) }
@@ -190,8 +191,8 @@ fn rest<C: CacheCore, P: Policy, K: Sink>(
     requires alone { RunsAlone (C.beginning play.old.core) (stage_of C.history play.old) client want }
     requires rests { rests want ≡ true }
     ensures settled { OnOk result (IsSettled (C.beginning play.new.core) (stage_of C.history play.new)) }
-    ensures went { (scene : Scene) → IsStage P.wants P.stands (C.beginning play.old.core) (stage_of C.history play.old) scene → HasTurn P.wants P.stands policy client want scene →
-        Went P.wants (C.beginning play.old.core) scene [] (C.history play.old.core) (C.history play.new.core) (ComesTo P.wants P.stands (C.beginning play.old.core) NobodyRuns (change_of C.history K.held play.old play.new sink.old sink.new) result) }
+    ensures went { (scene : Scene) → IsStage (plan_of P.wants (C.beginning play.old.core)) P.stands (stage_of C.history play.old) scene → HasTurn P.wants P.stands policy client want scene →
+        Went (plan_of P.wants (C.beginning play.old.core)) scene [] (C.history play.old.core) (C.history play.new.core) (ComesTo (plan_of P.wants (C.beginning play.old.core)) P.stands NobodyRuns (change_of C.history K.held play.old play.new sink.old sink.new) result) }
     ensures keeps { Keeps C.beginning C.history K.faults play.old play.new sink.old sink.new (IsErrOf result Break.WriteFault) }
 {
     match want {
@@ -244,8 +245,8 @@ pub(crate) fn run_round<C: CacheCore, P: Policy, K: Sink>(
     requires can { CanLead P.wants P.stands policy client want }
     requires alone { RunsAlone (C.beginning play.old.core) (stage_of C.history play.old) client want }
     ensures settled { OnOk result (IsSettled (C.beginning play.new.core) (stage_of C.history play.new)) }
-    ensures went { (scene : Scene) → IsStage P.wants P.stands (C.beginning play.old.core) (stage_of C.history play.old) scene → HasTurn P.wants P.stands policy client want scene →
-        Went P.wants (C.beginning play.old.core) scene [] (C.history play.old.core) (C.history play.new.core) (ComesTo P.wants P.stands (C.beginning play.old.core) NobodyRuns (change_of C.history K.held play.old play.new sink.old sink.new) result) }
+    ensures went { (scene : Scene) → IsStage (plan_of P.wants (C.beginning play.old.core)) P.stands (stage_of C.history play.old) scene → HasTurn P.wants P.stands policy client want scene →
+        Went (plan_of P.wants (C.beginning play.old.core)) scene [] (C.history play.old.core) (C.history play.new.core) (ComesTo (plan_of P.wants (C.beginning play.old.core)) P.stands NobodyRuns (change_of C.history K.held play.old play.new sink.old sink.new) result) }
     ensures keeps { Keeps C.beginning C.history K.faults play.old play.new sink.old sink.new (IsErrOf result Break.WriteFault) }
 {
     let mut policy = policy;

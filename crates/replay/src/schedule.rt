@@ -1,14 +1,17 @@
 // Events in turn, over one cache and one sink.
-ghost use Rattle.std.specs.Prelude.{◌≡◌, ◌||◌, ◌==◌, ◌∷◌, position, [], IfOk, OnOk, Err};
+ghost use Rattle.std.specs.Prelude.{◌≡◌, ◌+◌, ◌||◌, ◌==◌, ◌∷◌, length, position, [], IfErr, IfOk, OnErr, OnOk, Err};
 ghost use Rattle.std.specs.List.{list_any};
+ghost use Rattle.replay.specs.Plan.{plan_of};
 ghost use Rattle.replay.specs.Scene.{AtRest, Scene, opening_scene};
+ghost use Rattle.replay.specs.Swept.{IsHeardSo, lurks_of};
 ghost use Rattle.replay.specs.Waits.{IsSettled};
 ghost use Rattle.replay.specs.Went.{IsInStep, IsSet, IsStage, Keeps, Plays, PlaysAll, change_of, stage_of};
 
 use crate::exchanges::hear;
 use crate::rounds::{Break, Kept, Pending, Play};
 use crate::waking::lead;
-use crate::{Event, Given, Heard, NumberedEvent, Policy, Request, Want};
+use crate::{Aside, Event, Given, Heard, NumberedEvent, Policy, Request, Want};
+use ban_lurker::LurkCore;
 use cache_law::CacheCore;
 use http_heads::Got;
 use std::alloc::{AllocError, Global};
@@ -18,7 +21,7 @@ use wire::Sink;
 /// Why an event isn't played to its end.
 #[derive(Clone, Copy, Debug)]
 pub(crate) enum Stop {
-    /// A request of a client that is under way, or a reply that no round waits for.
+    /// A request of a client that is under way, a reply that no round waits for, or a probe of a backend that isn't probed.
     Idle,
     Broken(Break),
 }
@@ -74,10 +77,10 @@ fn hear_request<C: CacheCore, P: Policy, K: Sink>(
     request: Request,
 ) -> Result<(), Stop>
     requires in_step { IsInStep (C.beginning play.old.core) (C.history play.old.core) play.old.moment }
-    requires set { IsSet P.wants P.stands (C.beginning play.old.core) (stage_of C.history play.old) }
+    requires set { IsSet (plan_of P.wants (C.beginning play.old.core)) P.stands (stage_of C.history play.old) }
     requires settled { IsSettled (C.beginning play.old.core) (stage_of C.history play.old) }
-    ensures plays { (scene : Scene) → IsStage P.wants P.stands (C.beginning play.old.core) (stage_of C.history play.old) scene → AtRest scene →
-        Plays P.wants P.stands (C.beginning play.old.core) (change_of C.history K.held play.old play.new sink.old sink.new) scene (Event.Request request) result }
+    ensures plays { (scene : Scene) → IsStage (plan_of P.wants (C.beginning play.old.core)) P.stands (stage_of C.history play.old) scene → AtRest scene →
+        Plays (plan_of P.wants (C.beginning play.old.core)) P.stands (change_of C.history K.held play.old play.new sink.old sink.new) scene (Event.Request request) result }
     ensures keeps { Keeps C.beginning C.history K.faults play.old play.new sink.old sink.new (result ≡ Err (Stop.Broken Break.WriteFault)) }
     ensures settled { OnOk result (IsSettled (C.beginning play.new.core) (stage_of C.history play.new)) }
 {
@@ -106,10 +109,10 @@ fn hear_reply<C: CacheCore, P: Policy, K: Sink>(
     heard: Heard,
 ) -> Result<(), Stop>
     requires in_step { IsInStep (C.beginning play.old.core) (C.history play.old.core) play.old.moment }
-    requires set { IsSet P.wants P.stands (C.beginning play.old.core) (stage_of C.history play.old) }
+    requires set { IsSet (plan_of P.wants (C.beginning play.old.core)) P.stands (stage_of C.history play.old) }
     requires settled { IsSettled (C.beginning play.old.core) (stage_of C.history play.old) }
-    ensures plays { (scene : Scene) → IsStage P.wants P.stands (C.beginning play.old.core) (stage_of C.history play.old) scene → AtRest scene →
-        Plays P.wants P.stands (C.beginning play.old.core) (change_of C.history K.held play.old play.new sink.old sink.new) scene (Event.Reply fetch heard) result }
+    ensures plays { (scene : Scene) → IsStage (plan_of P.wants (C.beginning play.old.core)) P.stands (stage_of C.history play.old) scene → AtRest scene →
+        Plays (plan_of P.wants (C.beginning play.old.core)) P.stands (change_of C.history K.held play.old play.new sink.old sink.new) scene (Event.Reply fetch heard) result }
     ensures keeps { Keeps C.beginning C.history K.faults play.old play.new sink.old sink.new (result ≡ Err (Stop.Broken Break.WriteFault)) }
     ensures settled { OnOk result (IsSettled (C.beginning play.new.core) (stage_of C.history play.new)) }
 {
@@ -142,21 +145,50 @@ fn hear_reply<C: CacheCore, P: Policy, K: Sink>(
     }
 }
 
+/// The lurker goes over stored objects of the cache, and what it says is noted.
+fn lurk<C: LurkCore>(
+    alloc: Global,
+    core: &mut C,
+    swept: &mut Vec<u32>,
+    count: u32,
+) -> Result<(), Break>
+    ensures history { C.history core.new ≡ C.history core.old }
+    ensures same { C.beginning core.new ≡ C.beginning core.old }
+    ensures noted { OnOk result (length swept.new.items ≡ length swept.old.items + 1) }
+    ensures unnoted { OnErr result (swept.new.items ≡ swept.old.items) }
+    ensures only { IfErr result (λ broken. broken ≡ Break.NoMemory) }
+{
+    match swept.try_reserve(1) {
+        Ok(()) => {}
+        Err(_) => return Err(Break::NoMemory),
+    }
+    match core.lurk(alloc, count) {
+        Ok(number) => match swept.push(number) {
+            Ok(()) => Ok(()),
+            Err(_) => unreachable!(),
+        },
+        Err(_) => Err(Break::NoMemory),
+    }
+}
+
 /// Plays one event.
-fn play_event<C: CacheCore, P: Policy, K: Sink>(
+fn play_event<C: LurkCore, P: Policy, K: Sink>(
     alloc: Global,
     play: &mut Play<C, P>,
     context: &mut P::Context,
     sink: &mut K,
+    swept: &mut Vec<u32>,
     event: Event,
 ) -> Result<(), Stop>
     requires in_step { IsInStep (C.beginning play.old.core) (C.history play.old.core) play.old.moment }
-    requires set { IsSet P.wants P.stands (C.beginning play.old.core) (stage_of C.history play.old) }
+    requires set { IsSet (plan_of P.wants (C.beginning play.old.core)) P.stands (stage_of C.history play.old) }
     requires settled { IsSettled (C.beginning play.old.core) (stage_of C.history play.old) }
-    ensures plays { (scene : Scene) → IsStage P.wants P.stands (C.beginning play.old.core) (stage_of C.history play.old) scene → AtRest scene →
-        Plays P.wants P.stands (C.beginning play.old.core) (change_of C.history K.held play.old play.new sink.old sink.new) scene event result }
+    ensures plays { (scene : Scene) → IsStage (plan_of P.wants (C.beginning play.old.core)) P.stands (stage_of C.history play.old) scene → AtRest scene →
+        Plays (plan_of P.wants (C.beginning play.old.core)) P.stands (change_of C.history K.held play.old play.new sink.old sink.new) scene event result }
     ensures keeps { Keeps C.beginning C.history K.faults play.old play.new sink.old sink.new (result ≡ Err (Stop.Broken Break.WriteFault)) }
     ensures settled { OnOk result (IsSettled (C.beginning play.new.core) (stage_of C.history play.new)) }
+    ensures noted { OnOk result (length swept.new.items ≡ length swept.old.items + lurks_of event) }
+    ensures unnoted { OnErr result (swept.new.items ≡ swept.old.items) }
 {
     match event {
         Event::Moment(moment) => {
@@ -167,6 +199,14 @@ fn play_event<C: CacheCore, P: Policy, K: Sink>(
             hear_request(alloc, play, context, sink, request.into_inner())
         }
         Event::Reply { fetch, heard } => hear_reply(alloc, play, context, sink, fetch, heard),
+        Event::Aside(Aside::Lurk(count)) => match lurk(alloc, &mut play.core, swept, count) {
+            Ok(()) => Ok(()),
+            Err(broken) => Err(Stop::Broken(broken)),
+        },
+        Event::Aside(Aside::Probe { backend, .. }) => {
+            drop(backend);
+            Err(Stop::Idle)
+        }
     }
 }
 
@@ -178,22 +218,25 @@ pub(crate) enum Halt {
 }
 
 /// Plays the events in order. Each is gone once it is played.
-pub(crate) fn play_events<C: CacheCore, P: Policy, K: Sink>(
+pub(crate) fn play_events<C: LurkCore, P: Policy, K: Sink>(
     alloc: Global,
     play: &mut Play<C, P>,
     context: &mut P::Context,
     sink: &mut K,
+    swept: &mut Vec<u32>,
     events: Sequence<NumberedEvent>,
 ) -> Result<(), Halt>
     requires in_step { IsInStep (C.beginning play.old.core) (C.history play.old.core) play.old.moment }
-    requires opens { IsStage P.wants P.stands (C.beginning play.old.core) (stage_of C.history play.old) (opening_scene (C.beginning play.old.core)) }
+    requires opens { IsStage (plan_of P.wants (C.beginning play.old.core)) P.stands (stage_of C.history play.old) (opening_scene (plan_of P.wants (C.beginning play.old.core))) }
     requires settled { IsSettled (C.beginning play.old.core) (stage_of C.history play.old) }
-    ensures plays { PlaysAll P.wants P.stands (C.beginning play.old.core) (change_of C.history K.held play.old play.new sink.old sink.new) events result }
+    requires fresh { swept.old.items ≡ [] }
+    ensures heard { IsHeardSo events (length swept.new.items) result }
+    ensures plays { PlaysAll (plan_of P.wants (C.beginning play.old.core)) P.stands (change_of C.history K.held play.old play.new sink.old sink.new) events result }
     ensures keeps { Keeps C.beginning C.history K.faults play.old play.new sink.old sink.new (result ≡ Err (Halt.Broken Break.WriteFault)) }
 {
     for numbered in events.into_vec() {
         let NumberedEvent { number, event } = numbered;
-        let stop = match play_event(alloc, play, context, sink, event) {
+        let stop = match play_event(alloc, play, context, sink, swept, event) {
             Ok(()) => continue,
             Err(stop) => stop,
         };

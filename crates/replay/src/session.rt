@@ -1,20 +1,23 @@
 // A whole session.
-ghost use Rattle.std.specs.Prelude.{◌≡◌, ◌≤◌, ◌==◌, ◌&&◌, length, Some, false};
+ghost use Rattle.std.specs.Prelude.{◌≡◌, ◌≤◌, ◌==◌, ◌&&◌, [], length, Some, false};
 ghost use Rattle.wire.specs.Causes.{Rose};
 ghost use Rattle.vcl_runs.specs.Languages.{language_of};
+ghost use Rattle.replay.specs.Plan.{plan_of};
 ghost use Rattle.replay.specs.Turns.{Wants};
 ghost use Rattle.cache_law.specs.Beginning.{beginning_of};
+ghost use Rattle.replay.specs.Build.{HasClients};
 ghost use Rattle.replay.specs.Pieces.{UsesSink, pieces};
+ghost use Rattle.replay.specs.Swept.{IsSwept, IsSweptBy, lurks, number_of};
 ghost use Rattle.replay.specs.Replayed.{IsReplayed, IsWritten, SessionEnds, error_for, is_write_fault, refusal_of};
 
 use crate::event::Script;
 use crate::pieces::flush;
 use crate::rounds::{Break, Play};
 use crate::schedule::{Halt, play_events};
-use crate::script::{BuildError, build};
+use crate::script::build;
 use crate::{Policy, Turn};
-use cache_law::{Boot, CacheCore, Entry, Params};
-use flat_core::FlatCore;
+use ban_lurker::LurkCore;
+use cache_law::{Boot, Entry, Params};
 use session_text::Session;
 use std::alloc::Global;
 use units::Sequence;
@@ -25,8 +28,6 @@ use wire::Sink;
 /// Why a session wasn't played to its end.
 #[derive(Clone, Copy, Debug)]
 pub enum ReplayError {
-    /// The line is whole, and outside what is built so far.
-    NotBuilt(u32),
     /// At this line a client sends a request while it is under way, or a fetch gets a reply that has no
     /// exchange under way.
     Idle(u32),
@@ -39,10 +40,17 @@ pub enum ReplayError {
     NoMemory,
 }
 
-/// What was played: the history of the cache, and why there is no more of it.
+/// What was played: the history of the cache, and for each `lurk` that was heard at how many objects the lurker looked.
+#[derive(Drop)]
+pub struct Played {
+    pub history: Sequence<Entry>,
+    pub swept: Sequence<u32>,
+}
+
+/// What was played, and why there is no more of it.
 #[derive(Drop)]
 pub struct Replayed {
-    pub history: Sequence<Entry>,
+    pub played: Played,
     pub refusal: Option<ReplayError>,
 }
 
@@ -104,9 +112,22 @@ fn written<K: Sink>(
     }
 }
 
+// A session of which nothing was played.
+fn unplayed(alloc: Global) -> Replayed
+    ensures { result ≡ record { played = record { history = []; swept = [] }; refusal = Some ReplayError.NoMemory } }
+{
+    Replayed {
+        played: Played {
+            history: Sequence::new(alloc),
+            swept: Sequence::new(alloc),
+        },
+        refusal: Some(ReplayError::NoMemory),
+    }
+}
+
 /// Plays a session over a cache of this kind, its rounds led by this policy, and writes its transcript. Each event is gone
 /// once it is played.
-pub fn play_session<C: CacheCore + Drop, P: Policy, K: Sink>(
+pub fn play_session<C: LurkCore + Drop, P: Policy, K: Sink>(
     alloc: Global,
     script: Script,
     params: &Params,
@@ -114,20 +135,17 @@ pub fn play_session<C: CacheCore + Drop, P: Policy, K: Sink>(
     context: &mut P::Context,
     sink: &mut K,
 ) -> Replayed
-    ensures replayed { IsReplayed P.wants script (beginning_of params.now boot) (K.held sink.old) (K.held sink.new) result }
+    ensures replayed { IsReplayed (plan_of P.wants (beginning_of params.now boot)) script (K.held sink.old) (K.held sink.new) result }
+    ensures swept { IsSwept number_of lurks script.events (length result.played.swept) result.refusal }
     ensures later { K.faults sink.old ≤ K.faults sink.new }
     ensures cause { result.refusal ≡ Some ReplayError.WriteFault → Rose (K.faults sink.old) (K.faults sink.new) }
 {
     let Script { events, end } = script;
     let core = match C::make(alloc, params, boot) {
         Ok(core) => core,
-        Err(_) => {
-            return Replayed {
-                history: Sequence::new(alloc),
-                refusal: Some(ReplayError::NoMemory),
-            };
-        }
+        Err(_) => return unplayed(alloc),
     };
+    let mut swept = Vec::new(alloc);
     let mut play: Play<C, P> = Play {
         core,
         moment: 0,
@@ -135,20 +153,23 @@ pub fn play_session<C: CacheCore + Drop, P: Policy, K: Sink>(
         parked: Vec::new(alloc),
         unwritten: Vec::new(alloc),
     };
-    let played = play_events(alloc, &mut play, context, sink, events);
+    let played = play_events(alloc, &mut play, context, sink, &mut swept, events);
     let nobody_waits = has_nobody(&play);
     let ending = refusal(played, nobody_waits, end);
     let refusal = written(&mut play.unwritten, sink, ending);
     let Play { core, .. } = play;
     Replayed {
-        history: core.into_history(),
+        played: Played {
+            history: core.into_history(),
+            swept: Sequence::from_vec(swept),
+        },
         refusal,
     }
 }
 
-/// Plays a session over the plain cache. Its rounds are led by the programs of the library, and its lines of the console
-/// read with the stored functions of a table. A session with a line that isn't built yet is refused before anything is played.
-pub fn run_session<M: Runner, L: Programs<M>, K: Sink>(
+/// Plays a session over a cache of this kind. Its rounds are led by the programs of the library, and its lines of the console
+/// read with the stored functions of a table. Its clients have numbers from 1 to 250, as those of a session that is read.
+pub fn run_session<C: LurkCore + Drop, M: Runner, L: Programs<M>, K: Sink>(
     alloc: Global,
     session: Session,
     vmods: &VmodTable,
@@ -159,21 +180,16 @@ pub fn run_session<M: Runner, L: Programs<M>, K: Sink>(
 ) -> Replayed
 where
     M::Program: Drop,
-    ensures replayed { SessionEnds vmods.now.stored (Wants (language_of L.of_text M.turns M.targets M.default_of L.backends)) session (beginning_of params.now boot) result.history (K.held sink.old) (K.held sink.new) result.refusal }
+    requires { HasClients session }
+    ensures replayed { SessionEnds vmods.now.stored (plan_of (Wants (language_of L.of_text M.turns M.targets M.default_of L.backends)) (beginning_of params.now boot)) session result.played.history (K.held sink.old) (K.held sink.new) result.refusal }
+    ensures swept { IsSweptBy session (length result.played.swept) result.refusal }
     ensures later { K.faults sink.old ≤ K.faults sink.new }
     ensures cause { result.refusal ≡ Some ReplayError.WriteFault → Rose (K.faults sink.old) (K.faults sink.new) }
 {
-    let refusal = match build(alloc, session, vmods) {
-        Ok(script) => {
-            return play_session::<FlatCore, Turn<M, M::Program, L>, K>(
-                alloc, script, params, boot, library, sink,
-            );
-        }
-        Err(BuildError::NotBuilt(line)) => ReplayError::NotBuilt(line),
-        Err(BuildError::NoMemory) => ReplayError::NoMemory,
-    };
-    Replayed {
-        history: Sequence::new(alloc),
-        refusal: Some(refusal),
+    match build(alloc, session, vmods) {
+        Ok(script) => play_session::<C, Turn<M, M::Program, L>, K>(
+            alloc, script, params, boot, library, sink,
+        ),
+        Err(_) => unplayed(alloc),
     }
 }

@@ -2,6 +2,7 @@
 ghost use Rattle.std.specs.Prelude.{◌≡◌, ◌+◌, ◌≤◌, ◌<◌, position, Some, [], length, OnOk, IsErrOf};
 ghost use Rattle.cache_law.specs.History.{reached};
 ghost use Rattle.cache_law.specs.State.{is_closed};
+ghost use Rattle.replay.specs.Plan.{plan_of};
 ghost use Rattle.replay.specs.Scene.{AtRest, Scene};
 ghost use Rattle.replay.specs.declared.policy.Want.{Want as Wish};
 ghost use Rattle.replay.specs.Waits.{IsSettled, RunsAlone};
@@ -29,11 +30,11 @@ fn wake<C: CacheCore, P: Policy, K: Sink>(
     place: usize,
 ) -> Result<(), Break>
     requires in_step { IsInStep (C.beginning play.old.core) (C.history play.old.core) play.old.moment }
-    requires set { IsSet P.wants P.stands (C.beginning play.old.core) (stage_of C.history play.old) }
+    requires set { IsSet (plan_of P.wants (C.beginning play.old.core)) P.stands (stage_of C.history play.old) }
     requires settled { IsSettled (C.beginning play.old.core) (stage_of C.history play.old) }
     requires free { position (λ kept. is_closed (reached (C.beginning play.old.core) (C.history play.old.core)).fetches kept.token) play.old.parked.items ≡ Some place }
-    ensures went { (scene : Scene) → IsStage P.wants P.stands (C.beginning play.old.core) (stage_of C.history play.old) scene → NobodyRuns scene →
-        Went P.wants (C.beginning play.old.core) scene [] (C.history play.old.core) (C.history play.new.core) (ComesTo P.wants P.stands (C.beginning play.old.core) NobodyRuns (change_of C.history K.held play.old play.new sink.old sink.new) result) }
+    ensures went { (scene : Scene) → IsStage (plan_of P.wants (C.beginning play.old.core)) P.stands (stage_of C.history play.old) scene → NobodyRuns scene →
+        Went (plan_of P.wants (C.beginning play.old.core)) scene [] (C.history play.old.core) (C.history play.new.core) (ComesTo (plan_of P.wants (C.beginning play.old.core)) P.stands NobodyRuns (change_of C.history K.held play.old play.new sink.old sink.new) result) }
     ensures keeps { Keeps C.beginning C.history K.faults play.old play.new sink.old sink.new (IsErrOf result Break.WriteFault) }
     ensures settled { OnOk result (IsSettled (C.beginning play.new.core) (stage_of C.history play.new)) }
     ensures spent { OnOk result (spare (C.beginning play.new.core) (C.history play.new.core) < spare (C.beginning play.old.core) (C.history play.old.core)) }
@@ -72,10 +73,10 @@ fn settle<C: CacheCore, P: Policy, K: Sink>(
     sink: &mut K,
 ) -> Result<(), Break>
     requires in_step { IsInStep (C.beginning play.old.core) (C.history play.old.core) play.old.moment }
-    requires set { IsSet P.wants P.stands (C.beginning play.old.core) (stage_of C.history play.old) }
+    requires set { IsSet (plan_of P.wants (C.beginning play.old.core)) P.stands (stage_of C.history play.old) }
     requires settled { IsSettled (C.beginning play.old.core) (stage_of C.history play.old) }
-    ensures went { (scene : Scene) → IsStage P.wants P.stands (C.beginning play.old.core) (stage_of C.history play.old) scene → NobodyRuns scene →
-        Went P.wants (C.beginning play.old.core) scene [] (C.history play.old.core) (C.history play.new.core) (ComesTo P.wants P.stands (C.beginning play.old.core) AtRest (change_of C.history K.held play.old play.new sink.old sink.new) result) }
+    ensures went { (scene : Scene) → IsStage (plan_of P.wants (C.beginning play.old.core)) P.stands (stage_of C.history play.old) scene → NobodyRuns scene →
+        Went (plan_of P.wants (C.beginning play.old.core)) scene [] (C.history play.old.core) (C.history play.new.core) (ComesTo (plan_of P.wants (C.beginning play.old.core)) P.stands AtRest (change_of C.history K.held play.old play.new sink.old sink.new) result) }
     ensures keeps { Keeps C.beginning C.history K.faults play.old play.new sink.old sink.new (IsErrOf result Break.WriteFault) }
     ensures settled { OnOk result (IsSettled (C.beginning play.new.core) (stage_of C.history play.new)) }
 {
@@ -100,10 +101,10 @@ pub(crate) fn lead<C: CacheCore, P: Policy, K: Sink>(
     want: Want,
 ) -> Result<(), Break>
     requires in_step { IsInStep (C.beginning play.old.core) (C.history play.old.core) play.old.moment }
-    requires turn { (scene : Scene) × IsStage P.wants P.stands (C.beginning play.old.core) (stage_of C.history play.old) scene × HasTurn P.wants P.stands policy client want scene }
+    requires turn { (scene : Scene) × IsStage (plan_of P.wants (C.beginning play.old.core)) P.stands (stage_of C.history play.old) scene × HasTurn P.wants P.stands policy client want scene }
     requires alone { RunsAlone (C.beginning play.old.core) (stage_of C.history play.old) client want }
-    ensures went { (scene : Scene) → IsStage P.wants P.stands (C.beginning play.old.core) (stage_of C.history play.old) scene → HasTurn P.wants P.stands policy client want scene →
-        Went P.wants (C.beginning play.old.core) scene [] (C.history play.old.core) (C.history play.new.core) (ComesTo P.wants P.stands (C.beginning play.old.core) AtRest (change_of C.history K.held play.old play.new sink.old sink.new) result) }
+    ensures went { (scene : Scene) → IsStage (plan_of P.wants (C.beginning play.old.core)) P.stands (stage_of C.history play.old) scene → HasTurn P.wants P.stands policy client want scene →
+        Went (plan_of P.wants (C.beginning play.old.core)) scene [] (C.history play.old.core) (C.history play.new.core) (ComesTo (plan_of P.wants (C.beginning play.old.core)) P.stands AtRest (change_of C.history K.held play.old play.new sink.old sink.new) result) }
     ensures keeps { Keeps C.beginning C.history K.faults play.old play.new sink.old sink.new (IsErrOf result Break.WriteFault) }
     ensures settled { OnOk result (IsSettled (C.beginning play.new.core) (stage_of C.history play.new)) }
 {

@@ -1,22 +1,29 @@
 // One run, and what is told of it.
 use crate::outside::{sink_of, source_of};
 use cache_law::Entry;
+use flat_core::FlatCore;
 use std::alloc::{AllocError, Global};
 use units::Text;
 use varn_program::{Outcome, Status, faulty_word, run};
+use wire::{FailingSink, FailingSource};
 
 // The longest transcript that is told whole.
 const SHORT: usize = 5_000;
 
 /// The status, the noted line and its kind (0 and 0 for none), and what was written; behind `@@` also the caller and the moment of
-/// each entry of the history. The head's second word says what fails, the others are those of the run.
+/// each entry of the history, and the number for each `lurk`, if there is one. The head's second word says what fails, the others are those of the run.
 pub fn run_shown(alloc: Global, head: &str, session: &[u8]) -> Result<String, AllocError> {
     let (mark, line) = head.split_once(' ').unwrap_or((head, ""));
     let (plan, line) = line.split_once(' ').unwrap_or((line, ""));
     let words = words_of(alloc, line)?;
     let mut source = source_of(alloc, plan, session)?;
     let mut sink = sink_of(alloc, plan)?;
-    let outcome = run(alloc, words.as_slice(), &mut source, &mut sink);
+    let outcome = run::<FlatCore, FailingSource, FailingSink>(
+        alloc,
+        words.as_slice(),
+        &mut source,
+        &mut sink,
+    );
     let with_history = mark == "@@";
     outcome_shown(
         alloc,
@@ -38,6 +45,7 @@ fn outcome_shown(
     push_written(&mut out, written)?;
     if with_history {
         push_history(&mut out, outcome.history.as_slice())?;
+        push_swept(&mut out, outcome.swept.as_slice())?;
     }
     Ok(out)
 }
@@ -76,6 +84,17 @@ fn push_history(out: &mut String, history: &[Entry]) -> Result<(), AllocError> {
     out.push_str("history")?;
     for entry in history {
         write!(out, " {}@{}", entry.caller, entry.moment)?;
+    }
+    out.push_str("\n")
+}
+
+fn push_swept(out: &mut String, swept: &[u32]) -> Result<(), AllocError> {
+    if swept.is_empty() {
+        return Ok(());
+    }
+    out.push_str("swept")?;
+    for count in swept {
+        write!(out, " {count}")?;
     }
     out.push_str("\n")
 }

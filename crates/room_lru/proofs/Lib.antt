@@ -4,3 +4,4 @@ pub mod KeptLemmas
 pub mod AgainLemmas
 pub mod EndingLemmas
 pub mod RoomLemmas
+pub mod DropLemmas

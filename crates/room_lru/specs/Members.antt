@@ -1,7 +1,7 @@
 -- Members by the number of their last use, the least recently used first.
-use Rattle.std.specs.Prelude.{ℕ, ℤ, ◌<◌, not, nat_eq, List, [], ◌∷◌, ◌++◌, Option, None, Some, map, filter, sum, if◌then◌else◌}
+use Rattle.std.specs.Prelude.{ℕ, ℤ, ◌<◌, Bool, not, nat_eq, List, [], ◌∷◌, ◌++◌, Option, None, Some, map, filter, sum, if◌then◌else◌}
 use Rattle.std.specs.Ordering.{nat_cmp}
-use Rattle.std.specs.List.{AllByRecursion}
+use Rattle.std.specs.List.{list_any, AllByRecursion}
 use Rattle.std.specs.List.Sorted.{IsStrictlySortedBy}
 use Rattle.std.specs.Map.{keys_of, lookup, values_of}
 use Rattle.room_lru.specs.declared.member.Member.{Member}
@@ -23,6 +23,14 @@ total_of members = sum (sizes_of members)
 -- the others than the one of this last use
 abbrev pub without : ℕ → List Used → List Used
 without used members = filter (λ member. not (nat_eq used member.0)) members
+
+-- the use is one of these
+abbrev pub is_one_of : List ℕ → ℕ → Bool
+is_one_of uses own = list_any (λ used. nat_eq used own) uses
+
+-- the others than those of these last uses
+abbrev pub without_all : List ℕ → List Used → List Used
+without_all uses members = filter (λ member. not (is_one_of uses member.0)) members
 
 -- each was used before those behind it
 abbrev pub AreInOrder : List Used → Type 0

@@ -4,7 +4,7 @@ ghost use Rattle.std.specs.List.{AllByRecursion};
 ghost use Rattle.std.specs.Map.{lookup};
 ghost use Rattle.std.specs.Option.{ForSome};
 ghost use Rattle.room_lru.specs.Ends.{IsFree, EndsFirst};
-ghost use Rattle.room_lru.specs.Members.{AreInOrder, IsLatest, total_of, used_again, with_end, without};
+ghost use Rattle.room_lru.specs.Members.{AreInOrder, IsLatest, total_of, used_again, with_end, without, without_all};
 ghost use Rattle.room_lru.specs.Room.{AreOut, LackRoom, others};
 
 use crate::front::first_out;
@@ -101,6 +101,15 @@ impl RoomLru {
         self.ends.remove(&(member.end, member.handle));
         self.total -= member.size;
         Some(member)
+    }
+
+    /// Takes the members of these last uses out, as far as they are there. It takes no memory.
+    pub fn drop_all(&mut self, uses: &[u64])
+        ensures { self.new ≡ without_all uses.now self.old }
+    {
+        for used in uses {
+            self.take(*used);
+        }
     }
 
     /// The member of this last use.

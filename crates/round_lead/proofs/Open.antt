@@ -132,22 +132,22 @@ another's call before = refl
 
 -- ---- an entry of another caller
 
-foreign_opens : (beginning : Beginning) (state : State) (n : ℕ) (entry : Entry) → ¬ (entry.caller ≡ n) → has_round (next_state beginning state entry).rounds n ≡ has_round state.rounds n
+foreign_opens : (beginning : Beginning) (state : State) (n : ℕ) (entry : Entry) → ¬ (entry.caller ≡ n) → has_round (next_state beginning.params state entry).rounds n ≡ has_round state.rounds n
 foreign_opens beginning state n entry foreign =
     let now = at_moment entry.moment state in
     behind_either (λ (s : State). has_round s.rounds n ≡ has_round state.rounds n) entry.reply _ _ (refused_opens now n entry.call)
     (answered_opens beginning.params.room now entry.caller n entry.call
     ∙ (ap (λ (own : Bool). opened_by entry.call own (has_round state.rounds n)) (ne_eqb entry.caller n foreign) ∙ another's entry.call (has_round state.rounds n)))
 
-foreign_all : (beginning : Beginning) (state : State) (n : ℕ) (entries : List Entry) → Lacks caller_of n entries → has_round (reached_from beginning state entries).rounds n ≡ has_round state.rounds n
+foreign_all : (beginning : Beginning) (state : State) (n : ℕ) (entries : List Entry) → Lacks caller_of n entries → has_round (reached_from beginning.params state entries).rounds n ≡ has_round state.rounds n
 foreign_all beginning state n [] lacks = refl
 foreign_all beginning state n (entry ∷ entries) lacks =
-    foreign_all beginning (next_state beginning state entry) n entries (All-tail (λ (e : Entry). ¬ (e.caller ≡ n)) entry entries lacks)
+    foreign_all beginning (next_state beginning.params state entry) n entries (All-tail (λ (e : Entry). ¬ (e.caller ≡ n)) entry entries lacks)
     ∙ foreign_opens beginning state n entry (All-head (λ (e : Entry). ¬ (e.caller ≡ n)) entry entries lacks)
 
-reached_from-append : (beginning : Beginning) (state : State) (xs ys : List Entry) → reached_from beginning state (xs ++ ys) ≡ reached_from beginning (reached_from beginning state xs) ys
+reached_from-append : (beginning : Beginning) (state : State) (xs ys : List Entry) → reached_from beginning.params state (xs ++ ys) ≡ reached_from beginning.params (reached_from beginning.params state xs) ys
 reached_from-append beginning state [] ys = refl
-reached_from-append beginning state (x ∷ xs) ys = reached_from-append beginning (next_state beginning state x) xs ys
+reached_from-append beginning state (x ∷ xs) ys = reached_from-append beginning (next_state beginning.params state x) xs ys
 
 silent_opens : (beginning : Beginning) (seen between : List Entry) (n : ℕ) → Lacks caller_of n between
     → has_round (reached beginning (seen ++ between)).rounds n ≡ has_round (reached beginning seen).rounds n
@@ -166,15 +166,15 @@ end_told state caller reply refusal law is =
 
 -- a call that neither begins nor ends a round
 plain_opens : (beginning : Beginning) (state : State) (entry : Entry) → ((own : Bool) (before : Bool) → opened_by entry.call own before ≡ before)
-    → has_round (next_state beginning state entry).rounds entry.caller ≡ has_round state.rounds entry.caller
+    → has_round (next_state beginning.params state entry).rounds entry.caller ≡ has_round state.rounds entry.caller
 plain_opens beginning state entry plain =
     let now = at_moment entry.moment state in
     behind_either (λ (s : State). has_round s.rounds entry.caller ≡ has_round state.rounds entry.caller) entry.reply _ _ (refused_opens now entry.caller entry.call)
     (answered_opens beginning.params.room now entry.caller entry.caller entry.call ∙ plain (entry.caller == entry.caller) (has_round state.rounds entry.caller))
 
 own_opens : (beginning : Beginning) (state : State) (caller moment : ℕ) (call : Call) (reply : Reply)
-    → Follows beginning state (record { caller = caller; moment = moment; call = call; reply = reply })
-    → has_round (next_state beginning state (record { caller = caller; moment = moment; call = call; reply = reply })).rounds caller ≡ opened_by call true (has_round state.rounds caller)
+    → Follows beginning.params state (record { caller = caller; moment = moment; call = call; reply = reply })
+    → has_round (next_state beginning.params state (record { caller = caller; moment = moment; call = call; reply = reply })).rounds caller ≡ opened_by call true (has_round state.rounds caller)
 own_opens beginning state caller moment Begin reply follows =
     let now = at_moment moment state in
     ap (λ (s : State). has_round s.rounds caller) (begin_told now caller reply _ _ follows.answer)

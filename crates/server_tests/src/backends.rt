@@ -5,7 +5,7 @@
 //   nonsense               no reply at all
 //   eight, nine            so many interim replies and then a whole one; nine are one too many
 //   refused                the dial fails
-use crate::settings::{numbers_of, setting};
+use row_settings::{numbers_of, setting};
 use std::alloc::{AllocError, Global};
 use std::collections::VecDeque;
 use wire::{FailingDialer, Plan};

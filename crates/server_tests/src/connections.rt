@@ -11,11 +11,11 @@ ghost use Rattle.round_lead.specs.Seen.{has_open};
 
 use crate::backends::dialer_of;
 use crate::scripts::Scripts;
-use crate::settings::{number, numbers, setting};
 use cache_law::{Boot, CacheCore, Params};
 use flat_core::FlatCore;
 use http_heads::Exchange;
 use round_lead::{Round, Shift, Site};
+use row_settings::{number, numbers, setting};
 use server::{Transcript, serve_connection};
 use shared_cache::{CachePass, SharedCache};
 use std::alloc::{AllocError, Global};

@@ -7,7 +7,6 @@
 mod backends;
 mod connections;
 mod scripts;
-mod settings;
 
 use std::io;
 use std::sync::Wait;

@@ -34,6 +34,7 @@ moment_kept moment (commands.Reply fetch quoted) says other l = sym (ap (moment_
 moment_kept moment (commands.Fail fetch) says other l = sym (ap (moment_after moment) l)
 moment_kept moment (commands.Cli text) says other l = sym (ap (moment_after moment) l)
 moment_kept moment (commands.Lurk count) says other l = sym (ap (moment_after moment) l)
+moment_kept moment (commands.Probe backend good) says other l = sym (ap (moment_after moment) l)
 
 -- the step of a line that says something, as a turn tells it
 abbrev pub step_said : Place → ℕ → ℕ → Line → Step

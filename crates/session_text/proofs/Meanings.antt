@@ -1,5 +1,5 @@
 -- Each line is read in one way, and each text is one session or has one fault.
-use Rattle.std.proofs.Common.{◌≡◌, ℕ, ◌+◌, ◌<◌, ◌≤◌, List, [], ◌∷◌, ◌++◌, get_or, sym, ap, ◌∙◌, subst, refl, arith, append_assoc, append-nil, lit<}
+use Rattle.std.proofs.Common.{◌≡◌, Bool, true, false, ℕ, ◌+◌, ◌<◌, ◌≤◌, List, [], ◌∷◌, ◌++◌, get_or, sym, ap, ◌∙◌, subst, refl, arith, append_assoc, append-nil, lit<}
 use Rattle.std.specs.Prelude.{codes, Option, Some, None, Result, Ok, Err, IfOk, IfErr, MatchResult}
 use mathlib.Core.Logic.{◌⊎◌, inl, inr}
 use Rattle.std.proofs.Common.{⊎_elim}
@@ -12,11 +12,12 @@ use Rattle.units.proofs.Pieces.{quoted_same}
 use Rattle.session_text.specs.declared.session.FaultKind.{FaultKind}
 use Rattle.session_text.specs.declared.session.FaultKind.TheVariants.{Word, Unknown, Argument, Moment, NoEnd, After}
 use Rattle.session_text.specs.declared.session.Line.{Line}
-use Rattle.session_text.specs.declared.session.Line.TheVariants.{At, Req, Reply, Fail, Cli, Lurk}
+use Rattle.session_text.specs.declared.session.Line.TheVariants.{At, Req, Reply, Fail, Cli, Lurk, Probe}
 use Rattle.session_text.specs.declared.session.NumberedLine.{NumberedLine}
 use Rattle.session_text.specs.Readings.{Reading, Passed, End, Says, Bad}
 use Rattle.session_text.specs.declared.place.Place.{Place}
 use Rattle.session_text.specs.Lines.{TextLine, lines_of, size, content}
+use Rattle.session_text.specs.Keywords.{health_text}
 use Rattle.session_text.specs.Readings.{IsWord, HasWord, word_for, IsArgument, IsLine, IsPassed, IsKnown, HasBadText, IsReading}
 use Rattle.session_text.specs.Sessions.{Step, On, Stop, step_of, IsStep, Reads, Fails, first_place, session_limit, IsSession, IsFault}
 use Rattle.session_text.specs.Faults.{kind_number}
@@ -87,11 +88,19 @@ quoted_line (Reply c t) a word number quoted p e w s q f =
 quoted_line (Fail n) a word number quoted p e w s q f = elim w [ inl r ↦ apart (codes "fail") (codes "req") refl (e ∙ r) | inr r ↦ apart (codes "fail") (codes "reply") refl (e ∙ r) ]
 quoted_line (Cli t) a word number quoted p e w s q f = elim w [ inl r ↦ apart (codes "cli") (codes "req") refl (e ∙ r) | inr r ↦ apart (codes "cli") (codes "reply") refl (e ∙ r) ]
 quoted_line (Lurk n) a word number quoted p e w s q f = elim w [ inl r ↦ apart (codes "lurk") (codes "req") refl (e ∙ r) | inr r ↦ apart (codes "lurk") (codes "reply") refl (e ∙ r) ]
+quoted_line (Probe b g) a word number quoted p e w s q f = elim w [ inl r ↦ apart (codes "probe") (codes "req") refl (e ∙ r) | inr r ↦ apart (codes "probe") (codes "reply") refl (e ∙ r) ]
 
 line_text : (text : List ℕ) (line : Line) → IsLine text line → HasBadText text → ⊥
 line_text text line h b =
     let same = words_same (word_for line) b.0 h.0 (b.1 ++ 32 ∷ b.2) (word_for_word line) (text_has text b).0 (sym h.1 ∙ b.4) in
     quoted_line line h.0 b.0 b.1 b.2 h.2 same.0 b.3 same.1 b.5 b.6
+
+-- a probe was one way
+health_same : (g h : Bool) → health_text g ≡ health_text h → g ≡ h
+health_same true true e = refl
+health_same false false e = refl
+health_same true false e = absurd (cc)
+health_same false true e = absurd (cc)
 
 -- a line is one line
 argument_same : (l m : Line) (a : List ℕ) → word_for l ≡ word_for m → IsArgument l a → IsArgument m a → l ≡ m
@@ -119,6 +128,10 @@ argument_same (Cli t) (Cli u) a e p q = ap Cli (sym p ∙ q)
 argument_same (Cli t) m a e p q = absurd (apart _ _ refl e)
 argument_same (Lurk n) (Lurk k) a e p q = ap Lurk (number_same a n k p.0 q.0)
 argument_same (Lurk n) m a e p q = absurd (apart _ _ refl e)
+argument_same (Probe b g) (Probe c h) a e p q =
+    let same = words_same b c (health_text g) (health_text h) p.0 q.0 (sym p.2 ∙ q.2) in
+    ap (λ (x : List ℕ). Probe x g) same.0 ∙ ap (λ (x : Bool). Probe c x) (health_same g h same.1)
+argument_same (Probe b g) m a e p q = absurd (apart _ _ refl e)
 
 line_same : (text : List ℕ) (l m : Line) → IsLine text l → IsLine text m → l ≡ m
 line_same text l m h k =

@@ -1,5 +1,5 @@
 -- The readings of a line: what its first word is, and that it is read in one way.
-use Rattle.std.proofs.Common.{◌≡◌, ℕ, ◌+◌, ◌<◌, ◌≤◌, ◌^◌, List, [], ◌∷◌, ◌++◌, length, get_or, sym, ap, ◌∙◌, subst, refl, arith, drop, length-drop, true, false, eqb, rules, eq-eqb, lit<}
+use Rattle.std.proofs.Common.{◌≡◌, Bool, ℕ, ◌+◌, ◌<◌, ◌≤◌, ◌^◌, List, [], ◌∷◌, ◌++◌, length, get_or, sym, ap, ◌∙◌, subst, refl, arith, drop, length-drop, true, false, eqb, rules, eq-eqb, lit<}
 use Rattle.std.proofs.lemmas.Bool.{false≢true}
 use Rattle.std.proofs.lemmas.Bool.Decides.{eqb_tells}
 use native.Mathlib.Decide.{dec_le}
@@ -16,11 +16,11 @@ use Rattle.units.proofs.Pieces.{quoted_same}
 use Rattle.units.proofs.Numerals.{spelled}
 use Rattle.session_text.specs.declared.session.FaultKind.TheVariants.{Word, Unknown, Argument}
 use Rattle.session_text.specs.declared.session.Line.{Line}
-use Rattle.session_text.specs.declared.session.Line.TheVariants.{At, Req, Reply, Fail, Cli, Lurk}
+use Rattle.session_text.specs.declared.session.Line.TheVariants.{At, Req, Reply, Fail, Cli, Lurk, Probe}
 use Rattle.session_text.specs.Readings.{Bad}
 use Rattle.session_text.specs.declared.reading.Keyword.{Keyword}
 use Rattle.session_text.specs.declared.reading.Keyword.TheVariants as keywords
-use Rattle.session_text.specs.Keywords.{keyword_text}
+use Rattle.session_text.specs.Keywords.{health_text, keyword_text}
 use Rattle.session_text.specs.Readings.{moment_limit, IsWord, HasWord, word_for, IsArgument, IsLine, IsPassed, IsKnown, HasBadText, IsReading}
 use Rattle.session_text.proofs.Cuts.{words_same, word_alone}
 
@@ -39,6 +39,7 @@ word_for_word (Reply c t) = search rules
 word_for_word (Fail n) = search rules
 word_for_word (Cli t) = search rules
 word_for_word (Lurk n) = search rules
+word_for_word (Probe b g) = search rules
 
 pub end_word : IsWord (codes "end")
 end_word = search rules
@@ -83,6 +84,7 @@ end_no_line (Reply c t) e = apart _ _ refl e
 end_no_line (Fail n) e = apart _ _ refl e
 end_no_line (Cli t) e = apart _ _ refl e
 end_no_line (Lurk n) e = apart _ _ refl e
+end_no_line (Probe b g) e = apart _ _ refl e
 
 -- A word with what it cannot take.
 bad_argument : (line : Line) (a : List ℕ) → ((m : Line) → word_for m ≡ word_for line → IsArgument m a → ⊥) → (HasBadText (word_for line ++ 32 ∷ a) → ⊥) → IsReading (word_for line ++ 32 ∷ a) (Bad Argument)
@@ -114,6 +116,14 @@ none_fail a h m e p = apart _ _ refl e
 none_lurk : (a : List ℕ) → ((n : ℕ) → IsNumber a n → n < 2 ^ 32 → ⊥) → (m : Line) → word_for m ≡ word_for (Lurk 0) → IsArgument m a → ⊥
 none_lurk a h (Lurk n) e p = h n p.0 p.1
 none_lurk a h m e p = apart _ _ refl e
+
+none_probe : (a : List ℕ) → ((b : List ℕ) (g : Bool) → IsWord b → (b ≡ [] → ⊥) → a ≡ b ++ 32 ∷ health_text g → ⊥) → (m : Line) → word_for m ≡ word_for (Probe [] true) → IsArgument m a → ⊥
+none_probe a h (Probe b g) e p = h b g p.0 p.1 p.2
+none_probe a h m e p = apart _ _ refl e
+
+-- a word, a blank and how the probe was
+pub bad_probe : (a : List ℕ) → ((b : List ℕ) (g : Bool) → IsWord b → (b ≡ [] → ⊥) → a ≡ b ++ 32 ∷ health_text g → ⊥) → IsReading (codes "probe" ++ 32 ∷ a) (Bad Argument)
+bad_probe a h = bad_argument (Probe [] true) a (none_probe a h) (λ t. elim (text_word (Probe [] true) a t) [ inl e ↦ apart _ _ refl e | inr e ↦ apart _ _ refl e ])
 
 pub bad_at : (a : List ℕ) → ((n : ℕ) → IsNumber a n → n ≤ moment_limit → ⊥) → IsReading (codes "at" ++ 32 ∷ a) (Bad Argument)
 bad_at a h = bad_argument (At 0) a (none_at a h) (λ t. elim (text_word (At 0) a t) [ inl e ↦ apart _ _ refl e | inr e ↦ apart _ _ refl e ])
@@ -227,6 +237,7 @@ alone_keyword keywords.Reply h = alone (Reply 0 [])
 alone_keyword keywords.Fail h = alone (Fail 0)
 alone_keyword keywords.Cli h = alone (Cli [])
 alone_keyword keywords.Lurk h = alone (Lurk 0)
+alone_keyword keywords.Probe h = alone (Probe [] true)
 alone_keyword keywords.End h = absurd (h refl)
 
 -- a quoted text that is the whole bytes
@@ -261,3 +272,4 @@ line_first (Reply c t) = lit< tt
 line_first (Fail n) = lit< tt
 line_first (Cli t) = lit< tt
 line_first (Lurk n) = lit< tt
+line_first (Probe b g) = lit< tt

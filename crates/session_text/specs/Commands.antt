@@ -2,7 +2,7 @@
 use Rattle.std.specs.Prelude.{ℕ, ◌≡◌, List, []}
 use Rattle.units.specs.Quoted.{IsQuoted}
 use Rattle.session_text.specs.declared.session.Line.{Line}
-use Rattle.session_text.specs.declared.session.Line.TheVariants.{At, Req, Reply, Fail, Cli, Lurk}
+use Rattle.session_text.specs.declared.session.Line.TheVariants.{At, Req, Reply, Fail, Cli, Lurk, Probe}
 use Rattle.session_text.specs.declared.command.Command.{Command}
 use Rattle.session_text.specs.declared.command.Command.TheVariants as commands
 use Rattle.session_text.specs.declared.reading.LineReading.{LineReading}
@@ -17,6 +17,7 @@ IsLineOf (commands.Reply fetch quoted) line = (text : List ℕ) × IsQuoted text
 IsLineOf (commands.Fail fetch) line = line ≡ Fail fetch
 IsLineOf (commands.Cli text) line = line ≡ Cli text.now
 IsLineOf (commands.Lurk count) line = line ≡ Lurk count
+IsLineOf (commands.Probe backend good) line = line ≡ Probe backend.now good
 
 -- the command has a line, of which this holds
 abbrev pub ForLineOf : Command → (Line → Type 0) → Type 0

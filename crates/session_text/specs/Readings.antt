@@ -6,10 +6,10 @@ use Rattle.units.specs.Quoted.{IsQuoted}
 use Rattle.session_text.specs.declared.session.FaultKind.{FaultKind}
 use Rattle.session_text.specs.declared.session.FaultKind.TheVariants.{Word, Unknown, Argument}
 use Rattle.session_text.specs.declared.session.Line.{Line}
-use Rattle.session_text.specs.declared.session.Line.TheVariants.{At, Req, Reply, Fail, Cli, Lurk}
+use Rattle.session_text.specs.declared.session.Line.TheVariants.{At, Req, Reply, Fail, Cli, Lurk, Probe}
 use Rattle.session_text.specs.declared.reading.Keyword.{Keyword}
 use Rattle.session_text.specs.declared.reading.Keyword.TheVariants as keywords
-use Rattle.session_text.specs.Keywords.{keyword_text}
+use Rattle.session_text.specs.Keywords.{health_text, keyword_text}
 
 -- the text has no blank
 abbrev pub IsWord : List ℕ → Type 0
@@ -27,6 +27,7 @@ keyword_for (Reply fetch text) = keywords.Reply
 keyword_for (Fail fetch) = keywords.Fail
 keyword_for (Cli text) = keywords.Cli
 keyword_for (Lurk count) = keywords.Lurk
+keyword_for (Probe backend good) = keywords.Probe
 
 abbrev pub word_for : Line → List ℕ
 word_for line = keyword_text (keyword_for line)
@@ -45,6 +46,7 @@ IsArgument (Reply fetch text) argument =
 IsArgument (Fail fetch) argument = IsNumber argument fetch
 IsArgument (Cli text) argument = argument ≡ text
 IsArgument (Lurk count) argument = IsNumber argument count × (count < 2 ^ 32)
+IsArgument (Probe backend good) argument = IsWord backend × (backend ≢ []) × (argument ≡ backend ++ 32 ∷ health_text good)
 
 -- the text is this line: its word, a blank, and what the word takes
 abbrev pub IsLine : List ℕ → Line → Type 0

@@ -17,6 +17,7 @@ pub enum Command<'a> {
     Fail(u64),
     Cli(&'a [u8]),
     Lurk(u32),
+    Probe { backend: &'a [u8], good: bool },
 }
 
 /// The line of a command.
@@ -40,6 +41,10 @@ pub fn line_of(alloc: Global, command: Command<'_>) -> Result<Line, AllocError>
             Ok(Line::Cli(text))
         }
         Command::Lurk(count) => Ok(Line::Lurk(count)),
+        Command::Probe { backend, good } => {
+            let backend = Text::of(alloc, backend)?;
+            Ok(Line::Probe { backend, good })
+        }
     }
 }
 

@@ -1,10 +1,10 @@
 // What one line says.
-ghost use Rattle.std.specs.Prelude.{◌≡◌, ◌↔◌, IsTrue, ◌∷◌, ◌++◌, ◌<◌, ◌≤◌, [], List, ℕ, codes, length, MatchOption};
+ghost use Rattle.std.specs.Prelude.{◌≡◌, ◌↔◌, IsTrue, ◌∷◌, ◌++◌, ◌<◌, ◌≤◌, [], Bool, List, ℕ, codes, length, MatchOption};
 ghost use Rattle.units.specs.Numbers.{IsNumber};
 ghost use Rattle.units.specs.Quoted.{IsQuoted};
 ghost use Rattle.session_text.specs.Readings.{IsWord, IsKnown, IsPassed};
 ghost use Rattle.session_text.specs.Commands.{IsReadAs};
-ghost use Rattle.session_text.specs.Keywords.{keyword_text};
+ghost use Rattle.session_text.specs.Keywords.{health_text, keyword_text};
 
 use crate::MOMENT_LIMIT;
 use crate::command::Command;
@@ -67,6 +67,7 @@ pub enum Keyword {
     Fail,
     Cli,
     Lurk,
+    Probe,
     End,
 }
 
@@ -80,6 +81,7 @@ fn keyword_of(word: &[u8]) -> Option<Keyword>
         b"fail" => Some(Keyword::Fail),
         b"cli" => Some(Keyword::Cli),
         b"lurk" => Some(Keyword::Lurk),
+        b"probe" => Some(Keyword::Probe),
         b"end" => Some(Keyword::End),
         _ => None,
     }
@@ -117,6 +119,7 @@ fn read_command(keyword: Keyword, argument: &[u8]) -> LineReading<'_>
         Keyword::Fail => read_fail(argument),
         Keyword::Cli => LineReading::Says(Command::Cli(argument)),
         Keyword::Lurk => read_lurk(argument),
+        Keyword::Probe => read_probe(argument),
         Keyword::End => LineReading::Bad(FaultKind::Argument),
     }
 }
@@ -152,6 +155,32 @@ fn read_lurk(argument: &[u8]) -> LineReading<'static>
         return LineReading::Bad(FaultKind::Argument);
     }
     LineReading::Says(Command::Lurk(count as u32))
+}
+
+fn read_probe(argument: &[u8]) -> LineReading<'_>
+    ensures { IsReadAs (codes "probe" ++ 32 ∷ argument.now) result }
+{
+    let Some((backend, health)) = cut_word(argument) else {
+        return LineReading::Bad(FaultKind::Argument);
+    };
+    if backend.is_empty() {
+        return LineReading::Bad(FaultKind::Argument);
+    }
+    match health_of(health) {
+        Some(good) => LineReading::Says(Command::Probe { backend, good }),
+        None => LineReading::Bad(FaultKind::Argument),
+    }
+}
+
+// Whether a probe was good, by its word.
+fn health_of(word: &[u8]) -> Option<bool>
+    ensures { MatchOption result ((good : Bool) → word.now ≡ health_text good → ⊥) (λ good. word.now ≡ health_text good) }
+{
+    match word {
+        b"good" => Some(true),
+        b"bad" => Some(false),
+        _ => None,
+    }
 }
 
 fn read_req(argument: &[u8]) -> LineReading<'_>

@@ -36,6 +36,8 @@ pub enum Line {
     Cli(Text),
     /// The lurker looks at so many objects.
     Lurk(u32),
+    /// A probe of the backend of this name was good, or was not. The name has at least one byte.
+    Probe { backend: Text, good: bool },
 }
 
 /// Why a text is no session.

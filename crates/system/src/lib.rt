@@ -4,20 +4,26 @@
 //! where the system fails; nothing is told of what went over a socket, a file or a stream, since no clause can name that.
 #![tactic(auto)]
 
+mod backend_link;
 mod command_line;
+mod kept_streams;
 mod port_link;
 mod port_listener;
 mod stream;
 mod system_clock;
+mod system_shelf;
 mod system_world;
 mod tcp_dialer;
 mod tcp_link;
+mod waiting;
 
+pub use backend_link::BackendLink;
 pub use command_line::{WordsError, read_words, tell};
 pub use port_link::PortLink;
 pub use port_listener::PortListener;
 pub use stream::{StreamSink, StreamSource};
 pub use system_clock::SystemClock;
+pub use system_shelf::SystemShelf;
 pub use system_world::SystemWorld;
 pub use tcp_dialer::TcpDialer;
 pub use tcp_link::TcpLink;

@@ -1,24 +1,26 @@
 // Connections over TCP that come in at a port.
-ghost use Rattle.std.specs.Prelude.{◌≡◌, ◌≤◌, IfSome, OnErr};
-ghost use Rattle.wire.specs.Causes.{HasCause, Rose};
+ghost use Rattle.std.specs.Prelude.{◌≡◌, IfOk, IfNone};
+ghost use Rattle.wire.specs.Causes.{HasCause};
 
 use crate::PortLink;
+use crate::waiting::has_news;
 use std::io::{self, ErrorKind};
 use std::net::{IpAddr, OpenListener, TcpStream};
+use std::os::fd::AsRawFd;
 use std::time::Duration;
 use wire::Failed;
-use world::Listener;
+use world::{Awaited, Listener};
 
 /// How many seconds a write takes at most.
 const CALL_SECONDS: u64 = 60;
 
-// How often a call is made at most where signals interrupt it or connections are over before they are taken.
-const TRIES: u64 = 1 << 32;
-
-/// A listener of the system's. It doesn't end.
+/// A listener of the system's, whose calls don't block. It doesn't end.
 #[derive(Drop)]
-pub struct PortListener<L: OpenListener<Stream = TcpStream> + Drop> {
+pub struct PortListener<L: OpenListener<Stream = TcpStream> + AsRawFd + Drop> {
     pub listener: L,
+    pub given: u64,
+    /// How often there was none after all: a signal interrupted the call, or the connection was over before it was taken.
+    pub passed: u64,
     pub faults: u64,
 }
 
@@ -44,54 +46,47 @@ fn next_stream<L: OpenListener<Stream = TcpStream>>(
 fn passes(error: &io::Error) -> bool {
     matches!(
         error.kind(),
-        ErrorKind::Interrupted | ErrorKind::ConnectionAborted
+        ErrorKind::Interrupted | ErrorKind::ConnectionAborted | ErrorKind::WouldBlock
     )
 }
 
-impl<L: OpenListener<Stream = TcpStream> + Drop> PortListener<L> {
+impl<L: OpenListener<Stream = TcpStream> + AsRawFd + Drop> PortListener<L> {
     /// A listener whose calls were none yet.
     pub fn new(listener: L) -> PortListener<L>
-        ensures { result ≡ record { listener = listener; faults = 0 } }
+        ensures { result ≡ record { listener = listener; given = 0; passed = 0; faults = 0 } }
     {
         PortListener {
             listener,
+            given: 0,
+            passed: 0,
             faults: 0,
         }
     }
 
-    // One call; None where it is to be made again. Each error is counted.
-    fn attempt(&mut self) -> Option<Result<(TcpStream, [u8; 4]), Failed>>
-        ensures later { self.old.faults ≤ self.new.faults }
-        ensures failed { IfSome result (λ answer. OnErr answer (Rose self.old.faults self.new.faults)) }
-    {
-        match next_stream(&self.listener) {
-            Ok(found) => Some(Ok(found)),
-            Err(error) => {
-                self.faults = self.faults.saturating_add(1);
-                if passes(&error) {
-                    None
-                } else {
-                    Some(Err(Failed))
-                }
-            }
-        }
-    }
-
-    // The next connection; the count of faults rises before `Failed`.
-    fn next(&mut self) -> Result<(TcpStream, [u8; 4]), Failed>
+    // The next connection, if one comes in time; the count of faults rises before `Failed` alone.
+    fn next(&mut self) -> Result<Option<(TcpStream, [u8; 4])>, Failed>
         ensures cause { HasCause self.old.faults self.new.faults result }
+        ensures quiet { IfOk result (λ found. IfNone found (self.new.faults ≡ self.old.faults)) }
+        ensures given { self.new.given ≡ self.old.given }
     {
-        for turn in 0..TRIES {
-            if let Some(answer) = self.attempt() {
-                return answer;
+        if !has_news(self.listener.as_raw_fd()) {
+            return Ok(None);
+        }
+        match next_stream(&self.listener) {
+            Ok(found) => Ok(Some(found)),
+            Err(error) => {
+                if passes(&error) {
+                    self.passed = self.passed.saturating_add(1);
+                    return Ok(None);
+                }
+                self.faults = self.faults.saturating_add(1);
+                Err(Failed)
             }
         }
-        self.faults = self.faults.saturating_add(1);
-        Err(Failed)
     }
 }
 
-impl<L: OpenListener<Stream = TcpStream> + Drop> Listener for PortListener<L> {
+impl<L: OpenListener<Stream = TcpStream> + AsRawFd + Drop> Listener for PortListener<L> {
     type Link = PortLink;
 
     ghost use Rattle.std.specs.Prelude.{false};
@@ -100,10 +95,16 @@ impl<L: OpenListener<Stream = TcpStream> + Drop> Listener for PortListener<L> {
 
     ghost ended = { λ _. false };
 
-    /// A call that a signal interrupted, and a connection that was over before it was taken, count as faults, and the call is
-    /// made again.
-    fn accept(&mut self) -> Result<Option<(PortLink, [u8; 4])>, Failed> {
-        let (stream, address) = self.next()?;
-        Ok(Some((PortLink::new(stream, address), address)))
+    ghost given = { λ l. l.given };
+
+    /// A quarter of a second at most. Where a signal interrupted the call, or the connection was over before it was taken, nobody
+    /// came yet, which is counted apart.
+    fn accept(&mut self) -> Result<Awaited<PortLink>, Failed> {
+        let Some(found) = self.next()? else {
+            return Ok(Awaited::NobodyYet);
+        };
+        let (stream, address) = found;
+        self.given = self.given.saturating_add(1);
+        Ok(Awaited::Came(PortLink::new(stream, address), address))
     }
 }

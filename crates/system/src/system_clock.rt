@@ -1,11 +1,11 @@
 // The system's clock.
-ghost use Rattle.std.specs.Prelude.{None};
+ghost use Rattle.std.specs.Prelude.{◌≡◌, None};
 
 use rand_core::{Rng, SeedableRng};
 use rand_xoshiro::Xoshiro256PlusPlus;
 use std::random::RandomSource;
-use std::rt;
-use std::time::{SystemTime, UNIX_EPOCH};
+use std::time::{Duration, SystemTime, UNIX_EPOCH};
+use std::{rt, thread};
 use wire::Clock;
 
 /// The system's clock, and random words of a generator that the system seeds. The words spread load and are no secrets. It
@@ -54,5 +54,11 @@ impl<R: rt::Clock + Drop> Clock for SystemClock<R> {
 
     fn word(&mut self) -> u64 {
         self.generator.next_u64()
+    }
+
+    fn rest(&mut self, millis: u64)
+        ensures same { self.new ≡ self.old }
+    {
+        thread::sleep(&self.rt, Duration::from_millis(millis));
     }
 }

@@ -1,16 +1,14 @@
 // The outside of a program: the system's sockets, files and clock.
 ghost use Rattle.std.specs.Prelude.{◌≡◌};
 
-use crate::{PortLink, PortListener, SystemClock, TcpDialer};
+use crate::{PortLink, PortListener, SystemClock, SystemShelf, TcpDialer};
 use std::alloc::AllocError;
-use std::fs;
-use std::io::{self, ErrorKind};
+use std::io;
 use std::net::{Ipv4Addr, Net, TcpListener, TcpStream};
 use std::random::RandomSource;
 use std::rt::{Clock, Files};
-use units::Text;
 use wire::Failed;
-use world::{Kit, ShelfError, World};
+use world::{Kit, World};
 
 /// The system's outside. It listens at one address of the machine's, and tells nothing but its counts.
 #[derive(Drop)]
@@ -18,6 +16,7 @@ pub struct SystemWorld<R: Drop> {
     pub rt: R,
     pub address: [u8; 4],
     pub kept: u64,
+    pub given: u64,
     pub listen_faults: u64,
     pub shelf_faults: u64,
 }
@@ -25,22 +24,28 @@ pub struct SystemWorld<R: Drop> {
 impl<R: Drop> SystemWorld<R> {
     /// A world that listens at this address of the machine's; 0.0.0.0 is all of them.
     pub fn new(rt: R, address: [u8; 4]) -> SystemWorld<R>
-        ensures { result ≡ record { rt = rt; address = address; kept = 0; listen_faults = 0; shelf_faults = 0 } }
+        ensures { result ≡ record { rt = rt; address = address; kept = 0; given = 0; listen_faults = 0; shelf_faults = 0 } }
     {
         SystemWorld {
             rt,
             address,
             kept: 0,
+            given: 0,
             listen_faults: 0,
             shelf_faults: 0,
         }
     }
 }
 
-// The bytes of a file whose name is UTF-8.
-fn bytes_at<R: Files + AllocGlobal>(rt: &R, name: &Text) -> io::Result<Vec<u8>> {
-    let name = str::from_utf8(name.bytes()).map_err(|_| io::Error::from(ErrorKind::InvalidInput))?;
-    fs::read(rt, name)
+// A listener at this port, whose calls don't block.
+fn bound<R: Net<Listener = TcpListener, Stream = TcpStream>>(
+    rt: &R,
+    address: [u8; 4],
+    port: u16,
+) -> io::Result<TcpListener> {
+    let listener = TcpListener::bind(rt, (Ipv4Addr::from_octets(address), port))?;
+    listener.set_nonblocking(true)?;
+    Ok(listener)
 }
 
 impl<R> World for SystemWorld<R>
@@ -60,6 +65,8 @@ where
 
     type Clock = SystemClock<R>;
 
+    type Shelf = SystemShelf<R>;
+
     ghost use Rattle.std.specs.Prelude.{None, false};
 
     ghost ports = { λ _. None };
@@ -67,6 +74,8 @@ where
     ghost links = { λ _. None };
 
     ghost kept = { λ w. w.kept };
+
+    ghost given = { λ w. w.given };
 
     ghost kits = { λ _. None };
 
@@ -79,8 +88,7 @@ where
     ghost ended = { λ _. false };
 
     fn listen(&mut self, port: u16) -> Result<PortListener<TcpListener>, Failed> {
-        let address = Ipv4Addr::from_octets(self.address);
-        match TcpListener::bind(&self.rt, (address, port)) {
+        match bound(&self.rt, self.address, port) {
             Ok(listener) => Ok(PortListener::new(listener)),
             Err(_) => {
                 self.listen_faults = self.listen_faults.saturating_add(1);
@@ -89,19 +97,8 @@ where
         }
     }
 
-    /// A name that isn't UTF-8 is that of no file that can be read.
-    fn shelf(&mut self, name: &Text) -> Result<Option<Text>, ShelfError> {
-        match bytes_at(&self.rt, name) {
-            Ok(bytes) => Ok(Some(Text::from_vec(bytes)?)),
-            Err(error) => match error.kind() {
-                ErrorKind::NotFound => Ok(None),
-                ErrorKind::OutOfMemory => Err(ShelfError::NoMemory),
-                _ => {
-                    self.shelf_faults = self.shelf_faults.saturating_add(1);
-                    Err(ShelfError::Failed)
-                }
-            },
-        }
+    fn shelf(&mut self) -> Result<SystemShelf<R>, AllocError> {
+        Ok(SystemShelf::new(self.rt))
     }
 
     fn kit(&mut self) -> Result<Kit<TcpDialer<R>, SystemClock<R>>, AllocError> {
@@ -117,6 +114,7 @@ where
 
     fn keep_kit(&mut self, _kit: Kit<TcpDialer<R>, SystemClock<R>>)
         ensures kept { self.new.kept ≡ self.old.kept }
+        ensures given { self.new.given ≡ self.old.given }
         ensures listens { self.new.listen_faults ≡ self.old.listen_faults }
         ensures shelves { self.new.shelf_faults ≡ self.old.shelf_faults }
         ensures same { self.new ≡ self.old }
@@ -124,5 +122,10 @@ where
 
     fn retire(&mut self, listener: PortListener<TcpListener>) {
         self.listen_faults = self.listen_faults.saturating_add(listener.faults);
+        self.given = self.given.saturating_add(listener.given);
+    }
+
+    fn retire_shelf(&mut self, shelf: SystemShelf<R>) {
+        self.shelf_faults = self.shelf_faults.saturating_add(shelf.faults);
     }
 }

@@ -1,39 +1,68 @@
 // Backends over TCP.
 ghost use Rattle.std.specs.Prelude.{◌≡◌, None};
 
-use crate::TcpLink;
+use crate::backend_link::Past;
+use crate::kept_streams::KeptStreams;
+use crate::{BackendLink, TcpLink};
+use std::alloc::AllocGlobal;
 use std::io::{self, ErrorKind};
 use std::net::{Net, OpenStream, TcpStream, ToSocketAddrs};
 use std::rt::Clock;
 use std::time::{Duration, Instant};
 use units::Text;
-use wire::{DialError, Dialer, Link, Peer};
+use wire::{DialError, Dialer, Peer, TimeLimits};
 
-/// How many milliseconds a dial takes at most, over all addresses of the host.
-const DIAL_MILLIS: u64 = 3_500;
-
-/// How many seconds a read or a write takes at most.
+/// How many seconds a write takes at most.
 const CALL_SECONDS: u64 = 60;
+
+/// The limits of a dialer that was told none.
+const LIMITS: TimeLimits = TimeLimits {
+    connecting: 3_500,
+    first_byte: 60_000,
+    between_bytes: 60_000,
+    whole: None,
+};
 
 /// A dialer over the system's network. It tells nothing of its talks.
 #[derive(Drop)]
-pub struct TcpDialer<R: Net + Clock + Drop> {
+pub struct TcpDialer<R: Net + Clock + Copy + Drop> {
     pub rt: R,
+    /// What each later dial and the reads on its connection may take.
+    pub limits: TimeLimits,
     pub dial_faults: u64,
     pub read_faults: u64,
     pub write_faults: u64,
+    kept: KeptStreams<R::Stream>,
 }
 
-impl<R: Net + Clock + Drop> TcpDialer<R> {
+impl<R: Net + Clock + AllocGlobal + Copy + Drop> TcpDialer<R> {
     pub fn new(rt: R) -> TcpDialer<R>
-        ensures { result ≡ record { rt = rt; dial_faults = 0; read_faults = 0; write_faults = 0 } }
+        ensures dials { result.dial_faults ≡ 0 }
+        ensures reads { result.read_faults ≡ 0 }
+        ensures writes { result.write_faults ≡ 0 }
     {
         TcpDialer {
             rt,
+            limits: LIMITS,
             dial_faults: 0,
             read_faults: 0,
             write_faults: 0,
+            kept: KeptStreams::new(rt.alloc()),
         }
+    }
+
+    // A stream that an earlier exchange with there left, and the moment; or a new one.
+    fn stream_to(&mut self, host: &Text, port: &Text) -> io::Result<(R::Stream, Instant, Past)>
+        ensures dials { self.new.dial_faults ≡ self.old.dial_faults }
+        ensures reads { self.new.read_faults ≡ self.old.read_faults }
+        ensures writes { self.new.write_faults ≡ self.old.write_faults }
+    {
+        if let Some(stream) = self.kept.take(&self.rt, host, port) {
+            let start = Instant::now(&self.rt)?;
+            return Ok((stream, start, Past::Earlier(Vec::new(self.rt.alloc()))));
+        }
+        let (stream, start) = connect(&self.rt, host, port, &self.limits)?;
+        Ok((stream, start, Past::Own))
     }
 }
 
@@ -41,16 +70,18 @@ fn bad_name() -> io::Error {
     io::Error::from(ErrorKind::InvalidInput)
 }
 
-// A stream to the first address of the host that answers in time. Small pieces are sent at once, and calls that take too long
-// fail.
-fn connect<R: Net + Clock>(rt: &R, host: &Text, port: &Text) -> io::Result<R::Stream> {
+// A stream to the first address of the host that answers in time, and when it was dialed. Small pieces are sent at once, and writes
+// that take too long fail.
+pub(crate) fn connect<R: Net + Clock>(
+    rt: &R,
+    host: &Text,
+    port: &Text,
+    limits: &TimeLimits,
+) -> io::Result<(R::Stream, Instant)> {
     let host = str::from_utf8(host.bytes()).map_err(|_| bad_name())?;
     let port = str::from_utf8(port.bytes()).map_err(|_| bad_name())?;
     let port: u16 = port.parse().map_err(|_| bad_name())?;
-    let (dial_time, call_time) = (
-        Duration::from_millis(DIAL_MILLIS),
-        Duration::from_secs(CALL_SECONDS),
-    );
+    let dial_time = Duration::from_millis(limits.connecting);
     let start = Instant::now(rt)?;
     for address in (host, port).to_socket_addrs(rt)? {
         let left = dial_time.saturating_sub(start.elapsed(rt)?);
@@ -59,16 +90,15 @@ fn connect<R: Net + Clock>(rt: &R, host: &Text, port: &Text) -> io::Result<R::St
         }
         if let Ok(stream) = TcpStream::connect_timeout(rt, &address, left) {
             stream.set_nodelay(true)?;
-            stream.set_read_timeout(Some(call_time))?;
-            stream.set_write_timeout(Some(call_time))?;
-            return Ok(stream);
+            stream.set_write_timeout(Some(Duration::from_secs(CALL_SECONDS)))?;
+            return Ok((stream, start));
         }
     }
     Err(io::Error::from(ErrorKind::TimedOut))
 }
 
-impl<R: Net + Clock + Drop> Dialer for TcpDialer<R> {
-    type Link = TcpLink<R::Stream>;
+impl<R: Net + Clock + AllocGlobal + Copy + Drop> Dialer for TcpDialer<R> {
+    type Link = BackendLink<R>;
 
     ghost talks = { λ _. None };
 
@@ -78,13 +108,26 @@ impl<R: Net + Clock + Drop> Dialer for TcpDialer<R> {
 
     ghost write_faults = { λ d. d.write_faults };
 
-    fn dial(&mut self, host: &Text, port: &Text) -> Result<TcpLink<R::Stream>, DialError> {
+    fn within(&mut self, limits: TimeLimits) {
+        self.limits = limits;
+    }
+
+    fn dial(&mut self, host: &Text, port: &Text) -> Result<BackendLink<R>, DialError> {
         let peer = Peer::Dialed {
             host: host.copy()?,
             port: port.copy()?,
         };
-        match connect(&self.rt, host, port) {
-            Ok(stream) => Ok(TcpLink::new(stream, peer)),
+        self.kept.reserve()?;
+        match self.stream_to(host, port) {
+            Ok((stream, start, past)) => Ok(BackendLink {
+                link: TcpLink::new(stream, peer),
+                rt: self.rt,
+                limits: self.limits,
+                start,
+                has_begun: false,
+                past,
+                is_reusable: false,
+            }),
             Err(_) => {
                 self.dial_faults = self.dial_faults.saturating_add(1);
                 Err(DialError::Failed)
@@ -92,12 +135,21 @@ impl<R: Net + Clock + Drop> Dialer for TcpDialer<R> {
         }
     }
 
-    fn hang_up(&mut self, link: TcpLink<R::Stream>) {
+    /// A stream that may serve another exchange is kept.
+    fn hang_up(&mut self, link: BackendLink<R>) {
+        let BackendLink {
+            link,
+            is_reusable,
+            ..
+        } = link;
         if link.read_faults > 0 {
             self.read_faults = self.read_faults.saturating_add(1);
         }
         if link.write_faults > 0 {
             self.write_faults = self.write_faults.saturating_add(1);
+        }
+        if let (true, Peer::Dialed { host, port }) = (is_reusable, link.peer) {
+            self.kept.keep(&self.rt, host, port, link.stream);
         }
     }
 }

@@ -6,7 +6,7 @@ use system::{WordsError, tell};
 use units::Text;
 use varn_program::{Note, Status as ReplayStatus, faulty_word};
 use varn_serve::{Served, Status, VclNote};
-use world::World;
+use world::{World, read_file};
 
 const NO_MEMORY: &str = "out of memory";
 
@@ -74,7 +74,7 @@ fn explain_refusal<W: World>(rt: &HostRuntime, world: &mut W, file: &Text, note:
     let place = note.place;
     let kind = note.kind.number();
     let _ = eprintln!(rt; "place {place} kind {kind}");
-    let told = match world.shelf(file) {
+    let told = match read_file(world, file) {
         Ok(Some(text)) => vcl_refusal(rt.alloc(), file, &text, place, note.kind),
         _ => unseen_refusal(rt.alloc(), file, place, note.kind),
     };

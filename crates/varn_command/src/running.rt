@@ -10,12 +10,13 @@ ghost use Rattle.varn_program.specs.Run.{Ends, IsComplete};
 ghost use Rattle.varn_program.specs.Words.{AsksReplay};
 ghost use Rattle.varn_program.specs.declared.outcome.Status.TheVariants as replay_status;
 ghost use Rattle.varn_serve.specs.Endings.{is_full};
-ghost use Rattle.varn_serve.specs.Run.{CameTo, EndsAs, RanBy, is_full_status};
+ghost use Rattle.varn_serve.specs.Run.{CameTo, EndsAs, GaveFor, RanBy, is_full_status};
 ghost use Rattle.varn_command.specs.Asking.{Does, code_of, options_of};
 ghost use Rattle.wire.specs.Causes.{Rose};
 ghost use Rattle.world.specs.Keeping.{MayAdd};
 
 use command_line::{OrderError, ServeOptions, read_order};
+use flat_core::FlatCore;
 use std::alloc::Global;
 use std::sync::Wait;
 use std::thread::Threads;
@@ -23,6 +24,9 @@ use units::Text;
 use varn_serve::{Served, serve_with_std};
 use wire::{Dialer, Sink, Source};
 use world::{Gate, World};
+
+/// The cache of the program.
+type Core = FlatCore;
 
 /// What a run came to, by its command.
 #[derive(Drop)]
@@ -88,7 +92,7 @@ where
         × (outcome.status ≡ replay_status.WriteFault → Rose (K.faults sink.old) (K.faults sink.new))
         × (world.new ≡ world.old))
         (λ order served. CameTo (RanBy (IsUnused W.Dialer.talks W.Dialer.dial_faults W.Dialer.read_faults W.Dialer.write_faults W.Clock.readings W.Clock.words)
-        W.Dialer.Link.flow W.Dialer.talks W.Clock.readings W.Clock.words (told_by W.Listener.Link.flow W.Listener.Link.read_faults W.Listener.Link.write_faults W.Listener.Link.peer)
+        W.Dialer.Link.flow W.Dialer.talks W.Clock.readings W.Clock.words (told_by W.Listener.Link.flow W.Listener.Link.read_faults W.Listener.Link.write_faults W.Listener.Link.peer W.Listener.Link.is_open)
         (record { links = W.links world.old; kept = W.kept world.old; kits = W.kits world.old }) (record { links = W.links world.new; kept = W.kept world.new; kits = W.kits world.new }))
         (record { links = W.links world.old; kept = W.kept world.old; kits = W.kits world.old }) (record { links = W.links world.new; kept = W.kept world.new; kits = W.kits world.new })
         (W.files world.old) std_functions order served
@@ -103,6 +107,7 @@ where
         × (length served.transcripts ≤ order.conns)
         × (is_full_status served.status ≡ list_any is_full served.transcripts)
         × MayAdd (W.ports world.old) (W.ports world.new) order.port
+        × GaveFor (W.given world.old) (W.given world.new) (length served.transcripts)
         × (source.new ≡ source.old))
         ((source.new ≡ source.old) × (sink.new ≡ sink.old) × (world.new ≡ world.old)) words.now result }
 {
@@ -114,6 +119,6 @@ where
             }
             Err(error) => Outcome::Unasked(error),
         },
-        None => Outcome::Replay(varn_program::run(alloc, words, source, sink)),
+        None => Outcome::Replay(varn_program::run::<Core, S, K>(alloc, words, source, sink)),
     }
 }

@@ -7,43 +7,35 @@ use Rattle.std.proofs.lemmas.List.{append-nil}
 use Rattle.cache_law.specs.declared.setting.Params.{Params}
 use Rattle.cache_law.specs.declared.setting.Boot.{Boot}
 use Rattle.cache_law.specs.declared.call.Entry.{Entry}
-use Rattle.cache_law.specs.Beginning.{beginning_of}
 use Rattle.std.specs.Io.KnownBytes.{Consumes, IsAtEnd}
 use Rattle.wire.specs.Content.{ReadsUpTo}
 use Rattle.session_text.specs.declared.session.Session.{Session}
-use Rattle.session_text.specs.declared.session.NumberedLine.{NumberedLine}
 use Rattle.session_text.specs.declared.session.FaultKind.{FaultKind}
 use Rattle.session_text.specs.declared.session.SessionError.TheVariants as reading
-use Rattle.replay.specs.declared.event.Event.{Event}
-use Rattle.replay.specs.declared.event.NumberedEvent.{NumberedEvent}
-use Rattle.replay.specs.declared.event.Script.{Script}
-use Rattle.replay.specs.Build.{IsBuilt, IsBuiltAs, IsNotBuilt, StandsFor}
 use Rattle.replay.specs.Laws.{NothingStops}
 use Rattle.session_text.specs.Sessions.{IsSession}
 use Rattle.replay.specs.declared.session.ReplayError.{ReplayError}
 use Rattle.replay.specs.declared.session.ReplayError.TheVariants as refusals
-use Rattle.varn_program.specs.Run.{Wants}
 use Rattle.replay.specs.Replayed.{SessionEnds, PlayedTo as SessionPlayedTo}
 use Rattle.vmod_host.specs.declared.signature.Stored.{Stored}
 use Rattle.varn_program.specs.declared.outcome.Outcome.{Outcome}
 use Rattle.varn_program.specs.declared.outcome.Status.TheVariants as statuses
-use Rattle.varn_program.specs.Run.{IsText, PlayedTo, EndsReplay, HasSession, IsComplete, opening_boot, outcome_of}
+use Rattle.varn_program.specs.Run.{IsText, PlayedTo, EndsReplay, HasSession, IsComplete, opening_boot, outcome_of, plan}
 
-outcome_ends : (stored : List Stored) (params : Params) (left0 left1 held0 held1 : Option (List ℕ)) (history : List Entry) (refusal : Option ReplayError) → PlayedTo stored params left0 left1 held0 held1 history refusal → EndsReplay stored params left0 left1 held0 held1 (outcome_of history refusal)
-outcome_ends stored params left0 left1 held0 held1 history None played = (refl, played)
-outcome_ends stored params left0 left1 held0 held1 history (Some (refusals.NotBuilt line)) played = inr (inl (line, refl, played))
-outcome_ends stored params left0 left1 held0 held1 history (Some (refusals.Idle line)) played = inr (inr (inl (line, refl, played)))
-outcome_ends stored params left0 left1 held0 held1 history (Some (refusals.Unanswered line)) played = inr (inr (inr (line, refl, played)))
-outcome_ends stored params left0 left1 held0 held1 history (Some refusals.WriteFault) played = (refl, played)
-outcome_ends stored params left0 left1 held0 held1 history (Some refusals.HistoryFull) played = (refl, played)
-outcome_ends stored params left0 left1 held0 held1 history (Some refusals.NoMemory) played = (refl, inr played)
+outcome_ends : (stored : List Stored) (params : Params) (left0 left1 held0 held1 : Option (List ℕ)) (history : List Entry) (swept : List ℕ) (refusal : Option ReplayError) → PlayedTo stored params left0 left1 held0 held1 history refusal → EndsReplay stored params left0 left1 held0 held1 (outcome_of history swept refusal)
+outcome_ends stored params left0 left1 held0 held1 history swept None played = (refl, played)
+outcome_ends stored params left0 left1 held0 held1 history swept (Some (refusals.Idle line)) played = inr (inl (line, refl, played))
+outcome_ends stored params left0 left1 held0 held1 history swept (Some (refusals.Unanswered line)) played = inr (inr (line, refl, played))
+outcome_ends stored params left0 left1 held0 held1 history swept (Some refusals.WriteFault) played = (refl, played)
+outcome_ends stored params left0 left1 held0 held1 history swept (Some refusals.HistoryFull) played = (refl, played)
+outcome_ends stored params left0 left1 held0 held1 history swept (Some refusals.NoMemory) played = (refl, inr played)
 
 -- the same, as the calls tell it
-pub replay_ends : (stored : List Stored) (params : Params) (left0 left1 held0 held1 : Option (List ℕ)) (text : List ℕ) (session : Session) (boot : Boot) (history : List Entry) (refusal : Option ReplayError) (outcome : Outcome) → boot ≡ opening_boot → outcome ≡ outcome_of history refusal → IsText left0 left1 text → IsSession text session → SessionEnds stored Wants session (beginning_of params boot) history held0 held1 refusal → EndsReplay stored params left0 left1 held0 held1 outcome
-replay_ends stored params left0 left1 held0 held1 text session boot history refusal outcome opened told is_text is_session ends =
+pub replay_ends : (stored : List Stored) (params : Params) (left0 left1 held0 held1 : Option (List ℕ)) (text : List ℕ) (session : Session) (boot : Boot) (history : List Entry) (swept : List ℕ) (refusal : Option ReplayError) (outcome : Outcome) → boot ≡ opening_boot → outcome ≡ outcome_of history swept refusal → IsText left0 left1 text → IsSession text session → SessionEnds stored (plan params boot) session history held0 held1 refusal → EndsReplay stored params left0 left1 held0 held1 outcome
+replay_ends stored params left0 left1 held0 held1 text session boot history swept refusal outcome opened told is_text is_session ends =
     subst (λ (o : Outcome). EndsReplay stored params left0 left1 held0 held1 o) (sym told)
-    (outcome_ends stored params left0 left1 held0 held1 history refusal
-    (text, session, is_text, is_session, subst (λ (b : Boot). SessionEnds stored Wants session (beginning_of params b) history held0 held1 refusal) opened ends))
+    (outcome_ends stored params left0 left1 held0 held1 history swept refusal
+    (text, session, is_text, is_session, subst (λ (b : Boot). SessionEnds stored (plan params b) session history held0 held1 refusal) opened ends))
 
 pointwise_same : (xs : List ℕ) → pointwise nat_eq xs xs ≡ true
 pointwise_same [] = refl
@@ -62,41 +54,30 @@ all_read left0 left1 text bytes reads is short =
     let here = subst (λ (l : Option (List ℕ)). ReadsUpTo 67108864 l left1 text) is reads in
     consumed bytes text left1 here.front here.whole short
 
--- a session whose lines are all built has none that isn't
-built_all : (stored : List Stored) (front : List NumberedLine) (first : NumberedLine) (back : List NumberedLine) (events : List NumberedEvent) → IsBuiltAs stored (front ++ first ∷ back) events → ((event : Event) → StandsFor stored first.line event → ⊥) → ⊥
-built_all stored [] first back [] are none = are
-built_all stored [] first back (e ∷ es) are none = none e.event are.1
-built_all stored (l ∷ front) first back [] are none = are
-built_all stored (l ∷ front) first back (e ∷ es) are none = built_all stored front first back es are.2 none
-
-pub is_built : (stored : List Stored) (session : Session) (script : Script) (line : ℕ) → IsBuilt stored session script → IsNotBuilt stored session line → ⊥
-is_built stored session script line built not = built_all stored not.0 not.1 not.2 script.events (subst (λ (ls : List NumberedLine). IsBuiltAs stored ls script.events) not.4 built.lines_are) not.7
-
 -- a session that nothing stops was played whole, unless a call of the outside failed or memory was wanting
-played_whole : (stored : List Stored) (params : Params) (left held0 held1 : Option (List ℕ)) (session : Session) (history : List Entry) (refusal : Option ReplayError) (failed : Type 0) → SessionEnds stored Wants session (beginning_of params opening_boot) history held0 held1 refusal → (refusal ≡ Some refusals.WriteFault → failed) → HasSession stored left session → NothingStops stored Wants session (beginning_of params opening_boot) (outcome_of history refusal).history → (failed → ⊥)
-    → (((outcome_of history refusal).status ≡ statuses.Done) × SessionPlayedTo stored Wants session (beginning_of params opening_boot) (outcome_of history refusal).history held0 held1 None) ⊎ ((outcome_of history refusal).status ≡ statuses.NoMemory)
-played_whole stored params left held0 held1 session history None failed ends cause has nothing calm = inl (refl, ends)
-played_whole stored params left held0 held1 session history (Some (refusals.NotBuilt line)) failed ends cause has nothing calm = absurd (is_built stored session has.script line has.built ends.1)
-played_whole stored params left held0 held1 session history (Some (refusals.Idle line)) failed ends cause has nothing calm = absurd (nothing held0 held1 (refusals.Idle line) tt ends)
-played_whole stored params left held0 held1 session history (Some (refusals.Unanswered line)) failed ends cause has nothing calm = absurd (nothing held0 held1 (refusals.Unanswered line) tt ends)
-played_whole stored params left held0 held1 session history (Some refusals.WriteFault) failed ends cause has nothing calm = absurd (calm (cause refl))
-played_whole stored params left held0 held1 session history (Some refusals.HistoryFull) failed ends cause has nothing calm = absurd (nothing held0 held1 refusals.HistoryFull tt ends)
-played_whole stored params left held0 held1 session history (Some refusals.NoMemory) failed ends cause has nothing calm = inr refl
+played_whole : (stored : List Stored) (params : Params) (left held0 held1 : Option (List ℕ)) (session : Session) (history : List Entry) (swept : List ℕ) (refusal : Option ReplayError) (failed : Type 0) → SessionEnds stored (plan params opening_boot) session history held0 held1 refusal → (refusal ≡ Some refusals.WriteFault → failed) → HasSession left session → NothingStops stored (plan params opening_boot) session (outcome_of history swept refusal).history → (failed → ⊥)
+    → (((outcome_of history swept refusal).status ≡ statuses.Done) × SessionPlayedTo stored (plan params opening_boot) session (outcome_of history swept refusal).history held0 held1 None) ⊎ ((outcome_of history swept refusal).status ≡ statuses.NoMemory)
+played_whole stored params left held0 held1 session history swept None failed ends cause has nothing calm = inl (refl, ends)
+played_whole stored params left held0 held1 session history swept (Some (refusals.Idle line)) failed ends cause has nothing calm = absurd (nothing held0 held1 (refusals.Idle line) tt ends)
+played_whole stored params left held0 held1 session history swept (Some (refusals.Unanswered line)) failed ends cause has nothing calm = absurd (nothing held0 held1 (refusals.Unanswered line) tt ends)
+played_whole stored params left held0 held1 session history swept (Some refusals.WriteFault) failed ends cause has nothing calm = absurd (calm (cause refl))
+played_whole stored params left held0 held1 session history swept (Some refusals.HistoryFull) failed ends cause has nothing calm = absurd (nothing held0 held1 refusals.HistoryFull tt ends)
+played_whole stored params left held0 held1 session history swept (Some refusals.NoMemory) failed ends cause has nothing calm = inr refl
 
 -- the same, as the calls tell it
-pub complete_at : (stored : List Stored) (params : Params) (left0 left1 held0 held1 : Option (List ℕ)) (text : List ℕ) (read : Session) (boot : Boot) (history : List Entry) (refusal : Option ReplayError) (outcome : Outcome) (failed : Type 0) → boot ≡ opening_boot → outcome ≡ outcome_of history refusal → IsText left0 left1 text → ((session : Session) → IsSession text session → read ≡ session) → SessionEnds stored Wants read (beginning_of params boot) history held0 held1 refusal → (refusal ≡ Some refusals.WriteFault → failed) → IsComplete stored params left0 held0 held1 failed outcome
-complete_at stored params left0 left1 held0 held1 text read boot history refusal outcome failed opened told is_text one ends cause =
+pub complete_at : (stored : List Stored) (params : Params) (left0 left1 held0 held1 : Option (List ℕ)) (text : List ℕ) (read : Session) (boot : Boot) (history : List Entry) (swept : List ℕ) (refusal : Option ReplayError) (outcome : Outcome) (failed : Type 0) → boot ≡ opening_boot → outcome ≡ outcome_of history swept refusal → IsText left0 left1 text → ((session : Session) → IsSession text session → read ≡ session) → SessionEnds stored (plan params boot) read history held0 held1 refusal → (refusal ≡ Some refusals.WriteFault → failed) → IsComplete stored params left0 held0 held1 failed outcome
+complete_at stored params left0 left1 held0 held1 text read boot history swept refusal outcome failed opened told is_text one ends cause =
     subst (λ (o : Outcome). IsComplete stored params left0 held0 held1 failed o) (sym told)
     (λ session has nothing calm.
     let here : IsSession text session = subst (λ (t : List ℕ). IsSession t session) (sym (all_read left0 left1 text has.bytes is_text has.left_is has.short)) has.reads in
-    let so : SessionEnds stored Wants session (beginning_of params opening_boot) history held0 held1 refusal =
-    subst (λ (b : Boot). SessionEnds stored Wants session (beginning_of params b) history held0 held1 refusal) opened
-    (subst (λ (s : Session). SessionEnds stored Wants s (beginning_of params boot) history held0 held1 refusal) (one session here) ends) in
-    played_whole stored params left0 held0 held1 session history refusal failed so cause has nothing calm)
+    let so : SessionEnds stored (plan params opening_boot) session history held0 held1 refusal =
+    subst (λ (b : Boot). SessionEnds stored (plan params b) session history held0 held1 refusal) opened
+    (subst (λ (s : Session). SessionEnds stored (plan params boot) s history held0 held1 refusal) (one session here) ends) in
+    played_whole stored params left0 held0 held1 session history swept refusal failed so cause has nothing calm)
 
 -- a text that is a session isn't refused
-pub not_refused : (stored : List Stored) (left0 left1 : Option (List ℕ)) (text : List ℕ) (session : Session) (line : ℕ) (kind : FaultKind) → IsText left0 left1 text → ((s : Session) → IsSession text s → reading.Refused line kind ≡ reading.NoMemory) → HasSession stored left0 session → ⊥
-not_refused stored left0 left1 text session line kind is_text only has =
+pub not_refused : (left0 left1 : Option (List ℕ)) (text : List ℕ) (session : Session) (line : ℕ) (kind : FaultKind) → IsText left0 left1 text → ((s : Session) → IsSession text s → reading.Refused line kind ≡ reading.NoMemory) → HasSession left0 session → ⊥
+not_refused left0 left1 text session line kind is_text only has =
     let here : IsSession text session = subst (λ (t : List ℕ). IsSession t session) (sym (all_read left0 left1 text has.bytes is_text has.left_is has.short)) has.reads in
     let clash = only session here in
     cc

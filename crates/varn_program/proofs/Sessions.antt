@@ -23,8 +23,9 @@ use Rattle.replay.specs.declared.policy.Given.TheVariants.{Start, Told, Came, Se
 use Rattle.replay.specs.declared.policy.Want.{Want}
 use Rattle.replay.specs.declared.policy.Want.TheVariants.{Ask, Exchange, Respond, Await, Done}
 use Rattle.replay.specs.declared.session.ReplayError.{ReplayError}
-use Rattle.replay.specs.declared.session.ReplayError.TheVariants.{NotBuilt, Idle, Unanswered, WriteFault, HistoryFull, NoMemory}
+use Rattle.replay.specs.declared.session.ReplayError.TheVariants.{Idle, Unanswered, WriteFault, HistoryFull, NoMemory}
 use Rattle.replay.specs.Endings.{WantsTooMuch}
+use Rattle.replay.specs.Plan.{plan_of}
 use Rattle.replay.specs.Replayed.{CameTo, CutOff, EndsSo, PlayedTo, SessionEnds}
 use Rattle.replay.specs.Rounds.{address, gifts, WantedBy, Wanted}
 use Rattle.replay.specs.Scene.{Round, Scene, Move, hears, calls, fetches, sends, parks, wakes, ends, Runs, Next, Path, Run}
@@ -70,7 +71,7 @@ module _ (one other : Request → List Given → Want → Type 0) (link : (reque
   runs-as : (scene : Scene) (round : Round) (want : Want) → Runs one scene round want → Runs other scene round want
   runs-as scene round want r = record { turn = r.turn; wanted = link round.request round.givens want r.wanted }
 
-  next-as : (old new : Scene) (move : Move) → Next one beginning old move new → Next other beginning old move new
+  next-as : (old new : Scene) (move : Move) → Next (plan_of one beginning) old move new → Next (plan_of other beginning) old move new
   next-as old new (hears event) h = h
   next-as old new (calls entry) h = (h.0, runs-as old h.0 (Ask entry.call) h.1, h.2, h.3, h.4)
   next-as old new (fetches number backend request) h = (h.0, runs-as old h.0 (Exchange number backend request) h.1, h.2)
@@ -79,32 +80,31 @@ module _ (one other : Request → List Given → Want → Type 0) (link : (reque
   next-as old new wakes h = h
   next-as old new ends h = (h.0, runs-as old h.0 Done h.1, h.2)
 
-  path-as : (old new : Scene) (moves : List Move) → Path one beginning old moves new → Path other beginning old moves new
+  path-as : (old new : Scene) (moves : List Move) → Path (plan_of one beginning) old moves new → Path (plan_of other beginning) old moves new
   path-as old new [] h = h
   path-as old new (move ∷ moves) h = (h.0, next-as old h.0 move h.1, path-as h.0 new moves h.2)
 
-  run-as : (old new : Scene) (events : List Event) (entries : List Entry) (text : List ℕ) → Run one beginning old new events entries text → Run other beginning old new events entries text
+  run-as : (old new : Scene) (events : List Event) (entries : List Entry) (text : List ℕ) → Run (plan_of one beginning) old new events entries text → Run (plan_of other beginning) old new events entries text
   run-as old new events entries text r = record { moves = r.moves; path = path-as old new r.moves r.path; reads = r.reads; enters = r.enters; writes = r.writes }
 
   went-as : (old : Scene) (events : List Event) (before now : List Entry) (holds still : Scene → List ℕ → Type 0) → ((scene : Scene) (text : List ℕ) → holds scene text → still scene text)
-      → Went one beginning old events before now holds → Went other beginning old events before now still
+      → Went (plan_of one beginning) old events before now holds → Went (plan_of other beginning) old events before now still
   went-as old events before now holds still so w =
       record { scene = w.scene; entries = w.entries; text = w.text; run = run-as old w.scene events w.entries w.text w.run; history = w.history; fact = so w.scene w.text w.fact }
 
   came-as : (events : List Event) (history : List Entry) (holds still : Scene → List ℕ → Type 0) → ((scene : Scene) (text : List ℕ) → holds scene text → still scene text)
-      → CameTo one beginning events history holds → CameTo other beginning events history still
+      → CameTo (plan_of one beginning) events history holds → CameTo (plan_of other beginning) events history still
   came-as events history holds still so c = record { went = went-as _ events [] history holds still so c.went; legal = c.legal }
 
   cut-as : (events : List Event) (history : List Entry) (holds still : Scene → List ℕ → Type 0) → ((scene : Scene) (text : List ℕ) → holds scene text → still scene text)
-      → CutOff one beginning events history holds → CutOff other beginning events history still
+      → CutOff (plan_of one beginning) events history holds → CutOff (plan_of other beginning) events history still
   cut-as events history holds still so c = (c.0, c.1, c.2, came-as c.0 history holds still so c.3)
 
-  too-much-as : (history : List Entry) (scene : Scene) → WantsTooMuch one beginning history scene → WantsTooMuch other beginning history scene
+  too-much-as : (history : List Entry) (scene : Scene) → WantsTooMuch (plan_of one beginning) history scene → WantsTooMuch (plan_of other beginning) history scene
   too-much-as history scene t = record { round = t.round; call = t.call; runs = runs-as scene t.round (Ask t.call) t.runs; full = t.full }
 
-  ends-as : (script : Script) (history : List Entry) (before now : Option (List ℕ)) (ending : Option ReplayError) → EndsSo one beginning script history before now ending → EndsSo other beginning script history before now ending
+  ends-as : (script : Script) (history : List Entry) (before now : Option (List ℕ)) (ending : Option ReplayError) → EndsSo (plan_of one beginning) script history before now ending → EndsSo (plan_of other beginning) script history before now ending
   ends-as script history before now None e = came-as _ history _ _ (λ scene text h. h) e
-  ends-as script history before now (Some (NotBuilt line)) e = e
   ends-as script history before now (Some (Idle line)) e = (e.0, e.1, e.2, e.3, e.4, came-as _ history _ _ (λ scene text h. h) e.5)
   ends-as script history before now (Some (Unanswered line)) e = (e.0, came-as _ history _ _ (λ scene text h. h) e.1)
   ends-as script history before now (Some WriteFault) e = cut-as _ history _ _ (λ scene text h. h) e
@@ -112,12 +112,11 @@ module _ (one other : Request → List Given → Want → Type 0) (link : (reque
   ends-as script history before now (Some NoMemory) e = cut-as _ history _ _ (λ scene text h. h) e
 
   played-as : (stored : List Stored) (session : Session) (history : List Entry) (before now : Option (List ℕ)) (ending : Option ReplayError)
-      → PlayedTo stored one session beginning history before now ending → PlayedTo stored other session beginning history before now ending
+      → PlayedTo stored (plan_of one beginning) session history before now ending → PlayedTo stored (plan_of other beginning) session history before now ending
   played-as stored session history before now ending p = (p.0, p.1, ends-as p.0 history before now ending p.2)
 
   pub session-as : (stored : List Stored) (session : Session) (history : List Entry) (before now : Option (List ℕ)) (ending : Option ReplayError)
-      → SessionEnds stored one session beginning history before now ending → SessionEnds stored other session beginning history before now ending
-  session-as stored session history before now (Some (NotBuilt line)) e = e
+      → SessionEnds stored (plan_of one beginning) session history before now ending → SessionEnds stored (plan_of other beginning) session history before now ending
   session-as stored session history before now (Some NoMemory) (inl e) = inl e
   session-as stored session history before now (Some NoMemory) (inr e) = inr (played-as stored session history before now (Some NoMemory) e)
   session-as stored session history before now None e = played-as stored session history before now None e
@@ -133,6 +132,6 @@ trees-vcl tree_of stored_of text p is =
     (tree_of p, is.joined, like-same (meant (tree_of p).items (stored_of p)) (meant (tree_of p).items std_functions) (ap (λ (s : List Stored). meant (tree_of p).items s) (sym is.functions)))
 
 pub session-vcl : {P : Type 0} (tree_of : P → Tree) (stored_of : P → List Stored) (beginning : Beginning) (stored : List Stored) (session : Session) (history : List Entry) (before now : Option (List ℕ)) (ending : Option ReplayError)
-    → SessionEnds stored (Wants (by_trees tree_of stored_of)) session beginning history before now ending → SessionEnds stored (Wants vcl) session beginning history before now ending
+    → SessionEnds stored (plan_of (Wants (by_trees tree_of stored_of)) beginning) session history before now ending → SessionEnds stored (plan_of (Wants vcl) beginning) session history before now ending
 session-vcl tree_of stored_of beginning stored session history before now ending e =
     session-as (Wants (by_trees tree_of stored_of)) (Wants vcl) (wants-vcl (by_trees tree_of stored_of) (trees-vcl tree_of stored_of)) beginning stored session history before now ending e

@@ -10,11 +10,10 @@ use Rattle.vmod_host.specs.declared.signature.Stored.{Stored}
 use Rattle.cache_law.specs.declared.setting.Boot.{Boot}
 use Rattle.cache_law.specs.declared.call.Entry.{Entry}
 use Rattle.cache_law.specs.Beginning.{beginning_of}
-use Rattle.replay.specs.declared.event.Script.{Script}
-use Rattle.replay.specs.Build.{IsBuilt}
 use Rattle.replay.specs.Laws.{NothingStops}
 use Rattle.replay.specs.declared.session.ReplayError.{ReplayError}
 use Rattle.replay.specs.declared.session.ReplayError.TheVariants as refusals
+use Rattle.replay.specs.Plan.{Plan, plan_of}
 use Rattle.replay.specs.Turns.{Wants as TurnWants}
 use Rattle.replay.specs.Replayed.{SessionEnds, PlayedTo as SessionPlayedTo}
 use Rattle.replay.specs.declared.policy.Request.{Request}
@@ -41,6 +40,10 @@ note_of line kind = Some (record { line = line; kind = kind })
 abbrev pub Wants : Request → List Given → Want → Type 0
 Wants = TurnWants vcl
 
+-- what a session goes by that begins under this VCL
+abbrev pub plan : Params → Boot → Plan
+plan params boot = plan_of Wants (beginning_of params boot)
+
 -- the text of a session: all that the source had left, or its first 67,108,865 bytes where it had more
 abbrev pub IsText : Option (List ℕ) → Option (List ℕ) → List ℕ → Type 0
 IsText before after text = ReadsUpTo 67108864 before after text
@@ -54,19 +57,18 @@ pub record Nothing (held0 held1 : Option (List ℕ)) (history : List Entry) : Ty
 abbrev pub PlayedTo : List Stored → Params → Option (List ℕ) → Option (List ℕ) → Option (List ℕ) → Option (List ℕ) → List Entry → Option ReplayError → Type 0
 PlayedTo stored params left0 left1 held0 held1 history refusal =
     (text : List ℕ) × (session : TheSession) × IsText left0 left1 text × IsSession text session
-    × SessionEnds stored Wants session (beginning_of params opening_boot) history held0 held1 refusal
+    × SessionEnds stored (plan params opening_boot) session history held0 held1 refusal
 
 -- the source's text is no session
 abbrev pub IsRefused : Option (List ℕ) → Option (List ℕ) → Option Note → Type 0
 IsRefused left0 left1 note =
     (text : List ℕ) × (line : ℕ) × (kind : FaultKind) × IsText left0 left1 text × IsFault text line kind × (note ≡ note_of line (kind_number kind))
 
--- a line of the session isn't built, is idle, or is its end with somebody unanswered
+-- a line of the session is idle, or is its end with somebody unanswered
 abbrev pub IsStopped : List Stored → Params → Option (List ℕ) → Option (List ℕ) → Option (List ℕ) → Option (List ℕ) → List Entry → Option Note → Type 0
 IsStopped stored params left0 left1 held0 held1 history note =
-    ((line : ℕ) × (note ≡ note_of line 2) × PlayedTo stored params left0 left1 held0 held1 history (Some (refusals.NotBuilt line)))
-    ⊎ (((line : ℕ) × (note ≡ note_of line 7) × PlayedTo stored params left0 left1 held0 held1 history (Some (refusals.Idle line)))
-    ⊎ ((line : ℕ) × (note ≡ note_of line 8) × PlayedTo stored params left0 left1 held0 held1 history (Some (refusals.Unanswered line))))
+    ((line : ℕ) × (note ≡ note_of line 7) × PlayedTo stored params left0 left1 held0 held1 history (Some (refusals.Idle line)))
+    ⊎ ((line : ℕ) × (note ≡ note_of line 8) × PlayedTo stored params left0 left1 held0 held1 history (Some (refusals.Unanswered line)))
 
 -- how a replay ends, by its status
 abbrev pub EndsAs : List Stored → Params → Option (List ℕ) → Option (List ℕ) → Option (List ℕ) → Option (List ℕ) → List Entry → Option Note → Status → Type 0
@@ -85,35 +87,32 @@ EndsAs stored params left0 left1 held0 held1 history told NoMemory =
 abbrev pub EndsReplay : List Stored → Params → Option (List ℕ) → Option (List ℕ) → Option (List ℕ) → Option (List ℕ) → Outcome → Type 0
 EndsReplay stored params left0 left1 held0 held1 outcome = EndsAs stored params left0 left1 held0 held1 outcome.history outcome.note outcome.status
 
--- The source has the bytes of this session left, and each of its lines is built.
-pub record HasSession (stored : List Stored) (left : Option (List ℕ)) (session : TheSession) : Type 0 where
+-- The source has the bytes of this session left.
+pub record HasSession (left : Option (List ℕ)) (session : TheSession) : Type 0 where
   pub bytes : List ℕ
   pub left_is : left ≡ Some bytes
   pub short : length bytes ≤ 67108864
   pub reads : IsSession bytes session
-  pub script : Script
-  pub built : IsBuilt stored session script
 
 -- Where the source has a session, nothing stops it over the history that is handed out, and no call of the outside failed,
 -- the run is whole: its status is Done, and the sink holds the transcript behind what it held. Or memory was wanting.
 abbrev pub IsComplete : List Stored → Params → Option (List ℕ) → Option (List ℕ) → Option (List ℕ) → Type 0 → Outcome → Type 0
 IsComplete stored params left held0 held1 failed outcome =
-    (session : TheSession) → HasSession stored left session → NothingStops stored Wants session (beginning_of params opening_boot) outcome.history → (failed → ⊥)
-    → ((outcome.status ≡ Done) × SessionPlayedTo stored Wants session (beginning_of params opening_boot) outcome.history held0 held1 None) ⊎ (outcome.status ≡ NoMemory)
+    (session : TheSession) → HasSession left session → NothingStops stored (plan params opening_boot) session outcome.history → (failed → ⊥)
+    → ((outcome.status ≡ Done) × SessionPlayedTo stored (plan params opening_boot) session outcome.history held0 held1 None) ⊎ (outcome.status ≡ NoMemory)
 
 -- How a run ends: status Words exactly for words that ask for no replay, with nothing read or written; else as the replay
 -- that they ask for.
 abbrev pub Ends : List Stored → List (List ℕ) → Option (List ℕ) → Option (List ℕ) → Option (List ℕ) → Option (List ℕ) → Outcome → Type 0
 Ends stored words left0 left1 held0 held1 outcome =
-    (((params : Params) → AsksReplay words params → ⊥) × (outcome ≡ record { status = Words; note = None; history = [] }) × (left1 ≡ left0) × (held1 ≡ held0))
+    (((params : Params) → AsksReplay words params → ⊥) × (outcome ≡ record { status = Words; note = None; history = []; swept = [] }) × (left1 ≡ left0) × (held1 ≡ held0))
     ⊎ ((params : Params) × AsksReplay words params × EndsReplay stored params left0 left1 held0 held1 outcome)
 
 -- the outcome of a session that was played
-abbrev pub outcome_of : List Entry → Option ReplayError → Outcome
-outcome_of history None = record { status = Done; note = None; history = history }
-outcome_of history (Some (refusals.NotBuilt line)) = record { status = Session; note = note_of line 2; history = history }
-outcome_of history (Some (refusals.Idle line)) = record { status = Session; note = note_of line 7; history = history }
-outcome_of history (Some (refusals.Unanswered line)) = record { status = Session; note = note_of line 8; history = history }
-outcome_of history (Some refusals.WriteFault) = record { status = WriteFault; note = None; history = history }
-outcome_of history (Some refusals.HistoryFull) = record { status = HistoryFull; note = None; history = history }
-outcome_of history (Some refusals.NoMemory) = record { status = NoMemory; note = None; history = history }
+abbrev pub outcome_of : List Entry → List ℕ → Option ReplayError → Outcome
+outcome_of history swept None = record { status = Done; note = None; history = history; swept = swept }
+outcome_of history swept (Some (refusals.Idle line)) = record { status = Session; note = note_of line 7; history = history; swept = swept }
+outcome_of history swept (Some (refusals.Unanswered line)) = record { status = Session; note = note_of line 8; history = history; swept = swept }
+outcome_of history swept (Some refusals.WriteFault) = record { status = WriteFault; note = None; history = history; swept = swept }
+outcome_of history swept (Some refusals.HistoryFull) = record { status = HistoryFull; note = None; history = history; swept = swept }
+outcome_of history swept (Some refusals.NoMemory) = record { status = NoMemory; note = None; history = history; swept = swept }

@@ -9,8 +9,9 @@ ghost use Rattle.wire.specs.Causes.{Rose};
 use crate::functions::replay_with_std;
 use crate::outcome::{Note, Outcome, Status};
 use crate::words::asked;
+use ban_lurker::LurkCore;
 use cache_law::{Boot, Params};
-use replay::{ReplayError, Replayed, run_session};
+use replay::{Played, ReplayError, Replayed, run_session};
 use session_text::{SESSION_LIMIT, SessionError};
 use std::alloc::{AllocError, Global};
 use units::{Sequence, Shared, Text};
@@ -37,38 +38,40 @@ fn make_boot(alloc: Global) -> Result<Boot, AllocError>
 
 /// A run in which nothing was played.
 pub(crate) fn stopped(alloc: Global, status: Status, note: Option<Note>) -> Outcome
-    ensures { result ≡ record { status = status; note = note; history = [] } }
+    ensures { result ≡ record { status = status; note = note; history = []; swept = [] } }
 {
     Outcome {
         status,
         note,
         history: Sequence::new(alloc),
+        swept: Sequence::new(alloc),
     }
 }
 
 // How a session that was played ended.
 fn ended(replayed: Replayed) -> Outcome
-    ensures { result ≡ outcome_of replayed.history replayed.refusal }
+    ensures { result ≡ outcome_of replayed.played.history replayed.played.swept replayed.refusal }
 {
     let (status, note) = match replayed.refusal {
         None => (Status::Done, None),
-        Some(ReplayError::NotBuilt(line)) => (Status::Session, Some(Note { line, kind: 2 })),
         Some(ReplayError::Idle(line)) => (Status::Session, Some(Note { line, kind: 7 })),
         Some(ReplayError::Unanswered(line)) => (Status::Session, Some(Note { line, kind: 8 })),
         Some(ReplayError::WriteFault) => (Status::WriteFault, None),
         Some(ReplayError::HistoryFull) => (Status::HistoryFull, None),
         Some(ReplayError::NoMemory) => (Status::NoMemory, None),
     };
+    let Played { history, swept } = replayed.played;
     Outcome {
         status,
         note,
-        history: replayed.history,
+        history,
+        swept,
     }
 }
 
-/// Reads the session from the source, plays it within these limits and writes its transcript to the sink. Texts of VCL
-/// that its console is given may call the functions of the table.
-pub fn replay<S: Source, K: Sink>(
+/// Reads the session from the source, plays it over a cache of this kind within these limits and writes its transcript to the
+/// sink. Texts of VCL that its console is given may call the functions of the table.
+pub fn replay<C: LurkCore + Drop, S: Source, K: Sink>(
     alloc: Global,
     params: &Params,
     vmods: &Shared<VmodTable>,
@@ -104,7 +107,7 @@ pub fn replay<S: Source, K: Sink>(
         Err(_) => return stopped(alloc, Status::NoMemory, None),
     };
     let mut library = Library::new(functions);
-    let replayed = run_session::<Run, Library, K>(
+    let replayed = run_session::<C, Run, Library, K>(
         alloc,
         session,
         vmods,
@@ -116,9 +119,9 @@ pub fn replay<S: Source, K: Sink>(
     ended(replayed)
 }
 
-/// Does what the words say: `replay` plays the session of the source, within the limits that the options give or the
-/// usual ones. Texts of VCL may call the functions of the module `std`.
-pub fn run<S: Source, K: Sink>(
+/// Does what the words say: `replay` plays the session of the source over a cache of this kind, within the limits that the
+/// options give or the usual ones. Texts of VCL may call the functions of the module `std`.
+pub fn run<C: LurkCore + Drop, S: Source, K: Sink>(
     alloc: Global,
     words: &[Text],
     source: &mut S,
@@ -130,7 +133,7 @@ pub fn run<S: Source, K: Sink>(
     ensures write_fault { result.status ≡ Status.WriteFault → Rose (K.faults sink.old) (K.faults sink.new) }
 {
     match asked(alloc, words) {
-        Ok(Some(params)) => replay_with_std(alloc, &params, source, sink),
+        Ok(Some(params)) => replay_with_std::<C, S, K>(alloc, &params, source, sink),
         Ok(None) => stopped(alloc, Status::Words, None),
         Err(_) => stopped(alloc, Status::NoMemory, None),
     }

@@ -6,6 +6,7 @@ ghost use Rattle.wire.specs.Causes.{Rose};
 
 use crate::command::{replay, stopped};
 use crate::outcome::{Outcome, Status};
+use ban_lurker::LurkCore;
 use cache_law::Params;
 use std::alloc::{AllocError, Global};
 use units::Shared;
@@ -30,7 +31,7 @@ fn std_signature(
 
 // The replay, or want of memory for the table. A function that makes a table of code can't hand it out, for a caller
 // would know nothing of the code: so the table is made where it is used.
-fn try_replay<S: Source, K: Sink>(
+fn try_replay<C: LurkCore + Drop, S: Source, K: Sink>(
     alloc: Global,
     params: &Params,
     source: &mut S,
@@ -79,14 +80,14 @@ fn try_replay<S: Source, K: Sink>(
     match VmodTable::of(alloc, Vec::from_array(alloc, list)?) {
         Ok(vmods) => {
             let vmods = Shared::new(alloc, vmods)?;
-            Ok(replay(alloc, params, &vmods, source, sink))
+            Ok(replay::<C, S, K>(alloc, params, &vmods, source, sink))
         }
         Err(_) => Err(AllocError),
     }
 }
 
 /// Replays the session of the source within these limits, as `replay` does, with the functions of the module `std`.
-pub fn replay_with_std<S: Source, K: Sink>(
+pub fn replay_with_std<C: LurkCore + Drop, S: Source, K: Sink>(
     alloc: Global,
     params: &Params,
     source: &mut S,
@@ -97,7 +98,7 @@ pub fn replay_with_std<S: Source, K: Sink>(
     ensures read_fault { result.status ≡ Status.ReadFault → Rose (S.faults source.old) (S.faults source.new) }
     ensures write_fault { result.status ≡ Status.WriteFault → Rose (K.faults sink.old) (K.faults sink.new) }
 {
-    match try_replay(alloc, params, source, sink) {
+    match try_replay::<C, S, K>(alloc, params, source, sink) {
         Ok(outcome) => outcome,
         Err(_) => stopped(alloc, Status::NoMemory, None),
     }

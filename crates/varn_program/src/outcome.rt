@@ -12,7 +12,7 @@ pub enum Status {
     Done,
     /// The words aren't those of a command.
     Words,
-    /// The session has no reading, isn't built yet, or is idle or unanswered at the noted line.
+    /// The session has no reading, or is idle or unanswered at the noted line.
     Session,
     /// The source failed.
     ReadFault,
@@ -40,18 +40,20 @@ impl Status {
     }
 }
 
-/// A line of the session, counted from 1, and the kind of its fault: 1 a word, 2 unknown or not built,
-/// 3 an argument, 4 a moment that goes back, 5 no `end`, 6 behind `end`, 7 idle, 8 unanswered.
+/// A line of the session, counted from 1, and the kind of its fault: 1 a word, 2 unknown, 3 an argument,
+/// 4 a moment that goes back, 5 no `end`, 6 behind `end`, 7 idle, 8 unanswered.
 #[derive(Clone, Copy, Debug, PartialEq, Eq)]
 pub struct Note {
     pub line: u32,
     pub kind: u8,
 }
 
-/// How a run ended, the line that is to blame, and the history of its cache.
+/// How a run ended, the line that is to blame, the history of its cache, and for each `lurk` that was heard at how many
+/// objects the lurker looked.
 #[derive(Drop)]
 pub struct Outcome {
     pub status: Status,
     pub note: Option<Note>,
     pub history: Sequence<Entry>,
+    pub swept: Sequence<u32>,
 }

@@ -1,5 +1,5 @@
--- The programs of a library may go from one thread to another, and be shared by them. That is so part by part: `search` finds it for
--- each, and not for the whole at once.
+-- The programs of a library, and a ban that was made ready, may go from one thread to another, and be shared by them. That is so part
+-- by part: `search` finds it for each, and not for the whole at once.
 use Rattle.std.proofs.Crossing.{crosses}
 use Rattle.std.proofs.MapsCrossing as maps
 use denote.Param.Send.{IsSend, IsSync, sendable, struct_send, struct_sync}
@@ -16,6 +16,11 @@ use Rattle.regex.below.regex_meta.specs.contracts.program.Program as program
 use Rattle.regex.specs.contracts.pattern.Pattern as pattern
 use Rattle.regex.specs.contracts.bytes.regex.Regex as regex
 use Rattle.vcl_values.specs.contracts.pattern.Pattern as value_pattern
+use Rattle.units.proofs.sequence.Sequence.TheSendSync as sequence
+use Rattle.cache_law.proofs.ban.Ban.TheSendSync as ban
+use Rattle.cache_law.proofs.ban.Condition.TheSendSync as condition
+use Rattle.ban_expr.specs.contracts.prepared.Prepared as prepared
+use Rattle.ban_expr.specs.contracts.prepared.Prepared.TheInside as prepared_inside
 use Rattle.vcl_tree.specs.contracts.item.Tree as tree
 use Rattle.vcl_tree.proofs.attribute.Attribute.TheLaws.TheKnot as attribute
 use Rattle.vcl_tree.proofs.expression.Expression.TheLaws.TheKnot as expression
@@ -59,6 +64,22 @@ value_pattern_send = search (regex_send, sendable) depth 60 fits 20000
 value_pattern_sync : IsSync value_pattern.the_row
 value_pattern_sync = search (regex_sync, sendable) depth 60 fits 20000
 
+-- ---- a ban that was made ready
+
+ruleset readied = (crosses, sendable, value_pattern_send, value_pattern_sync, sequence.the_send, sequence.the_sync, shared.the_send, shared.the_sync, text.the_send, text.the_sync, condition.the_send, condition.the_sync, condition.the_field_send, condition.the_field_sync, ban.the_send, ban.the_sync, ban.the_field_send, ban.the_field_sync)
+
+fields_send : IsSend prepared_inside.the_field.row
+fields_send = struct_send (Declared.shape prepared_inside.the_type) (search readied depth 60 fits 20000, (search readied depth 60 fits 20000, tt))
+
+fields_sync : IsSync prepared_inside.the_field.row
+fields_sync = struct_sync (Declared.shape prepared_inside.the_type) (search readied depth 60 fits 20000, (search readied depth 60 fits 20000, tt))
+
+pub prepared_send : IsSend prepared.the_row
+prepared_send = search (fields_send, sendable) depth 60 fits 20000
+
+pub prepared_sync : IsSync prepared.the_row
+prepared_sync = search (fields_sync, sendable) depth 60 fits 20000
+
 -- ---- a text in numbers
 
 ruleset trees = (crosses, attribute.crosses, expression.crosses, block.crosses, sendable)
@@ -78,10 +99,10 @@ checked_sync : IsSync checked.the_field.row
 checked_sync = struct_sync (Declared.shape checked.the_type) (tree_sync, (search programs depth 60 fits 20000, (search programs depth 60 fits 20000, tt)))
 
 pub compiled_send : IsSend compiled.the_field.row
-compiled_send = struct_send (Declared.shape compiled.the_type) (checked_send, (search programs depth 60 fits 20000, (search programs depth 60 fits 20000, (search programs depth 60 fits 20000, tt))))
+compiled_send = struct_send (Declared.shape compiled.the_type) (checked_send, (search programs depth 60 fits 20000, (search programs depth 60 fits 20000, tt)))
 
 pub compiled_sync : IsSync compiled.the_field.row
-compiled_sync = struct_sync (Declared.shape compiled.the_type) (checked_sync, (search programs depth 60 fits 20000, (search programs depth 60 fits 20000, (search programs depth 60 fits 20000, tt))))
+compiled_sync = struct_sync (Declared.shape compiled.the_type) (checked_sync, (search programs depth 60 fits 20000, (search programs depth 60 fits 20000, tt)))
 
 -- ---- programs by number, whose functions are values of the type `T`
 

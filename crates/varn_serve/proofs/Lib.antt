@@ -1,3 +1,4 @@
 pub mod Ends
 pub mod Carried
 pub mod Crossing
+mod CacheCrossing

@@ -21,6 +21,7 @@ use Rattle.entrance.specs.Arriving.{LinkTold}
 use Rattle.vcl_runs.specs.Languages.{Language}
 use Rattle.vcl_library.specs.Meaning.{vcl}
 use Rattle.steering.specs.Telling.{Tells}
+use Rattle.wire.specs.Calls.{joined_count}
 use Rattle.wire.specs.Flow.{Flow}
 use Rattle.wire.specs.Tapes.{Tape}
 use Rattle.wire.specs.declared.peer.Talk.{Talk}
@@ -76,6 +77,10 @@ abbrev pub RanBy : {L D K DL : Type 0} → (Kit D K → Type 0) → (DL → Opti
     → Held L (Kit D K) → Held L (Kit D K) → Beginning → List Entry → List Transcript → Type 0
 RanBy unused flow talks readings words told before after beginning history transcripts =
     RanIn vcl unused flow talks readings words told before after beginning history transcripts
+
+-- The listeners gave this many connections, none of which was thrown away; where nothing was served there may be no listener.
+abbrev pub GaveFor : ℕ → ℕ → ℕ → Type 0
+GaveFor before after count = (after ≡ joined_count before count) ⊎ ((count ≡ 0) × (after ≡ before))
 
 -- ---- the statuses
 

@@ -7,7 +7,7 @@ ghost use Rattle.vcl_library.specs.Functions.{std_functions, std_signature};
 ghost use Rattle.wire.specs.Causes.{Rose};
 ghost use Rattle.world.specs.Keeping.{MayAdd};
 ghost use Rattle.varn_serve.specs.Endings.{is_full};
-ghost use Rattle.varn_serve.specs.Run.{CameTo, EndsAs, RanBy, is_full_status};
+ghost use Rattle.varn_serve.specs.Run.{CameTo, EndsAs, GaveFor, RanBy, is_full_status};
 
 use crate::ending::{Served, Status};
 use crate::programs::{SharedPrograms, stocked_boot};
@@ -55,7 +55,7 @@ where
     W::Clock: Sync,
     <W::Dialer as Dialer>::Link: Send,
     ensures came { IfOk result (λ served. CameTo (RanBy (IsUnused W.Dialer.talks W.Dialer.dial_faults W.Dialer.read_faults W.Dialer.write_faults W.Clock.readings W.Clock.words)
-        W.Dialer.Link.flow W.Dialer.talks W.Clock.readings W.Clock.words (told_by W.Listener.Link.flow W.Listener.Link.read_faults W.Listener.Link.write_faults W.Listener.Link.peer)
+        W.Dialer.Link.flow W.Dialer.talks W.Clock.readings W.Clock.words (told_by W.Listener.Link.flow W.Listener.Link.read_faults W.Listener.Link.write_faults W.Listener.Link.peer W.Listener.Link.is_open)
         (record { links = W.links world.old; kept = W.kept world.old; kits = W.kits world.old }) (record { links = W.links world.new; kept = W.kept world.new; kits = W.kits world.new }))
         (record { links = W.links world.old; kept = W.kept world.old; kits = W.kits world.old }) (record { links = W.links world.new; kept = W.kept world.new; kits = W.kits world.new })
         (W.files world.old) std_functions order.now served) }
@@ -68,6 +68,7 @@ where
       holds = S.held sink.new;
     }) (W.files world.old) std_functions order.now served served.status) }
     ensures within { IfOk result (λ served. length served.transcripts ≤ order.now.conns) }
+    ensures given { IfOk result (λ served. GaveFor (W.given world.old) (W.given world.new) (length served.transcripts)) }
     ensures full { IfOk result (λ served. is_full_status served.status ≡ list_any is_full served.transcripts) }
     ensures ports { IfOk result (λ served. MayAdd (W.ports world.old) (W.ports world.new) order.now.port) }
     ensures unchanged { OnErr result ((world.new ≡ world.old) × (sink.new ≡ sink.old)) }
@@ -137,7 +138,7 @@ where
     W::Clock: Sync,
     <W::Dialer as Dialer>::Link: Send,
     ensures came { CameTo (RanBy (IsUnused W.Dialer.talks W.Dialer.dial_faults W.Dialer.read_faults W.Dialer.write_faults W.Clock.readings W.Clock.words)
-        W.Dialer.Link.flow W.Dialer.talks W.Clock.readings W.Clock.words (told_by W.Listener.Link.flow W.Listener.Link.read_faults W.Listener.Link.write_faults W.Listener.Link.peer)
+        W.Dialer.Link.flow W.Dialer.talks W.Clock.readings W.Clock.words (told_by W.Listener.Link.flow W.Listener.Link.read_faults W.Listener.Link.write_faults W.Listener.Link.peer W.Listener.Link.is_open)
         (record { links = W.links world.old; kept = W.kept world.old; kits = W.kits world.old }) (record { links = W.links world.new; kept = W.kept world.new; kits = W.kits world.new }))
         (record { links = W.links world.old; kept = W.kept world.old; kits = W.kits world.old }) (record { links = W.links world.new; kept = W.kept world.new; kits = W.kits world.new })
         (W.files world.old) std_functions order.now result }
@@ -150,6 +151,7 @@ where
       holds = S.held sink.new;
     }) (W.files world.old) std_functions order.now result result.status }
     ensures within { length result.transcripts ≤ order.now.conns }
+    ensures given { GaveFor (W.given world.old) (W.given world.new) (length result.transcripts) }
     ensures full { is_full_status result.status ≡ list_any is_full result.transcripts }
     ensures ports { MayAdd (W.ports world.old) (W.ports world.new) order.now.port }
 {

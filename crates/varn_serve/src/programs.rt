@@ -57,6 +57,7 @@ pub(crate) fn stocked_boot<W: World>(
     ensures ports { W.ports world.new ≡ W.ports world.old }
     ensures links { W.links world.new ≡ W.links world.old }
     ensures kept { W.kept world.new ≡ W.kept world.old }
+    ensures given { W.given world.new ≡ W.given world.old }
     ensures kits { W.kits world.new ≡ W.kits world.old }
     ensures files { W.files world.new ≡ W.files world.old }
     ensures listens { W.listen_faults world.new ≡ W.listen_faults world.old }

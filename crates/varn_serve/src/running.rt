@@ -4,6 +4,7 @@ ghost use Rattle.cache_law.specs.Beginning.{beginning_of};
 ghost use Rattle.crew.specs.Hiring.{IsUnused};
 ghost use Rattle.crew.specs.Running.{Stopped};
 ghost use Rattle.entrance.specs.Arriving.{told_by};
+ghost use Rattle.wire.specs.Calls.{joined_count};
 ghost use Rattle.wire.specs.Causes.{Rose};
 ghost use Rattle.world.specs.Keeping.{MayAdd};
 ghost use Rattle.varn_serve.specs.Endings.{Told, verdict_of};
@@ -104,12 +105,13 @@ where
     M::Program: Drop + Send + Sync,
     ensures ran { IfOk result (λ o. RanIn (language_of P.of_text M.turns M.targets M.default_of P.backends)
         (IsUnused W.Dialer.talks W.Dialer.dial_faults W.Dialer.read_faults W.Dialer.write_faults W.Clock.readings W.Clock.words) W.Dialer.Link.flow W.Dialer.talks W.Clock.readings W.Clock.words
-        (told_by W.Listener.Link.flow W.Listener.Link.read_faults W.Listener.Link.write_faults W.Listener.Link.peer) (record { links = W.links world.old; kept = W.kept world.old; kits = W.kits world.old })
+        (told_by W.Listener.Link.flow W.Listener.Link.read_faults W.Listener.Link.write_faults W.Listener.Link.peer W.Listener.Link.is_open) (record { links = W.links world.old; kept = W.kept world.old; kits = W.kits world.old })
         (record { links = W.links world.new; kept = W.kept world.new; kits = W.kits world.new }) (beginning_of (limits_of order.now) boot) o.history o.transcripts.items) }
     ensures stopped { IfOk result (λ o. Stopped o.reason order.now.conns (vec_len o.transcripts) (W.ended world.new) (W.listen_faults world.old) (W.listen_faults world.new)) }
     ensures within { IfOk result (λ o. vec_len o.transcripts ≤ order.now.conns) }
+    ensures given { IfOk result (λ o. W.given world.new ≡ joined_count (W.given world.old) (vec_len o.transcripts)) }
     ensures halted { IfErr result (Halts (Rose (W.listen_faults world.old) (W.listen_faults world.new))) }
-    ensures nobody { IfErr result (λ _. (W.links world.new ≡ W.links world.old) × (W.kept world.new ≡ W.kept world.old) × (W.kits world.new ≡ W.kits world.old)) }
+    ensures nobody { IfErr result (λ _. (W.links world.new ≡ W.links world.old) × (W.kept world.new ≡ W.kept world.old) × (W.kits world.new ≡ W.kits world.old) × (W.given world.new ≡ W.given world.old)) }
     ensures ports { MayAdd (W.ports world.old) (W.ports world.new) order.now.port }
 {
     let params = Params {

@@ -6,7 +6,6 @@
 mod holding;
 mod run_worlds;
 mod runs;
-mod settings;
 mod telling;
 
 use std::io;

@@ -1,8 +1,8 @@
 // The world of a run. A row has settings and, behind each bar, what a client sends, between quotes. The settings are `workers` and
 // `conns`, `history` for the most bytes of the history, `vcl` for the file of the VCL, `kits` for how many kits there are at most,
 // and `listens`, `accepts` and `writes` for the calls that fail.
-use crate::settings::{number, numbers, numbers_of, setting};
 use command_line::ServeOptions;
+use row_settings::{number, numbers, numbers_of, setting};
 use std::alloc::{AllocError, Global};
 use std::collections::VecDeque;
 use units::{Text, quoted};
@@ -61,6 +61,7 @@ fn listeners(
     listeners.push_back(Listening {
         coming: coming(alloc, inputs)?,
         failing: numbers(alloc, settings, "accepts")?,
+        quiet: number(settings, "quiet", 0),
     })?;
     Ok(listeners)
 }

@@ -1,8 +1,8 @@
 // A run over a row's world (`run_worlds.rt`), and what is said of it.
 use crate::holding::HoldingGate;
 use crate::run_worlds::{order_of, world_of};
-use crate::settings::numbers;
 use crate::telling::{push_links, push_quoted};
+use row_settings::numbers;
 use std::alloc::{AllocError, Global};
 use std::sync::Wait;
 use std::thread::Threads;

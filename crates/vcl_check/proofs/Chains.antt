@@ -10,7 +10,7 @@ use Rattle.vcl_tree.specs.declared.expression.Addition.{Addition}
 use Rattle.vcl_tree.specs.declared.expression.Addition.TheVariants.{Plus, Minus}
 use Rattle.vcl_check.specs.declared.form.Form.{Form}
 use Rattle.vcl_check.specs.declared.seen.Told.{Told}
-use Rattle.vcl_check.specs.Known.{Known}
+use Rattle.vcl_symbols.specs.Known.{Known}
 use Rattle.vcl_check.specs.declared.form.Form.TheVariants.{Junction, Argument, Apart}
 use Rattle.vcl_check.specs.Roles.{Role, Value, Arguments, Block, Statement, Branch, left_role, right_role, form_of}
 use Rattle.vcl_check.specs.Least.{tied, told_of}

@@ -10,11 +10,12 @@ use Rattle.vcl_tree.specs.declared.item.Item.{Item}
 use Rattle.vcl_check.specs.Declarations.{declarations, names_of, known_of, unknown_said, twice_said}
 use Rattle.vcl_check.specs.Folded.{numbered}
 use Rattle.vcl_check.specs.Items.{item_told}
-use Rattle.vcl_check.specs.Known.{Known}
+use Rattle.vcl_symbols.specs.Known.{Known}
 use Rattle.vcl_check.specs.Least.{lesser, fault_at}
 use Rattle.vcl_check.specs.Mentions.{Said, with_items}
 use Rattle.vcl_check.specs.Reaching.{numbered_names, calls_of, AreReached}
 use Rattle.vcl_check.specs.Texts.{says, refused_at, AreRefused, IsFirstFault}
+use Rattle.vcl_check.proofs.LeastLemmas.{neither}
 use Rattle.vcl_check.proofs.Whole.{least-text}
 
 abbrev pub told : Option Fault → Option Fault → Option Fault → Option Fault → Option Fault → Option Fault
@@ -88,11 +89,7 @@ pub refused-none : (places : List ℕ) → numbered refused_at 0 None places ≡
 refused-none [] e = refl
 refused-none (p ∷ ps) e = absurd (numbered-some (record { place = p; kind = refusal.Pattern }) 1 ps e)
 
-lesser-none : (a b : Option Fault) → lesser a b ≡ None → b ≡ None
-lesser-none None b e = e
-lesser-none (Some x) None e = refl
-lesser-none (Some x) (Some y) e = let p = picked x y (comes_before y x) in absurd (some-none p.0 (sym p.1 ∙ e))
-
-pub told-none : (u t i c r : Option Fault) → told u t i c r ≡ None → r ≡ None
+pub told-none : (u t i c r : Option Fault) → told u t i c r ≡ None → (i ≡ None) × (r ≡ None)
 told-none u t i c r e =
-    lesser-none c r (lesser-none i (lesser c r) (lesser-none t (lesser i (lesser c r)) (lesser-none u (lesser t (lesser i (lesser c r))) e)))
+    let inside = neither i (lesser c r) (neither t (lesser i (lesser c r)) (neither u (lesser t (lesser i (lesser c r))) e).1).1 in
+    (inside.0, (neither c r inside.1).1)

@@ -1,5 +1,5 @@
 -- The least of several faults.
-use Rattle.std.proofs.Common.{◌≡◌, ℕ, ◌+◌, Bool, true, false, List, [], ◌∷◌, ◌⊎◌, inl, inr, refl, subst, Option, Some, None, if◌then◌else◌}
+use Rattle.std.proofs.Common.{◌≡◌, ℕ, ◌+◌, Bool, true, false, List, [], ◌∷◌, ◌⊎◌, inl, inr, refl, sym, subst, Option, Some, None, if◌then◌else◌}
 use Rattle.vcl_tree.specs.Faults.{comes_before}
 use Rattle.vcl_tree.specs.declared.error.Fault.{Fault}
 use Rattle.vcl_check.specs.Least.{lesser}
@@ -12,6 +12,16 @@ some-none f e = cc
 
 some-some : (x f : Fault) → Some x ≡ Some f → x ≡ f
 some-some x f e = cc
+
+-- no first fault of two is none of each
+picked : (x y : Fault) (b : Bool) → (if b then Some y else Some x) ≡ None → ⊥
+picked x y true e = absurd (some-none y (sym e))
+picked x y false e = absurd (some-none x (sym e))
+
+pub neither : (a b : Option Fault) → lesser a b ≡ None → (a ≡ None) × (b ≡ None)
+neither None b e = (refl, e)
+neither (Some x) None e = absurd (some-none x (sym e))
+neither (Some x) (Some y) e = absurd (picked x y (comes_before y x) e)
 
 -- the same faults
 pub least-along : (P Q : Fault → Type 0) (o : Option Fault) → ((f : Fault) → P f → Q f) → ((f : Fault) → Q f → P f) → IsLeastOf P o → IsLeastOf Q o

@@ -1,5 +1,6 @@
 pub mod Chains
 pub mod FirstLemmas
+pub mod AclLemmas
 pub mod LeastLemmas
 pub mod MentionLemmas
 pub mod Order

@@ -9,7 +9,7 @@ use Rattle.vcl_check.specs.declared.form.Use.{Use}
 use Rattle.vcl_check.specs.declared.form.Form.{Form}
 use Rattle.vcl_check.specs.declared.seen.Seen.{Seen}
 use Rattle.vcl_check.specs.declared.seen.Told.{Told}
-use Rattle.vcl_check.specs.Known.{Known}
+use Rattle.vcl_symbols.specs.Known.{Known}
 use Rattle.vcl_check.specs.Roles.{Role, use_in, left_role, right_role, form_of}
 use Rattle.vcl_check.specs.Views.{view_of, named_seen, seen_together}
 use Rattle.vcl_check.specs.Rules.{misfit, misplaced, unwritten_in}

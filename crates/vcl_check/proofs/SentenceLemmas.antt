@@ -11,7 +11,7 @@ use Rattle.vcl_tree.specs.declared.item.Item.TheVariants as item
 use Rattle.vcl_check.specs.Declarations.{declarations, unknown_said, twice_said}
 use Rattle.vcl_check.specs.Faults.{Wrong, unknown_in, misfit_in, misused_in, misplaced_in, unwritten_part}
 use Rattle.vcl_check.specs.Folded.{AnyOf}
-use Rattle.vcl_check.specs.Known.{Known}
+use Rattle.vcl_symbols.specs.Known.{Known}
 use Rattle.vcl_check.specs.Least.{fault_at}
 use Rattle.vcl_check.specs.Reaching.{numbered_names}
 use Rattle.vcl_check.specs.Roles.{Role}

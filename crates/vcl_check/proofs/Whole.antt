@@ -14,7 +14,7 @@ use Rattle.vcl_check.specs.Declarations.{declarations, unknown_said, twice_said}
 use Rattle.vcl_check.specs.Faults.{IsLeastOf}
 use Rattle.vcl_check.specs.Folded.{numbered, AnyOf}
 use Rattle.vcl_check.specs.Items.{item_told, block_told}
-use Rattle.vcl_check.specs.Known.{Known}
+use Rattle.vcl_symbols.specs.Known.{Known}
 use Rattle.vcl_check.specs.Least.{lesser, fault_at}
 use Rattle.vcl_check.specs.Mentions.{Said}
 use Rattle.vcl_check.specs.Reaching.{calls_of, roots_of}

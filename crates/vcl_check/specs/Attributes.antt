@@ -10,15 +10,16 @@ use Rattle.vcl_language.specs.Attributes.{attribute_named}
 use Rattle.vcl_language.specs.declared.attributes.AttributeKind.{AttributeKind}
 use Rattle.vcl_language.specs.declared.attributes.AttributeKind.TheVariants as kind
 use Rattle.vcl_language.specs.declared.attributes.Owner.TheVariants as owner
-use Rattle.vcl_check.specs.declared.known.Thing.{Thing}
-use Rattle.vcl_check.specs.declared.known.Thing.TheVariants as thing
+use Rattle.vcl_symbols.specs.declared.symbol_table.Symbol.{Symbol}
+use Rattle.vcl_symbols.specs.declared.symbol_table.Symbol.TheVariants as symbol
 use Rattle.vcl_check.specs.declared.form.Use.TheVariants as use'
 use Rattle.vcl_check.specs.declared.seen.Meaning.{Meaning}
 use Rattle.vcl_check.specs.declared.seen.Meaning.TheVariants as meaning
 use Rattle.vcl_check.specs.Calls.{unless}
 use Rattle.vcl_check.specs.Declarations.{is_number}
 use Rattle.vcl_check.specs.Folded.{numbered}
-use Rattle.vcl_check.specs.Known.{Known, thing_named, meaning_of}
+use Rattle.vcl_symbols.specs.Known.{Known, symbol_named}
+use Rattle.vcl_check.specs.Known.{meaning_of}
 use Rattle.vcl_check.specs.Least.{fault_at, lesser}
 use Rattle.vcl_check.specs.Mentions.{parts}
 
@@ -49,8 +50,8 @@ abbrev pub of_plain : Known → AttributeKind → Phrase → Option Fault
 of_plain known k (phrase.Named place name) = of_named (meaning_of known use'.Read name) place
 of_plain known k v = fault_at refusal.Kind (unless (is_of k v) (value_place v))
 
-abbrev pub is_probe : Option Thing → Bool
-is_probe (Some thing.Probe) = true
+abbrev pub is_probe : Option Symbol → Bool
+is_probe (Some symbol.Probe) = true
 is_probe _ = false
 
 -- an attribute of a probe
@@ -86,7 +87,7 @@ of_probe_named known true place name = None
 of_probe_named known false place name = of_named (meaning_of known use'.Read name) place
 
 abbrev pub of_probe : Known → Phrase → Option Fault
-of_probe known (phrase.Named place name) = of_probe_named known (is_probe (thing_named known name)) place name
+of_probe known (phrase.Named place name) = of_probe_named known (is_probe (symbol_named known name)) place name
 of_probe known (phrase.Node phrase.Nested a list) = probe_fault known (parts list)
 of_probe known v = fault_at refusal.Kind (Some (value_place v))
 

@@ -7,7 +7,8 @@ use Rattle.vcl_tree.specs.Faults.{comes_before}
 use Rattle.vcl_tree.specs.declared.error.Fault.{Fault}
 use Rattle.vcl_tree.specs.declared.error.Refusal.TheVariants as refusal
 use Rattle.vcl_check.specs.declared.form.Use.{Use}
-use Rattle.vcl_check.specs.Known.{Known, meaning_of}
+use Rattle.vcl_symbols.specs.Known.{Known}
+use Rattle.vcl_check.specs.Known.{meaning_of}
 use Rattle.vcl_check.specs.Roles.{Role, use_in, left_role, right_role, form_of}
 use Rattle.vcl_check.specs.Views.{view_of}
 use Rattle.vcl_check.specs.Rules.{misfit, misplaced, unwritten_in}

@@ -6,7 +6,7 @@ use Rattle.vcl_tree.specs.declared.item.Item.{Item}
 use Rattle.vcl_tree.specs.declared.item.Item.TheVariants as item
 use Rattle.vcl_check.specs.Acls.{acl_fault}
 use Rattle.vcl_check.specs.Attributes.{backend_fault, probe_fault}
-use Rattle.vcl_check.specs.Known.{Known}
+use Rattle.vcl_symbols.specs.Known.{Known}
 use Rattle.vcl_check.specs.Least.{told_of}
 use Rattle.vcl_check.specs.Reaching.{roots_of}
 use Rattle.vcl_check.specs.Roles.{Block}

@@ -15,7 +15,8 @@ use Rattle.vcl_check.specs.declared.seen.Literal.TheVariants as literal
 use Rattle.vcl_check.specs.declared.seen.Seen.{Seen}
 use Rattle.vcl_check.specs.declared.seen.Told.{Told}
 use Rattle.vcl_check.specs.Calls.{unless}
-use Rattle.vcl_check.specs.Known.{Known, meaning_of}
+use Rattle.vcl_symbols.specs.Known.{Known}
+use Rattle.vcl_check.specs.Known.{meaning_of}
 use Rattle.vcl_check.specs.Roles.{Role, use_in, left_role, right_role, form_of}
 use Rattle.vcl_check.specs.Views.{at_place, written, name_seen, integer_weight, weight_seen, seen_together}
 use Rattle.vcl_check.specs.Rules.{is_known, may_be_used, misfit, misplaced, unwritten_in}

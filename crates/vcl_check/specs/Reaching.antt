@@ -6,11 +6,11 @@ use Rattle.vcl_symbols.specs.Calls.{Reaches, Marked}
 use Rattle.vcl_language.specs.Names.{is_reserved, subroutine_named}
 use Rattle.vcl_language.specs.declared.scope.Subroutine.{Subroutine}
 use Rattle.vcl_language.specs.declared.subroutines.TheConstants.{SUBROUTINES, SUBROUTINE_NAMES}
-use Rattle.vcl_check.specs.declared.known.Thing.{Thing}
-use Rattle.vcl_check.specs.declared.known.Thing.TheVariants as thing
+use Rattle.vcl_symbols.specs.declared.symbol_table.Symbol.{Symbol}
+use Rattle.vcl_symbols.specs.declared.symbol_table.Symbol.TheVariants as symbol
 use Rattle.vcl_check.specs.declared.mentions.MentionKind.{MentionKind}
 use Rattle.vcl_check.specs.declared.mentions.MentionKind.TheVariants as kind
-use Rattle.vcl_check.specs.Known.{Known, thing_named}
+use Rattle.vcl_symbols.specs.Known.{Known, symbol_named}
 use Rattle.vcl_check.specs.Mentions.{Said}
 
 -- subroutines are numbered: the built-in ones, and then what the text declares
@@ -20,8 +20,8 @@ numbered_names names = map (λ name. name.now) SUBROUTINE_NAMES ++ names
 abbrev pub number_in : List (List ℕ) → List ℕ → Option ℕ
 number_in numbers name = position (λ other. bytes_eq name other) numbers
 
-abbrev pub is_subroutine : Option Thing → Bool
-is_subroutine (Some thing.Subroutine) = true
+abbrev pub is_subroutine : Option Symbol → Bool
+is_subroutine (Some (symbol.Subroutine k)) = true
 is_subroutine _ = false
 
 -- a call from a subroutine to one that the text declares
@@ -30,7 +30,7 @@ call_between (Some a) (Some b) p = Some (record { from = a; to = b; place = p })
 call_between _ _ p = None
 
 abbrev pub callee : Known → List (List ℕ) → List ℕ → Option ℕ
-callee known numbers name = if is_subroutine (thing_named known name) then number_in numbers name else None
+callee known numbers name = if is_subroutine (symbol_named known name) then number_in numbers name else None
 
 abbrev pub call_by : Known → List (List ℕ) → MentionKind → Said → Option Call
 call_by known numbers kind.Call s = call_between (number_in numbers s.other) (callee known numbers s.name) s.place

@@ -13,7 +13,7 @@ use Rattle.vcl_check.specs.Acls.{acl_fault}
 use Rattle.vcl_check.specs.Attributes.{backend_fault, probe_fault}
 use Rattle.vcl_check.specs.Declarations.{declarations, known_of, unknown_said, twice_said}
 use Rattle.vcl_check.specs.Faults.{Within, unknown_in, misfit_in, misused_in, misplaced_in, unwritten_part}
-use Rattle.vcl_check.specs.Known.{Known}
+use Rattle.vcl_symbols.specs.Known.{Known}
 use Rattle.vcl_check.specs.Mentions.{Said}
 use Rattle.vcl_check.specs.Reaching.{numbered_names, roots_of, AreReached}
 use Rattle.vcl_check.specs.Roles.{Role, Block}

@@ -18,7 +18,7 @@ use Rattle.vcl_check.specs.Attributes.{backend_fault, probe_fault}
 use Rattle.vcl_check.specs.Declarations.{declarations, known_of, unknown_said, twice_said}
 use Rattle.vcl_check.specs.Faults.{FaultIn, IsLeastOf}
 use Rattle.vcl_check.specs.Folded.{AnyOf}
-use Rattle.vcl_check.specs.Known.{Known}
+use Rattle.vcl_symbols.specs.Known.{Known}
 use Rattle.vcl_check.specs.Mentions.{Said, with_items}
 use Rattle.vcl_check.specs.Reaching.{calls_of, roots_of, numbered_names, AreReached}
 use Rattle.vcl_check.specs.Roles.{Block}

@@ -1,5 +1,5 @@
 -- What is seen of a part by what it belongs to.
-use Rattle.std.specs.Prelude.{ℕ, ◌+◌, ◌-◌, ◌*◌, min, ◌==◌, ◌&&◌, nat_le, ℤ, pos, Bool, List, [], ◌∷◌, Option, Some, None, if◌then◌else◌}
+use Rattle.std.specs.Prelude.{ℕ, ◌+◌, ◌-◌, ◌*◌, min, ◌==◌, ◌&&◌, nat_le, ℤ, pos, unsigned_abs, Bool, List, [], ◌∷◌, Option, Some, None, if◌then◌else◌}
 use Rattle.std.specs.Int.Signed.{lt_z}
 use Rattle.vcl_values.specs.declared.value.Kind.{Kind}
 use Rattle.vcl_values.specs.declared.value.Kind.TheVariants as kind
@@ -19,7 +19,8 @@ use Rattle.vcl_check.specs.declared.seen.Arguments.TheVariants.{Zero}
 use Rattle.vcl_check.specs.declared.seen.Seen.{Seen}
 use Rattle.vcl_check.specs.Kinds.{sum_sort, difference_sort, grouped_sort}
 use Rattle.vcl_check.specs.Calls.{with_argument}
-use Rattle.vcl_check.specs.Known.{Known, meaning_of}
+use Rattle.vcl_symbols.specs.Known.{Known}
+use Rattle.vcl_check.specs.Known.{meaning_of}
 use Rattle.vcl_check.specs.Roles.{Role, use_in, left_role, right_role, form_of}
 
 -- a part of which its place alone is seen
@@ -60,15 +61,22 @@ abbrev pub whole_part : ℕ → List ℕ → ℕ
 whole_part front [] = front
 whole_part front (byte ∷ bytes) = if byte == 46 then front else whole_part (min 1001 (10 * front + (byte - 48))) bytes
 
--- a weight is from 1 to 1,000
-abbrev pub weight : Bool → Literal
-weight fits = if fits then literal.Weight else literal.Other
+-- the weight that an integer or a decimal gives, from 1 to 1,000
+abbrev pub weight_of_integer : ℤ → Option ℕ
+weight_of_integer n = if lt_z (pos 0) n && lt_z n (pos 1001) then Some (unsigned_abs n) else None
+
+abbrev pub weight_of_decimal : List ℕ → Option ℕ
+weight_of_decimal digits = if nat_le 1 (whole_part 0 digits) && nat_le (whole_part 0 digits) 1000 then Some (whole_part 0 digits) else None
+
+abbrev pub weight : Option ℕ → Literal
+weight (Some n) = literal.Weight
+weight None = literal.Other
 
 abbrev pub integer_weight : ℤ → Literal
-integer_weight n = weight (lt_z (pos 0) n && lt_z n (pos 1001))
+integer_weight n = weight (weight_of_integer n)
 
 abbrev pub decimal_weight : List ℕ → Literal
-decimal_weight digits = weight (nat_le 1 (whole_part 0 digits) && nat_le (whole_part 0 digits) 1000)
+decimal_weight digits = weight (weight_of_decimal digits)
 
 -- a decimal
 abbrev pub weight_seen : ℕ → List ℕ → Seen

@@ -5,19 +5,20 @@ ghost use Rattle.vcl_tree.specs.Phrase.{list_of};
 ghost use Rattle.vcl_check.specs.Mentions.{parts};
 ghost use Rattle.vcl_check.specs.Folded.{numbered};
 ghost use Rattle.vcl_check.specs.Calls.{unless};
-ghost use Rattle.vcl_check.specs.Known.{meaning_of, thing_named};
+ghost use Rattle.vcl_symbols.specs.Known.{symbol_named};
+ghost use Rattle.vcl_check.specs.Known.{meaning_of};
 ghost use Rattle.vcl_check.specs.Least.{fault_at};
 ghost use Rattle.vcl_check.specs.Attributes.{of_named, of_plain, is_probe, of_probe_named, of_probe_kind, probe_attribute, attribute_name, twice_attribute, probe_member, probe_fault, of_probe, of_backend_kind, backend_attribute, backend_member, hostless, backend_fault};
 
 use crate::declarations::is_number;
 use crate::form::Use;
-use crate::known::{Tables, Thing};
+use crate::known::meaning_of;
 use crate::rules::unless;
 use crate::seen::Meaning;
 use crate::told::{fault_at, lesser};
 use std::alloc::{AllocError, Global};
 use vcl_language::{AttributeKind, Owner, attribute_named};
-use vcl_symbols::NameIndex;
+use vcl_symbols::{NameIndex, Symbol, SymbolTable};
 use vcl_tree::{Attribute, AttributeValue, Fault, Name, Refusal};
 
 // A name where a value of another type is wanted.
@@ -36,7 +37,7 @@ fn mistyped(fits: bool, place: u32) -> Option<Fault>
     fault_at(Refusal::Kind, unless(fits, place))
 }
 
-fn of_plain(tables: &Tables<'_>, kind: AttributeKind, value: &AttributeValue) -> Option<Fault>
+fn of_plain(tables: &SymbolTable<'_>, kind: AttributeKind, value: &AttributeValue) -> Option<Fault>
     ensures { result ≡ of_plain tables.now kind (value_of value.now) }
 {
     match value {
@@ -52,20 +53,20 @@ fn of_plain(tables: &Tables<'_>, kind: AttributeKind, value: &AttributeValue) ->
     }
 }
 
-fn read_name(tables: &Tables<'_>, name: &Name) -> Option<Fault>
+fn read_name(tables: &SymbolTable<'_>, name: &Name) -> Option<Fault>
     ensures { result ≡ of_named (meaning_of tables.now Use.Read name.now.text) name.now.place }
 {
-    of_named(tables.meaning_of(Use::Read, name.text.bytes()), name.place)
+    of_named(meaning_of(tables, Use::Read, name.text.bytes()), name.place)
 }
 
-fn is_probe(thing: Option<Thing>) -> bool
-    ensures { result ≡ is_probe thing }
+fn is_probe(symbol: Option<Symbol>) -> bool
+    ensures { result ≡ is_probe symbol }
 {
-    matches!(thing, Some(Thing::Probe))
+    matches!(symbol, Some(Symbol::Probe))
 }
 
 fn of_probe_kind(
-    tables: &Tables<'_>,
+    tables: &SymbolTable<'_>,
     kind: Option<AttributeKind>,
     place: u32,
     value: &AttributeValue,
@@ -78,7 +79,7 @@ fn of_probe_kind(
     }
 }
 
-fn probe_attribute(tables: &Tables<'_>, attribute: &Attribute) -> Option<Fault>
+fn probe_attribute(tables: &SymbolTable<'_>, attribute: &Attribute) -> Option<Fault>
     ensures { result ≡ probe_attribute tables.now attribute.now }
 {
     let kind = attribute_named(Owner::Probe, attribute.name.text.bytes());
@@ -93,7 +94,7 @@ fn twice_attribute(names: &NameIndex<'_>, number: usize, attribute: &Attribute) 
 }
 
 fn probe_member(
-    tables: &Tables<'_>,
+    tables: &SymbolTable<'_>,
     names: &NameIndex<'_>,
     number: usize,
     attribute: &Attribute,
@@ -125,7 +126,7 @@ fn names_in<'t>(alloc: Global, attributes: &'t [Attribute]) -> Result<Vec<&'t [u
 /// The first fault among the attributes of a probe.
 pub fn probe_fault(
     alloc: Global,
-    tables: &Tables<'_>,
+    tables: &SymbolTable<'_>,
     attributes: &[Attribute],
 ) -> Result<Option<Fault>, AllocError>
     ensures { IfOk result (λ found. found ≡ probe_fault tables.now attributes.now) }
@@ -141,7 +142,7 @@ pub fn probe_fault(
 // The first fault among the attributes of a probe in braces.
 fn nested_fault(
     alloc: Global,
-    tables: &Tables<'_>,
+    tables: &SymbolTable<'_>,
     attributes: &[Attribute],
 ) -> Result<Option<Fault>, AllocError>
     ensures { IfOk result (λ found. found ≡ probe_fault tables.now (parts (list_of attributes.now))) }
@@ -149,10 +150,10 @@ fn nested_fault(
     probe_fault(alloc, tables, attributes)
 }
 
-fn of_probe_named(tables: &Tables<'_>, name: &Name) -> Option<Fault>
-    ensures { result ≡ of_probe_named tables.now (is_probe (thing_named tables.now name.now.text)) name.now.place name.now.text }
+fn of_probe_named(tables: &SymbolTable<'_>, name: &Name) -> Option<Fault>
+    ensures { result ≡ of_probe_named tables.now (is_probe (symbol_named tables.now name.now.text)) name.now.place name.now.text }
 {
-    if is_probe(tables.thing_named(name.text.bytes())) {
+    if is_probe(tables.symbol_named(name.text.bytes())) {
         None
     } else {
         read_name(tables, name)
@@ -161,7 +162,7 @@ fn of_probe_named(tables: &Tables<'_>, name: &Name) -> Option<Fault>
 
 fn of_probe(
     alloc: Global,
-    tables: &Tables<'_>,
+    tables: &SymbolTable<'_>,
     value: &AttributeValue,
 ) -> Result<Option<Fault>, AllocError>
     ensures { IfOk result (λ found. found ≡ of_probe tables.now (value_of value.now)) }
@@ -179,7 +180,7 @@ fn of_probe(
 
 fn of_backend_kind(
     alloc: Global,
-    tables: &Tables<'_>,
+    tables: &SymbolTable<'_>,
     kind: Option<AttributeKind>,
     place: u32,
     value: &AttributeValue,
@@ -197,7 +198,7 @@ fn of_backend_kind(
 
 fn backend_attribute(
     alloc: Global,
-    tables: &Tables<'_>,
+    tables: &SymbolTable<'_>,
     attribute: &Attribute,
 ) -> Result<Option<Fault>, AllocError>
     ensures { IfOk result (λ found. found ≡ backend_attribute tables.now attribute.now) }
@@ -208,7 +209,7 @@ fn backend_attribute(
 
 fn backend_member(
     alloc: Global,
-    tables: &Tables<'_>,
+    tables: &SymbolTable<'_>,
     names: &NameIndex<'_>,
     number: usize,
     attribute: &Attribute,
@@ -231,7 +232,7 @@ fn hostless(names: &NameIndex<'_>, name: &Name) -> Option<Fault>
 /// The first fault of a backend.
 pub fn backend_fault(
     alloc: Global,
-    tables: &Tables<'_>,
+    tables: &SymbolTable<'_>,
     name: &Name,
     attributes: &[Attribute],
 ) -> Result<Option<Fault>, AllocError>
@@ -243,7 +244,7 @@ pub fn backend_fault(
 
 fn among_members(
     alloc: Global,
-    tables: &Tables<'_>,
+    tables: &SymbolTable<'_>,
     names: &NameIndex<'_>,
     first: Option<Fault>,
     attributes: &[Attribute],

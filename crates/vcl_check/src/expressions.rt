@@ -8,17 +8,17 @@ ghost use Rattle.vcl_check.specs.Roles as role;
 ghost use Rattle.vcl_check.specs.Roles.{form_of};
 
 use crate::form::{Form, Use};
-use crate::known::Tables;
 use crate::seen::{Literal, Told};
 use crate::told::{faultless, tied, told_name};
 use crate::views::{at_place, integer_weight, weight_seen, written};
 use vcl_language::Subroutine;
+use vcl_symbols::SymbolTable;
 use vcl_tree::{Addend, Addition, Expression, Operation};
 use vcl_values::Kind;
 
 /// What is told of an expression that is read, in the subroutines from which it is reached.
 #[cycle(expression)]
-pub fn expression(tables: &Tables<'_>, roots: &[Subroutine], e: &Expression) -> Told
+pub fn expression(tables: &SymbolTable<'_>, roots: &[Subroutine], e: &Expression) -> Told
     ensures { result ≡ told_of tables.now roots.now role.Value e.now }
 {
     match &e.operation {
@@ -57,7 +57,7 @@ pub fn expression(tables: &Tables<'_>, roots: &[Subroutine], e: &Expression) -> 
 // What is told of operands of truth, whichever of the two signs ties them.
 #[cycle(expression)]
 fn junction(
-    tables: &Tables<'_>,
+    tables: &SymbolTable<'_>,
     roots: &[Subroutine],
     first: &Expression,
     second: &Expression,
@@ -79,7 +79,7 @@ fn junction(
 // What is told of a sum.
 #[cycle(expression)]
 fn sum(
-    tables: &Tables<'_>,
+    tables: &SymbolTable<'_>,
     roots: &[Subroutine],
     first: &Expression,
     second: &Addend,
@@ -99,7 +99,11 @@ fn sum(
 
 /// What is told of arguments.
 #[cycle(expression)]
-pub fn arguments_of(tables: &Tables<'_>, roots: &[Subroutine], arguments: &[Expression]) -> Told
+pub fn arguments_of(
+    tables: &SymbolTable<'_>,
+    roots: &[Subroutine],
+    arguments: &[Expression],
+) -> Told
     ensures { result ≡ told_of tables.now roots.now role.Arguments (list_of arguments.now) }
 {
     let mut told = faultless(at_place(0));

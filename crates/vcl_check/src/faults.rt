@@ -1,5 +1,6 @@
 // The first fault of a whole text.
 ghost use Rattle.std.specs.Prelude.{◌≡◌, ◌≤◌, None, IfOk, length};
+ghost use Rattle.vcl_check.specs.Acls.{with_acl, with_acls, acls_in};
 ghost use Rattle.vcl_check.specs.Declarations.{declarations, known_of, names_of};
 ghost use Rattle.vcl_check.specs.Reaching.{numbered_names};
 ghost use Rattle.vcl_check.specs.Folded.{numbered};
@@ -9,16 +10,16 @@ ghost use Rattle.vcl_check.specs.Texts.{says, pattern_texts, refused_at, is_back
 
 use crate::acls::acl_fault;
 use crate::attributes::{backend_fault, probe_fault};
-use crate::declarations::{declarations, tables_of, twice_among, unknown_among};
-use crate::known::Tables;
-use crate::mentions::{Mention, mentions};
+use crate::declarations::{declarations, symbol_table, twice_declared, unknown_among};
+use crate::mentions::{Mention, says};
 use crate::patterns::try_patterns;
 use crate::reaching::{graph_of, numbers_of, roots_of, rows_of};
 use crate::statements::block;
 use crate::told::{fault_at, lesser};
+use acl_match::Acl;
 use std::alloc::{AllocError, Global};
 use units::{Sequence, out_of_memory};
-use vcl_symbols::NameIndex;
+use vcl_symbols::{NameIndex, SymbolTable};
 use vcl_tree::{Block, Fault, Item, Refusal};
 use vcl_values::Pattern;
 use vmod_host::Stored;
@@ -26,7 +27,7 @@ use vmod_host::Stored;
 #[tactic(auto, unfolding(crate::specs::Items::block_told))]
 fn block_told(
     alloc: Global,
-    tables: &Tables<'_>,
+    tables: &SymbolTable<'_>,
     numbers: &NameIndex<'_>,
     rows: &[Sequence<bool>],
     name: &[u8],
@@ -43,12 +44,14 @@ ghost use Rattle.vcl_check.specs.Items.{block_told};
 
 fn item_told(
     alloc: Global,
-    tables: &Tables<'_>,
+    tables: &SymbolTable<'_>,
     numbers: &NameIndex<'_>,
     rows: &[Sequence<bool>],
     item: &Item,
+    acls: &mut Vec<Acl>,
 ) -> Result<Option<Fault>, AllocError>
-    ensures { IfOk result (λ found. found ≡ of_item tables.now numbers.now rows.now item.now) }
+    ensures told { IfOk result (λ found. found ≡ of_item tables.now numbers.now rows.now item.now) }
+    ensures acls { IfOk result (λ found. found ≡ None → acls.new.items ≡ with_acl acls.old.items item.now) }
 {
     match item {
         Item::Import(_, _) => Ok(None),
@@ -57,7 +60,7 @@ fn item_told(
             backend_fault(alloc, tables, name, attributes.as_slice())
         }
         Item::Probe(_, _, attributes) => probe_fault(alloc, tables, attributes.as_slice()),
-        Item::Acl(_, _, entries) => acl_fault(alloc, entries.as_slice()),
+        Item::Acl(_, _, entries) => acl_fault(alloc, entries.as_slice(), acls),
         Item::Sub(_, name, statements) => {
             block_told(alloc, tables, numbers, rows, name.text.bytes(), statements)
         }
@@ -66,16 +69,19 @@ fn item_told(
 
 fn among_items(
     alloc: Global,
-    tables: &Tables<'_>,
+    tables: &SymbolTable<'_>,
     numbers: &NameIndex<'_>,
     rows: &[Sequence<bool>],
     items: &[Item],
+    acls: &mut Vec<Acl>,
 ) -> Result<Option<Fault>, AllocError>
-    ensures { IfOk result (λ found. found ≡ numbered (item_told tables.now numbers.now rows.now) 0 None items.now) }
+    ensures told { IfOk result (λ found. found ≡ numbered (item_told tables.now numbers.now rows.now) 0 None items.now) }
+    ensures acls { IfOk result (λ found. found ≡ None → acls.new.items ≡ with_acls acls.old.items items.now) }
 {
     let mut best = None;
     for item in items {
-        best = lesser(best, item_told(alloc, tables, numbers, rows, item)?);
+        let found = item_told(alloc, tables, numbers, rows, item, acls)?;
+        best = lesser(best, found);
     }
     Ok(best)
 }
@@ -90,11 +96,18 @@ fn among_refused(places: &[u32]) -> Option<Fault>
     best
 }
 
-/// What is found of a text: its first fault other than that no backend is declared, and the patterns that its strings are.
+/// What is found of a text: its first fault other than that no backend is declared, and what is built of its strings.
 #[derive(Drop)]
 pub struct Found {
     pub fault: Option<Fault>,
+    pub built: Built,
+}
+
+/// The patterns and the address lists that strings of a text are, in its order.
+#[derive(Drop)]
+pub struct Built {
     pub patterns: Vec<Pattern>,
+    pub acls: Vec<Acl>,
 }
 
 /// What the names of a text are, for all that is asked of them.
@@ -102,7 +115,7 @@ pub struct Found {
 struct Names<'t> {
     said: Vec<Mention<'t>>,
     declared: Vec<Mention<'t>>,
-    tables: Tables<'t>,
+    tables: SymbolTable<'t>,
     numbers: NameIndex<'t>,
 }
 
@@ -117,11 +130,11 @@ fn names_in<'t>(
     ensures numbers { IfOk result (λ names. names.numbers ≡ numbered_names (names_of names.declared.items)) }
     ensures long { IfOk result (λ names. 13 ≤ length names.numbers) }
 {
-    let said = mentions(alloc, items)?;
+    let said = says(alloc, items)?;
     let Ok(declared) = declarations(alloc, said.as_slice()) else {
         return Err(out_of_memory(said));
     };
-    let Ok(tables) = tables_of(alloc, said.as_slice(), stored) else {
+    let Ok(tables) = symbol_table(alloc, said.as_slice(), stored) else {
         return Err(out_of_memory((said, declared)));
     };
     let Ok(numbers) = numbers_of(alloc, declared.as_slice()) else {
@@ -142,7 +155,8 @@ pub fn first_fault<'t>(
     stored: &'t [Stored],
 ) -> Result<Found, AllocError>
     ensures first { IfOk result (λ found. IsFirstFault items.now stored.now found.fault) }
-    ensures patterns { IfOk result (λ found. found.fault ≡ None → found.patterns.items ≡ pattern_texts (says items.now)) }
+    ensures patterns { IfOk result (λ found. found.fault ≡ None → found.built.patterns.items ≡ pattern_texts (says items.now)) }
+    ensures acls { IfOk result (λ found. found.fault ≡ None → found.built.acls.items ≡ acls_in items.now) }
 {
     let names = names_in(alloc, items, stored)?;
     let found = found_by(alloc, items, stored, &names);
@@ -163,7 +177,8 @@ fn found_by(
     requires numbers { names.now.numbers ≡ numbered_names (names_of names.now.declared.items) }
     requires long { 13 ≤ length names.now.numbers }
     ensures first { IfOk result (λ found. IsFirstFault items.now stored.now found.fault) }
-    ensures patterns { IfOk result (λ found. found.fault ≡ None → found.patterns.items ≡ pattern_texts (says items.now)) }
+    ensures patterns { IfOk result (λ found. found.fault ≡ None → found.built.patterns.items ≡ pattern_texts (says items.now)) }
+    ensures acls { IfOk result (λ found. found.fault ≡ None → found.built.acls.items ≡ acls_in items.now) }
 {
     let said = names.said.as_slice();
     let declared = names.declared.as_slice();
@@ -176,20 +191,27 @@ fn found_by(
     };
     drop(graph);
     let rows = reached.as_slice();
-    let Ok(inside) = among_items(alloc, &names.tables, &names.numbers, rows, items) else {
-        return Err(out_of_memory(reached));
+    let mut acls = Vec::new(alloc);
+    let Ok(inside) = among_items(alloc, &names.tables, &names.numbers, rows, items, &mut acls)
+    else {
+        return Err(out_of_memory((reached, acls)));
     };
     drop(reached);
-    let tried = try_patterns(alloc, said)?;
+    let Ok(tried) = try_patterns(alloc, said) else {
+        return Err(out_of_memory(acls));
+    };
     let unknown = unknown_among(stored, said);
-    let twice = twice_among(names.tables.names(), declared);
+    let twice = twice_declared(&names.tables, declared);
     let circle = fault_at(Refusal::Recursion, on_circle);
     let refused = among_refused(tried.places.as_slice());
     drop(tried.places);
     let fault = first_of(unknown, twice, inside, circle, refused);
     Ok(Found {
         fault,
-        patterns: tried.patterns,
+        built: Built {
+            patterns: tried.patterns,
+            acls,
+        },
     })
 }
 

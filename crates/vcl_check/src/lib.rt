@@ -24,10 +24,11 @@ mod statements;
 mod told;
 mod views;
 
-pub use acls::{address_of, mask_bits};
+pub use acls::networks;
+pub use declarations::{NameSort, symbol_table};
 pub use form::{Form, Use};
-pub use known::{Tables, Thing};
 pub use laws::sound_keeps;
+pub use mentions::{Mention, MentionKind, is_init, says};
 pub use program::{Program, check};
 pub use seen::{Argument, Arguments, Literal, Meaning, Seen, Sort, Told};
-pub use views::whole_part;
+pub use views::{weight_of_decimal, weight_of_integer};

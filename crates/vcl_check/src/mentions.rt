@@ -34,11 +34,11 @@ pub enum MentionKind {
 /// A name or a string at its place.
 #[derive(Drop)]
 pub struct Mention<'t> {
-    pub(crate) kind: MentionKind,
-    pub(crate) place: u32,
-    pub(crate) name: &'t [u8],
+    pub kind: MentionKind,
+    pub place: u32,
+    pub name: &'t [u8],
     /// An object's maker, or the subroutine that calls.
-    pub(crate) other: &'t [u8],
+    pub other: &'t [u8],
 }
 
 impl<'t> Model for Mention<'t> {
@@ -272,8 +272,8 @@ fn in_statement<'t>(
     }
 }
 
-// Whether a subroutine is the one in which objects are made.
-fn is_init(name: &[u8]) -> bool
+/// Whether a subroutine is the one in which objects are made.
+pub fn is_init(name: &[u8]) -> bool
     ensures { result ≡ is_init name.now }
 {
     name == b"vcl_init".as_slice()
@@ -328,7 +328,7 @@ fn in_item<'t>(out: &mut Vec<Mention<'t>>, item: &'t Item) -> Result<(), AllocEr
 }
 
 /// What the items of a text say of names.
-pub fn mentions(alloc: Global, items: &[Item]) -> Result<Vec<Mention<'_>>, AllocError>
+pub fn says(alloc: Global, items: &[Item]) -> Result<Vec<Mention<'_>>, AllocError>
     ensures { IfOk result (λ out. out.items ≡ with_items [] items.entry.now) }
 {
     let mut out = Vec::new(alloc);

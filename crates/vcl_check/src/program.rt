@@ -1,10 +1,12 @@
 // Sound texts, with what their runs need.
 ghost use Rattle.std.specs.Prelude.{◌≡◌, IfOk, IfErr, OnOk};
+ghost use Rattle.vcl_check.specs.Acls.{acls_in};
 ghost use Rattle.vcl_check.specs.Texts.{says, pattern_texts, IsSound, IsRefused};
 
-use crate::faults::{first_fault, has_backend};
-use crate::mentions::mentions;
+use crate::faults::{Built, first_fault, has_backend};
+use crate::mentions::says;
 use crate::patterns::pattern_texts;
+use acl_match::Acl;
 use std::alloc::{AllocError, Global};
 use units::Sequence;
 use vcl_symbols::NameIndex;
@@ -12,16 +14,17 @@ use vcl_tree::{Refusal, Tree, VclError};
 use vcl_values::Pattern;
 use vmod_host::{Stored, VmodTable};
 
-/// A text that is sound with the stored functions of a table. It keeps the patterns that its strings are, built once; the
-/// functions stay in the table, where each has the number of its entry in `stored`.
+/// A text that is sound with the stored functions of a table. It keeps the patterns and the address lists that its strings
+/// are, built once; the functions stay in the table, where each has the number of its entry in `stored`.
 #[derive(Drop)]
 pub struct Program {
     pub tree: Tree,
     /// The tags and signatures of the table.
     pub stored: Sequence<Stored>,
-    patterns: Vec<Pattern>,
+    built: Built,
     pub ghost sound: { ∥ IsSound tree.items stored ∥₁ },
-    ghost built: { patterns.items ≡ pattern_texts (says tree.items) },
+    ghost patterned: { built.patterns.items ≡ pattern_texts (says tree.items) },
+    ghost listed: { built.acls.items ≡ acls_in tree.items },
 }
 
 impl Program {
@@ -29,14 +32,21 @@ impl Program {
     pub fn patterns(&self) -> &[Pattern]
         ensures { result.now ≡ pattern_texts (says self.now.tree.items) }
     {
-        self.patterns.as_slice()
+        self.built.patterns.as_slice()
+    }
+
+    /// The address lists that ACLs of the text are, in its order.
+    pub fn acls(&self) -> &[Acl]
+        ensures { result.now ≡ acls_in self.now.tree.items }
+    {
+        self.built.acls.as_slice()
     }
 
     /// The texts of these patterns: one that is found in it has the number of its first pattern.
     pub fn pattern_texts(&self, alloc: Global) -> Result<NameIndex<'_>, AllocError>
         ensures { IfOk result (λ texts. texts ≡ pattern_texts (says self.entry.now.tree.items)) }
     {
-        let mentioned = mentions(alloc, self.tree.items.as_slice())?;
+        let mentioned = says(alloc, self.tree.items.as_slice())?;
         NameIndex::of(alloc, pattern_texts(alloc, mentioned.as_slice())?)
     }
 }
@@ -49,17 +59,17 @@ pub fn check(alloc: Global, tree: Tree, vmods: &VmodTable) -> Result<Program, Vc
     ensures sound { OnOk result (IsSound tree.items vmods.now.stored) }
     ensures refused { IfErr result (IsRefused tree.items vmods.now.stored) }
 {
-    let patterns = match patterns_of(alloc, &tree, vmods.stored.as_slice()) {
-        Ok(patterns) => patterns,
+    let built = match built_of(alloc, &tree, vmods.stored.as_slice()) {
+        Ok(built) => built,
         Err(why) => return Err(given_up(tree, why)),
     };
     match entries_of(alloc, vmods.stored.as_slice()) {
         Ok(stored) => Ok(Program {
             tree,
             stored,
-            patterns,
+            built,
         }),
-        Err(_) => Err(given_up((tree, patterns), VclError::NoMemory)),
+        Err(_) => Err(given_up((tree, built), VclError::NoMemory)),
     }
 }
 
@@ -70,10 +80,11 @@ fn given_up<V: Drop>(_held: V, why: VclError) -> VclError
     why
 }
 
-// The patterns of a text that is sound.
-fn patterns_of(alloc: Global, tree: &Tree, stored: &[Stored]) -> Result<Vec<Pattern>, VclError>
+// What is built of the strings of a text that is sound.
+fn built_of(alloc: Global, tree: &Tree, stored: &[Stored]) -> Result<Built, VclError>
     ensures sound { OnOk result (IsSound tree.now.items stored.now) }
-    ensures patterns { IfOk result (λ patterns. patterns.items ≡ pattern_texts (says tree.now.items)) }
+    ensures patterns { IfOk result (λ built. built.patterns.items ≡ pattern_texts (says tree.now.items)) }
+    ensures acls { IfOk result (λ built. built.acls.items ≡ acls_in tree.now.items) }
     ensures refused { IfErr result (IsRefused tree.now.items stored.now) }
 {
     let items = tree.items.as_slice();
@@ -88,7 +99,7 @@ fn patterns_of(alloc: Global, tree: &Tree, stored: &[Stored]) -> Result<Vec<Patt
         }
         None => {
             if has_backend(items) {
-                Ok(found.patterns)
+                Ok(found.built)
             } else {
                 let why = VclError::Refused {
                     kind: Refusal::NoBackend,

@@ -3,12 +3,11 @@ ghost use Rattle.std.specs.Prelude.{◌≡◌, ◌∷◌, ◌++◌, ◌<◌, [],
 ghost use Rattle.vcl_symbols.specs.Calls.{AreWithin};
 ghost use Rattle.vcl_check.specs.Reaching.{numbered_names, number_in, is_subroutine, callee, call_of, calls_of, AreReached, marking, reaching, roots_of};
 
-use crate::known::{Tables, Thing};
 use crate::mentions::{Mention, MentionKind};
 use std::alloc::{AllocError, Global};
 use units::Sequence;
 use vcl_language::{SUBROUTINE_NAMES, SUBROUTINES, Subroutine, is_reserved, subroutine_named};
-use vcl_symbols::{Call, CallGraph, NameIndex};
+use vcl_symbols::{Call, CallGraph, NameIndex, Symbol, SymbolTable};
 
 fn push_names<'t>(out: &mut Vec<&'t [u8]>, names: &[&'static str]) -> Result<(), AllocError>
     ensures { OnOk result (map (λ name. name.now) out.new.items ≡ map (λ name. name.now) out.old.items ++ map (λ name. name.now) names.now) }
@@ -19,10 +18,10 @@ fn push_names<'t>(out: &mut Vec<&'t [u8]>, names: &[&'static str]) -> Result<(),
     Ok(())
 }
 
-fn is_subroutine(thing: Option<Thing>) -> bool
-    ensures { result ≡ is_subroutine thing }
+fn is_subroutine(symbol: Option<Symbol>) -> bool
+    ensures { result ≡ is_subroutine symbol }
 {
-    matches!(thing, Some(Thing::Subroutine))
+    matches!(symbol, Some(Symbol::Subroutine(_)))
 }
 
 fn number_in(numbers: &NameIndex<'_>, name: &[u8]) -> Option<usize>
@@ -32,18 +31,18 @@ fn number_in(numbers: &NameIndex<'_>, name: &[u8]) -> Option<usize>
     numbers.find(name)
 }
 
-fn callee(tables: &Tables<'_>, numbers: &NameIndex<'_>, name: &[u8]) -> Option<usize>
+fn callee(tables: &SymbolTable<'_>, numbers: &NameIndex<'_>, name: &[u8]) -> Option<usize>
     ensures value { result ≡ callee tables.now numbers.now name.now }
     ensures within { IfSome result (λ number. number < length numbers.now) }
 {
-    if is_subroutine(tables.thing_named(name)) {
+    if is_subroutine(tables.symbol_named(name)) {
         number_in(numbers, name)
     } else {
         None
     }
 }
 
-fn call_of(tables: &Tables<'_>, numbers: &NameIndex<'_>, mention: &Mention<'_>) -> Option<Call>
+fn call_of(tables: &SymbolTable<'_>, numbers: &NameIndex<'_>, mention: &Mention<'_>) -> Option<Call>
     ensures value { result ≡ call_of tables.now numbers.now mention.now }
     ensures within { IfSome result (λ call. (call.from < length numbers.now) × (call.to < length numbers.now)) }
 {
@@ -67,7 +66,7 @@ fn call_of(tables: &Tables<'_>, numbers: &NameIndex<'_>, mention: &Mention<'_>) 
 
 fn calls_among(
     alloc: Global,
-    tables: &Tables<'_>,
+    tables: &SymbolTable<'_>,
     numbers: &NameIndex<'_>,
     mentions: &[Mention<'_>],
 ) -> Result<Vec<Call>, AllocError>
@@ -109,7 +108,7 @@ fn push_declared<'t>(out: &mut Vec<&'t [u8]>, declared: &[Mention<'t>]) -> Resul
 /// The calls of a text between the subroutines of these numbers.
 pub fn graph_of(
     alloc: Global,
-    tables: &Tables<'_>,
+    tables: &SymbolTable<'_>,
     numbers: &NameIndex<'_>,
     mentions: &[Mention<'_>],
 ) -> Result<CallGraph, AllocError>

@@ -8,16 +8,16 @@ ghost use Rattle.vcl_check.specs.Views.{at_place};
 
 use crate::expressions::{arguments_of, expression};
 use crate::form::{Form, Use};
-use crate::known::Tables;
 use crate::seen::Told;
 use crate::told::{faultless, tied, told_name};
 use crate::views::at_place;
 use vcl_language::Subroutine;
+use vcl_symbols::SymbolTable;
 use vcl_tree::{Action, Block, Branch, Expression, Name, Statement};
 
 /// What is told of a block of statements, in the subroutines from which it is reached.
 #[cycle(statement)]
-pub fn block(tables: &Tables<'_>, roots: &[Subroutine], b: &Block) -> Told
+pub fn block(tables: &SymbolTable<'_>, roots: &[Subroutine], b: &Block) -> Told
     ensures { result ≡ told_of tables.now roots.now role.Block b.now }
 {
     let mut told = faultless(at_place(0));
@@ -28,7 +28,7 @@ pub fn block(tables: &Tables<'_>, roots: &[Subroutine], b: &Block) -> Told
 }
 
 #[cycle(statement)]
-fn statement(tables: &Tables<'_>, roots: &[Subroutine], s: &Statement) -> Told
+fn statement(tables: &SymbolTable<'_>, roots: &[Subroutine], s: &Statement) -> Told
     ensures { result ≡ told_of tables.now roots.now role.Statement s.now }
 {
     match &s.action {
@@ -70,7 +70,7 @@ fn statement(tables: &Tables<'_>, roots: &[Subroutine], s: &Statement) -> Told
 }
 
 #[cycle(statement)]
-fn branch(tables: &Tables<'_>, roots: &[Subroutine], b: &Branch) -> Told
+fn branch(tables: &SymbolTable<'_>, roots: &[Subroutine], b: &Branch) -> Told
     ensures { result ≡ told_of tables.now roots.now role.Branch b.now }
 {
     let condition = expression(tables, roots, &b.condition);
@@ -82,14 +82,14 @@ fn branch(tables: &Tables<'_>, roots: &[Subroutine], b: &Branch) -> Told
     )
 }
 
-fn named(tables: &Tables<'_>, roots: &[Subroutine], by: Use, name: &Name) -> Told
+fn named(tables: &SymbolTable<'_>, roots: &[Subroutine], by: Use, name: &Name) -> Told
     ensures { result ≡ told_of tables.now roots.now (role.Name by) (name_of name.now) }
 {
     told_name(tables, roots, by, name.place, name.text.bytes())
 }
 
 fn assignment(
-    tables: &Tables<'_>,
+    tables: &SymbolTable<'_>,
     roots: &[Subroutine],
     by: Use,
     name: &Name,
@@ -106,7 +106,13 @@ fn assignment(
 }
 
 // A statement of a name that stands in traffic alone.
-fn ordinary(tables: &Tables<'_>, roots: &[Subroutine], by: Use, place: u32, name: &Name) -> Told
+fn ordinary(
+    tables: &SymbolTable<'_>,
+    roots: &[Subroutine],
+    by: Use,
+    place: u32,
+    name: &Name,
+) -> Told
     ensures { result ≡ tied roots.now Form.Ordinary (faultless (at_place place)) (told_of tables.now roots.now (role.Name by) (name_of name.now)) }
 {
     let told = named(tables, roots, by, name);
@@ -115,7 +121,7 @@ fn ordinary(tables: &Tables<'_>, roots: &[Subroutine], by: Use, place: u32, name
 
 // A word or a maker with its arguments.
 fn applied(
-    tables: &Tables<'_>,
+    tables: &SymbolTable<'_>,
     roots: &[Subroutine],
     by: Use,
     name: &Name,
@@ -134,7 +140,7 @@ fn applied(
 
 // An object's name, and its maker with arguments.
 fn object(
-    tables: &Tables<'_>,
+    tables: &SymbolTable<'_>,
     roots: &[Subroutine],
     name: &Name,
     maker: &Name,
@@ -147,7 +153,12 @@ fn object(
 }
 
 // A function that is called as a statement.
-fn run(tables: &Tables<'_>, roots: &[Subroutine], name: &Name, arguments: &[Expression]) -> Told
+fn run(
+    tables: &SymbolTable<'_>,
+    roots: &[Subroutine],
+    name: &Name,
+    arguments: &[Expression],
+) -> Told
     ensures { result ≡ told_of tables.now roots.now role.Statement (Node Called (name_of name.now) (list_of arguments.now)) }
 {
     let function = named(tables, roots, Use::Function, name);

@@ -3,13 +3,14 @@ ghost use Rattle.std.specs.Prelude.{◌≡◌};
 ghost use Rattle.vcl_check.specs.Least.{fault_at, lesser, own_fault, tied, of_name, told_name, faultless};
 
 use crate::form::{Form, Use};
-use crate::known::Tables;
+use crate::known::meaning_of;
 use crate::rules::names::{is_known, may_be_used};
 use crate::rules::parts::{misfit, misplaced, unwritten_in};
 use crate::rules::unless;
 use crate::seen::{Meaning, Seen, Told};
 use crate::views::{name_seen, seen_together};
 use vcl_language::Subroutine;
+use vcl_symbols::SymbolTable;
 use vcl_tree::{Fault, Refusal};
 
 /// The fault that is told first.
@@ -90,7 +91,7 @@ fn of_name(roots: &[Subroutine], by: Use, place: u32, meaning: Meaning) -> Told
 /// A name by what it is used for.
 #[tactic(auto, unfolding(crate::specs::Least::told_name))]
 pub fn told_name(
-    tables: &Tables<'_>,
+    tables: &SymbolTable<'_>,
     roots: &[Subroutine],
     by: Use,
     place: u32,
@@ -98,5 +99,5 @@ pub fn told_name(
 ) -> Told
     ensures { result ≡ told_name tables.now roots.now by place name.now }
 {
-    of_name(roots, by, place, tables.meaning_of(by, name))
+    of_name(roots, by, place, meaning_of(tables, by, name))
 }

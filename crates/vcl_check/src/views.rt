@@ -1,6 +1,6 @@
 // What is seen of a part by what it belongs to.
 ghost use Rattle.std.specs.Prelude.{◌≡◌};
-ghost use Rattle.vcl_check.specs.Views.{at_place, of_sort, written, sort_of, name_seen, given_sort, call_sort, whole_part, weight, integer_weight, decimal_weight, weight_seen, argument_of, seen_together};
+ghost use Rattle.vcl_check.specs.Views.{at_place, of_sort, written, sort_of, name_seen, given_sort, call_sort, whole_part, weight_of_integer, weight_of_decimal, weight, integer_weight, decimal_weight, weight_seen, argument_of, seen_together};
 
 use crate::form::Form;
 use crate::rules::{difference_sort, grouped_sort, sum_sort, with_argument};
@@ -87,13 +87,35 @@ fn call_sort(meaning: Meaning) -> Sort
     }
 }
 
-fn weight(fits: bool) -> Literal
-    ensures { result ≡ weight fits }
+/// The weight that an integer gives, from 1 to 1,000.
+pub fn weight_of_integer(number: i64) -> Option<u32>
+    ensures { result ≡ weight_of_integer number }
 {
-    if fits {
-        Literal::Weight
+    if 0 < number && number < 1001 {
+        Some(number as u32)
     } else {
-        Literal::Other
+        None
+    }
+}
+
+/// The weight that a decimal gives, from 1 to 1,000.
+pub fn weight_of_decimal(digits: &[u8]) -> Option<u32>
+    ensures { result ≡ weight_of_decimal digits.now }
+{
+    let number = whole_part(digits);
+    if 1 <= number && number <= 1000 {
+        Some(number)
+    } else {
+        None
+    }
+}
+
+fn weight(found: Option<u32>) -> Literal
+    ensures { result ≡ weight found }
+{
+    match found {
+        Some(_) => Literal::Weight,
+        None => Literal::Other,
     }
 }
 
@@ -101,15 +123,14 @@ fn weight(fits: bool) -> Literal
 pub fn integer_weight(number: i64) -> Literal
     ensures { result ≡ integer_weight number }
 {
-    weight(0 < number && number < 1001)
+    weight(weight_of_integer(number))
 }
 
 // Whether a decimal may be a weight.
 fn decimal_weight(digits: &[u8]) -> Literal
     ensures { result ≡ decimal_weight digits.now }
 {
-    let number = whole_part(digits);
-    weight(1 <= number && number <= 1000)
+    weight(weight_of_decimal(digits))
 }
 
 /// A decimal, which may be a weight.
@@ -123,8 +144,8 @@ pub fn weight_seen(place: u32, digits: &[u8]) -> Seen
     }
 }
 
-/// The number that the digits before a point spell, where one over 1,000 counts as 1,001.
-pub fn whole_part(digits: &[u8]) -> u32
+// The number that the digits before a point spell, where one over 1,000 counts as 1,001.
+fn whole_part(digits: &[u8]) -> u32
     ensures { result ≡ whole_part 0 digits.now }
 {
     let mut number = 0;

@@ -14,7 +14,7 @@ use Rattle.vcl_code.specs.declared.node.Node.{Node as Made}
 use Rattle.vcl_code.specs.declared.node.Node.TheVariants as node
 use Rattle.vcl_code.specs.declared.node.Arguments.TheVariants.{Zero}
 use Rattle.vcl_code.specs.Arenas.{Numbered, at, with_node, two}
-use Rattle.vcl_code.specs.Names.{Known}
+use Rattle.vcl_symbols.specs.Known.{Known}
 use Rattle.vcl_code.specs.Expressions.{numbered, numbered_arguments, Given, given, one_more, joined, label_of, operands_of, summed, second_string, string_of}
 
 -- a node of two parts that were numbered one after the other

@@ -10,7 +10,7 @@ use Rattle.vcl_code.specs.declared.node.Block.TheVariants.{Then}
 use Rattle.vcl_code.specs.declared.node.Choice.{Choice}
 use Rattle.vcl_code.specs.declared.node.Choice.TheVariants as choice
 use Rattle.vcl_code.specs.Arenas.{Numbered, at, with_block, with_branch}
-use Rattle.vcl_code.specs.Names.{Known}
+use Rattle.vcl_symbols.specs.Known.{Known}
 use Rattle.vcl_code.specs.Statements.{acted, Acts, acts, one_act_more, Arms, arms_in, with_more_arms, Chosen, chosen, branch, with_chain, with_arms, if_acted, action_of, arms_of, arm_of, actions_of}
 
 -- the last action of a chain is put in first

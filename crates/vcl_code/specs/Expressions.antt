@@ -20,7 +20,8 @@ use Rattle.vcl_tree.specs.declared.expression.Addition.TheVariants.{Plus, Minus}
 use Rattle.vcl_code.specs.declared.node.Arguments.{Arguments}
 use Rattle.vcl_code.specs.declared.node.Arguments.TheVariants.{Zero, One, Two, Three, More as TooMany}
 use Rattle.vcl_code.specs.Arenas.{Numbered, with_node, with_text, with_pattern, one, two}
-use Rattle.vcl_code.specs.Names.{Known, Plain, Field, NoTarget, Read, OfTarget, Truth, Backend, NoRead, read_of, acl_of, callee_of}
+use Rattle.vcl_symbols.specs.Known.{Known}
+use Rattle.vcl_code.specs.Names.{Plain, Field, NoTarget, Read, OfTarget, Truth, Backend, NoRead, read_of, acl_of, callee_of}
 
 abbrev pub absent : Arena → Numbered
 absent a = with_node node.Absent a

@@ -17,7 +17,8 @@ use Rattle.vcl_code.specs.declared.node.ReturnWord.{ReturnWord}
 use Rattle.vcl_code.specs.declared.node.Arguments.{Arguments}
 use Rattle.vcl_code.specs.declared.node.Arguments.TheVariants.{Zero, One}
 use Rattle.vcl_code.specs.Arenas.{Numbered, at, with_block, with_branch, with_text}
-use Rattle.vcl_code.specs.Names.{Known, Target, Plain, Field, NoTarget, target_of, subroutine_of, word_of, callee_of}
+use Rattle.vcl_symbols.specs.Known.{Known}
+use Rattle.vcl_code.specs.Names.{Target, Plain, Field, NoTarget, target_of, subroutine_of, word_of, callee_of}
 use Rattle.vcl_code.specs.Expressions.{numbered, numbered_arguments, second_string, Given, called}
 
 -- a statement's action, and the lists behind it

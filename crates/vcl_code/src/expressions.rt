@@ -8,10 +8,11 @@ ghost use Rattle.vcl_code.specs.Expressions.{numbered, numbered_arguments, opera
 
 use crate::arena::Arena;
 use crate::callees::Builtin;
-use crate::names::{Callee, Names, Read, Target};
+use crate::names::{Callee, Read, Target, acl_of, callee_of, read_of};
 use crate::node::{Arguments, Node};
 use std::alloc::{AllocError, Global};
 use units::Text;
+use vcl_symbols::SymbolTable;
 use vcl_tree::{Addend, Addition, Comparison as Asked, Expression, Operation};
 use vcl_values::Comparison;
 
@@ -22,7 +23,7 @@ impl Arena {
     pub fn expression(
         &mut self,
         alloc: Global,
-        names: &Names<'_>,
+        names: &SymbolTable<'_>,
         e: &Expression,
     ) -> Result<usize, AllocError>
         ensures { IfOk result (λ number. numbered names.now e.now self.old ≡ at number self.new) }
@@ -54,11 +55,11 @@ impl Arena {
             Operation::Integer(_, number) => self.push_node(Node::Int(*number)),
             Operation::Weight(_, _) => self.push_node(Node::Absent),
             Operation::Duration(_, time) => self.push_node(Node::Duration(*time)),
-            Operation::Name(_, name) => self.push_read(alloc, names.read_of(name.bytes())),
+            Operation::Name(_, name) => self.push_read(alloc, read_of(names, name.bytes())),
             Operation::Call(_, name, arguments) => {
                 let given = self.arguments(alloc, names, arguments)?;
                 let second = second_string(arguments);
-                self.push_call(names.callee_of(name.bytes()), second, given)
+                self.push_call(callee_of(names, name.bytes()), second, given)
             }
         }
     }
@@ -68,7 +69,7 @@ impl Arena {
     fn junction(
         &mut self,
         alloc: Global,
-        names: &Names<'_>,
+        names: &SymbolTable<'_>,
         junction: Junction,
         first: &Expression,
         second: &Expression,
@@ -91,7 +92,7 @@ impl Arena {
     fn sum(
         &mut self,
         alloc: Global,
-        names: &Names<'_>,
+        names: &SymbolTable<'_>,
         first: &Expression,
         second: &Addend,
         others: &[Addend],
@@ -113,7 +114,7 @@ impl Arena {
     pub(crate) fn arguments(
         &mut self,
         alloc: Global,
-        names: &Names<'_>,
+        names: &SymbolTable<'_>,
         arguments: &[Expression],
     ) -> Result<Arguments, AllocError>
         ensures { IfOk result (λ arguments'. numbered_arguments names.now (list_of arguments.now) self.old ≡ given arguments' self.new) }
@@ -151,7 +152,7 @@ impl Arena {
     // An operand with what it is matched with.
     fn push_match(
         &mut self,
-        names: &Names<'_>,
+        names: &SymbolTable<'_>,
         truth: bool,
         operand: usize,
         with: &Expression,
@@ -163,7 +164,7 @@ impl Arena {
                 let pattern = self.push_pattern(source.copy()?)?;
                 self.push_node(Node::Matches(operand, pattern, truth))
             }
-            Operation::Name(_, name) => match names.acl_of(name.bytes()) {
+            Operation::Name(_, name) => match acl_of(names, name.bytes()) {
                 Some(acl) => self.push_node(Node::InAcl(operand, acl, truth)),
                 None => self.push_node(Node::Absent),
             },

@@ -15,5 +15,5 @@ mod statements;
 
 pub use arena::Arena;
 pub use callees::{Builtin, all_callees, builtin_of, word_of};
-pub use names::{Callee, Names, Read, Target, Thing, target_of};
+pub use names::{Callee, Read, Target, acl_of, callee_of, read_of, subroutine_of, target_of};
 pub use node::{Action, Arguments, Arm, Block, Branch, Choice, Node, ReturnWord};

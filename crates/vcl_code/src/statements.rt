@@ -10,10 +10,11 @@ ghost use Rattle.vcl_code.specs.Statements.{acted, acts, arms_in, with_chain, if
 use crate::arena::Arena;
 use crate::callees::{Builtin, word_of};
 use crate::expressions::second_string;
-use crate::names::{Callee, Names, Target, target_of};
+use crate::names::{Callee, Target, callee_of, subroutine_of, target_of};
 use crate::node::{Action, Arguments, Arm, Block, Branch, Choice, ReturnWord};
 use std::alloc::{AllocError, Global};
 use units::Text;
+use vcl_symbols::SymbolTable;
 use vcl_tree::{Action as Written, Block as WrittenBlock, Branch as WrittenBranch, Statement};
 
 impl Arena {
@@ -22,7 +23,7 @@ impl Arena {
     pub fn block(
         &mut self,
         alloc: Global,
-        names: &Names<'_>,
+        names: &SymbolTable<'_>,
         block: &WrittenBlock,
         next: usize,
     ) -> Result<usize, AllocError>
@@ -37,7 +38,7 @@ impl Arena {
     fn actions(
         &mut self,
         alloc: Global,
-        names: &Names<'_>,
+        names: &SymbolTable<'_>,
         block: &WrittenBlock,
     ) -> Result<Vec<Action>, AllocError>
         ensures { IfOk result (λ actions. actions_of names.now block.now self.old ≡ acts actions.items self.new) }
@@ -56,7 +57,7 @@ impl Arena {
     fn arm(
         &mut self,
         alloc: Global,
-        names: &Names<'_>,
+        names: &SymbolTable<'_>,
         branch: &WrittenBranch,
     ) -> Result<Arm, AllocError>
         ensures { IfOk result (λ first. arm_of names.now branch.now self.old ≡ arms_in (first ∷ []) self.new) }
@@ -72,7 +73,7 @@ impl Arena {
     fn statement(
         &mut self,
         alloc: Global,
-        names: &Names<'_>,
+        names: &SymbolTable<'_>,
         statement: &Statement,
     ) -> Result<Action, AllocError>
         ensures { IfOk result (λ action. action_of names.now statement.now self.old ≡ acted action self.new) }
@@ -87,7 +88,7 @@ impl Arena {
                 self.append_action(alloc, target_of(name.text.bytes()), number)
             }
             Written::Unset(_, name) => self.unset_action(alloc, target_of(name.text.bytes())),
-            Written::Call(_, name) => Ok(call_action(names.subroutine_of(name.text.bytes()))),
+            Written::Call(_, name) => Ok(call_action(subroutine_of(names, name.text.bytes()))),
             Written::New(_, _, _, _) => Ok(Action::Absent),
             Written::Return(_, word) => {
                 Ok(return_action(word_of(word.text.bytes()), Arguments::Zero))
@@ -99,7 +100,7 @@ impl Arena {
             Written::Run(name, arguments) => {
                 let given = self.arguments(alloc, names, arguments.as_slice())?;
                 let second = second_string(arguments.as_slice());
-                self.perform(names.callee_of(name.text.bytes()), second, given)
+                self.perform(callee_of(names, name.text.bytes()), second, given)
             }
             Written::If(_, first, others, otherwise) => {
                 let mut arms = Vec::new(alloc);

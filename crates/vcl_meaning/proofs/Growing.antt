@@ -16,7 +16,8 @@ use Rattle.vcl_code.specs.declared.node.Choice.{Choice}
 use Rattle.vcl_code.specs.declared.node.Choice.TheVariants as choice
 use Rattle.vcl_code.specs.declared.node.ReturnWord.{ReturnWord}
 use Rattle.vcl_code.specs.Arenas.{Numbered}
-use Rattle.vcl_code.specs.Names.{Known, Target, Plain, Field, NoTarget, target_of, subroutine_of, word_of, callee_of}
+use Rattle.vcl_symbols.specs.Known.{Known}
+use Rattle.vcl_code.specs.Names.{Target, Plain, Field, NoTarget, target_of, subroutine_of, word_of, callee_of}
 use Rattle.vcl_code.specs.Expressions.{numbered, numbered_arguments, second_string, Given}
 use Rattle.vcl_code.specs.Statements.{Acts, Arms, branch, with_chain, chained, with_arms, with_more_arms, if_acted, else_acted, set_acted, append_acted, unset_acted, call_acted, return_acted, with_one, performed, action_of, arms_of, arm_of, actions_of, numbered_block}
 use Rattle.vcl_operands.specs.Later.{Later}

@@ -16,11 +16,12 @@ use Rattle.vcl_context.specs.declared.context.Context.{Context}
 use Rattle.vcl_code.specs.declared.arena.Arena.{Arena}
 use Rattle.vcl_code.specs.declared.node.Block.TheVariants.{End}
 use Rattle.vcl_code.specs.Arenas.{empty, Numbered}
-use Rattle.vcl_code.specs.Names.{Known}
+use Rattle.vcl_symbols.specs.Known.{Known}
 use Rattle.vcl_code.specs.Statements.{numbered_block}
 use Rattle.vcl_program.specs.declared.code.Code.{Code}
 use Rattle.vcl_program.specs.Blocks.{Heads, heads, own_block, with_own, all_own, no_bodies, in_front, body, with_body, all_bodies}
-use Rattle.vcl_program.specs.Codes.{known_of, own_of, built_in_of, code_of}
+use Rattle.vcl_check.specs.Sentences.{known_in}
+use Rattle.vcl_program.specs.Codes.{own_of, built_in_of, code_of}
 use Rattle.vcl_context.specs.declared.turn.Answer.{Answer}
 use Rattle.vcl_operands.specs.Falls.{Falls, ChoicesFall}
 use Rattle.vcl_operands.specs.Later.{Later}
@@ -243,7 +244,7 @@ reading items stored nodes choices = record {
   text = text_of items stored;
   nodes = nodes;
   choices = choices;
-  ended = get-later empty.blocks (code_of items stored).arena.blocks 0 End (text-later (known_of items stored) items).blocks refl;
+  ended = get-later empty.blocks (code_of items stored).arena.blocks 0 End (text-later (known_in items stored) items).blocks refl;
   scenes = λ c. refl;
 }
 
@@ -252,7 +253,7 @@ pub run-is : (items : List Item) (stored : List Stored) → Falls (code_of items
 unfolding run_of reading
 run-is items stored nodes choices z c answers =
     let r : Reading = reading items stored nodes choices in
-    let known : Known = known_of items stored in
+    let known : Known = known_in items stored in
     let front : Heads = own_of known items in
     let own : AreBodies r r.code.customs r.text.own =
     own-are r items (heads [] empty) [] (all-bodies-later known items (heads no_bodies front.arena)) tt in

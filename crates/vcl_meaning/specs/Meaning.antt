@@ -5,6 +5,8 @@ use Rattle.vcl_tree.specs.Phrase as phrase
 use Rattle.vcl_tree.specs.Phrase.{Phrase, Node, Named, More, Bound, Called, Set, Append, Unset, Jump, Return, If, ElseIf, Else}
 use Rattle.vcl_tree.specs.declared.item.Item.{Item}
 use Rattle.vcl_tree.specs.declared.item.Item.TheVariants as item
+use Rattle.acl_match.specs.declared.entry.AclEntry.{AclEntry}
+use Rattle.vcl_values.specs.declared.value.Backend.{Backend}
 use Rattle.vcl_values.specs.declared.value.Value.{Value}
 use Rattle.vcl_values.specs.Values.{truth_of}
 use Rattle.vmod_host.specs.declared.signature.Stored.{Stored}
@@ -14,15 +16,18 @@ use Rattle.vcl_language.specs.declared.scope.Scope.TheVariants.{Init}
 use Rattle.vcl_language.specs.declared.scope.Subroutine.{Subroutine}
 use Rattle.vcl_context.specs.declared.context.Context.{Context}
 use Rattle.vcl_context.specs.Fields.{field_unset}
+use Rattle.vcl_check.specs.Sentences.{known_in}
+use Rattle.vcl_check.specs.Texts.{says}
 use Rattle.vcl_code.specs.declared.callees.Builtin.TheVariants as builtin
 use Rattle.vcl_code.specs.declared.names.Callee.{Callee}
 use Rattle.vcl_code.specs.declared.names.Callee.TheVariants as callee
 use Rattle.vcl_code.specs.declared.node.ReturnWord.{ReturnWord}
-use Rattle.vcl_code.specs.Names.{Known, Target, Plain, Field, NoTarget, target_of, subroutine_of, word_of, callee_of}
+use Rattle.vcl_symbols.specs.Known.{Known}
+use Rattle.vcl_code.specs.Names.{Target, Plain, Field, NoTarget, target_of, subroutine_of, word_of, callee_of}
 use Rattle.vcl_code.specs.Expressions.{second_string}
-use Rattle.vcl_program.specs.declared.declarations.Declarations.{Declarations}
-use Rattle.vcl_program.specs.Declarations.{nothing as undeclared, with_items}
-use Rattle.vcl_program.specs.Codes.{known_of, default_of}
+use Rattle.vcl_program.specs.declared.code.Director.{Director}
+use Rattle.vcl_program.specs.Declarations.{backends_of, acls_of, directors_of}
+use Rattle.vcl_program.specs.Codes.{default_of}
 use Rattle.vcl_context.specs.declared.turn.Answer.{Answer}
 use Rattle.vcl_operands.specs.Outs.{Out, Stuck, and_then, fail, IsSure}
 use Rattle.vcl_operands.specs.Meaning.{Scene, Operand, value_of, operands_of}
@@ -34,7 +39,9 @@ use Rattle.vcl_eval.specs.States.{State, state, Doing, in_state, nothing, set_on
 -- what the names of a text stand for, what it declares, and the bodies of its own subroutines, in its order
 pub record Text : Type 0 where
   pub known : Known
-  pub declared : Declarations
+  pub backends : List Backend
+  pub acls : List (List AclEntry)
+  pub directors : List Director
   pub own : List Phrase
 
 abbrev pub own_body : Item → List Phrase → List Phrase
@@ -46,7 +53,13 @@ own_bodies [] = []
 own_bodies (i ∷ is) = own_body i (own_bodies is)
 
 abbrev pub text_of : List Item → List Stored → Text
-text_of items stored = record { known = known_of items stored; declared = with_items undeclared items; own = own_bodies items }
+text_of items stored = record {
+  known = known_in items stored;
+  backends = backends_of items;
+  acls = acls_of items;
+  directors = directors_of (says items);
+  own = own_bodies items;
+}
 
 -- the bodies of a built-in subroutine, which are one subroutine, in the text's order
 abbrev pub is_body_of : Subroutine → Option Subroutine → Bool
@@ -64,10 +77,10 @@ bodies_of subroutine (i ∷ is) = body_of subroutine i (bodies_of subroutine is)
 -- expressions, with what is done with their values
 abbrev pub scene_in : Text → Context → Scene
 scene_in t c = record {
-  backends = t.declared.backends;
-  default = slice_get t.declared.backends (default_of t.declared.backends);
-  acls = t.declared.acls;
-  directors = t.declared.directors;
+  backends = t.backends;
+  default = slice_get t.backends (default_of t.backends);
+  acls = t.acls;
+  directors = t.directors;
   stored = t.known.stored;
   context = c;
 }

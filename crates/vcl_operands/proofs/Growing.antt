@@ -14,7 +14,8 @@ use Rattle.vcl_code.specs.declared.node.Node.TheVariants as node
 use Rattle.vcl_code.specs.declared.node.Block.{Block}
 use Rattle.vcl_code.specs.declared.node.Branch.{Branch}
 use Rattle.vcl_code.specs.Arenas.{Numbered, with_node, with_block, with_branch, with_text, with_pattern, one, two}
-use Rattle.vcl_code.specs.Names.{Known, Plain, Field, NoTarget, Read, OfTarget, Truth, Backend, NoRead, read_of, acl_of, callee_of}
+use Rattle.vcl_symbols.specs.Known.{Known}
+use Rattle.vcl_code.specs.Names.{Plain, Field, NoTarget, Read, OfTarget, Truth, Backend, NoRead, read_of, acl_of, callee_of}
 use Rattle.vcl_code.specs.Expressions.{numbered, numbered_arguments, read_node, in_acl, matched, ordered_as, asks_match, compared_with, Given, second_string, substitution, xkey, director, called}
 use Rattle.vcl_operands.specs.Later.{Begins, Later}
 

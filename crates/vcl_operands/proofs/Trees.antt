@@ -13,7 +13,8 @@ use Rattle.vcl_code.specs.declared.names.Callee.{Callee}
 use Rattle.vcl_code.specs.declared.names.Callee.TheVariants as callee
 use Rattle.vcl_code.specs.declared.callees.Builtin.TheVariants as builtin
 use Rattle.vcl_code.specs.Arenas.{Numbered, with_node, with_text, with_pattern, one, two}
-use Rattle.vcl_code.specs.Names.{Known, Plain, Field, NoTarget, Read, OfTarget, Truth, Backend, NoRead, read_of, acl_of, callee_of}
+use Rattle.vcl_symbols.specs.Known.{Known}
+use Rattle.vcl_code.specs.Names.{Plain, Field, NoTarget, Read, OfTarget, Truth, Backend, NoRead, read_of, acl_of, callee_of}
 use Rattle.vcl_code.specs.Expressions.{text_node, numbered, numbered_arguments, absent, read_node, in_acl, searched, matched, ordered_as, asks_match, compared_with, Given, with_argument, second_string, substitution, xkey, director, called}
 use Rattle.vcl_context.specs.declared.turn.Answer.{Answer}
 use Rattle.vcl_operands.specs.Outs.{On, Stuck, and_then, known_on, made_on}

@@ -17,7 +17,8 @@ use Rattle.vcl_context.specs.declared.context.Context.{Context}
 use Rattle.vcl_code.specs.declared.callees.Builtin.TheVariants as builtin
 use Rattle.vcl_code.specs.declared.names.Callee.{Callee}
 use Rattle.vcl_code.specs.declared.names.Callee.TheVariants as callee
-use Rattle.vcl_code.specs.Names.{Known, Plain, Field, NoTarget, Read, OfTarget, Truth, Backend as BackendRead, NoRead, read_of, acl_of, callee_of}
+use Rattle.vcl_symbols.specs.Known.{Known}
+use Rattle.vcl_code.specs.Names.{Plain, Field, NoTarget, Read, OfTarget, Truth, Backend as BackendRead, NoRead, read_of, acl_of, callee_of}
 use Rattle.vcl_code.specs.Expressions.{ordered_as, asks_match, second_string}
 use Rattle.vcl_program.specs.declared.code.Code.{Code}
 use Rattle.vcl_program.specs.declared.code.Director.{Director}

@@ -4,7 +4,7 @@ ghost use Rattle.vcl_tree.specs.Phrase.{Phrase};
 ghost use Rattle.vmod_host.specs.declared.signature.Stored.{Stored};
 ghost use Rattle.vcl_context.specs.declared.context.Context.{Context};
 ghost use Rattle.vcl_code.specs.declared.arena.Arena.{Arena};
-ghost use Rattle.vcl_code.specs.Names.{Known};
+ghost use Rattle.vcl_symbols.specs.Known.{Known};
 ghost use Rattle.vcl_code.specs.Expressions.{numbered};
 ghost use Rattle.vcl_context.specs.declared.turn.Answer.{Answer};
 ghost use Rattle.vcl_operands.specs.Falls.{Falls, ChoicesFall};

@@ -23,10 +23,12 @@ use Rattle.vcl_code.specs.declared.callees.Builtin.TheVariants as builtin
 use Rattle.vcl_code.specs.declared.names.Callee.{Callee}
 use Rattle.vcl_code.specs.declared.names.Callee.TheVariants as callee
 use Rattle.vcl_code.specs.Arenas.{Numbered, empty}
-use Rattle.vcl_code.specs.Names.{Known, Target, Plain, Field, NoTarget, target_of, subroutine_of, word_of, callee_of}
+use Rattle.vcl_symbols.specs.Known.{Known}
+use Rattle.vcl_code.specs.Names.{Target, Plain, Field, NoTarget, target_of, subroutine_of, word_of, callee_of}
 use Rattle.vcl_code.specs.Expressions.{numbered, numbered_arguments, second_string, Given, called}
 use Rattle.vcl_code.specs.Statements.{Acts, with_chain, chained, Arms, arms_in, Chosen, branch, with_more_arms, with_arms, if_acted, set_acted, append_acted, unset_acted, call_acted, return_acted, with_one, performed, action_of, arms_of, arm_of, actions_of, numbered_block}
-use Rattle.vcl_program.specs.Codes.{known_of, own_of, code_of}
+use Rattle.vcl_check.specs.Sentences.{known_in}
+use Rattle.vcl_program.specs.Codes.{own_of, code_of}
 use Rattle.vcl_program.specs.Blocks.{Heads, heads, no_bodies, own_block, with_own, all_own, body, with_body, all_bodies}
 use Rattle.vcl_program.specs.Falling.{IsFalling, IsBelow, AllBelow, BranchesFall}
 use Rattle.vcl_program.proofs.Falling.{shift, Step, Gives, expression-step, arguments-step, call-step}
@@ -198,5 +200,5 @@ bodies-all-keep known (i ∷ is) h p = with-body-keeps known i (all_bodies known
 
 pub text-falls : (items : List Item) (stored : List Stored) → Falls (code_of items stored).arena.nodes (code_of items stored).arena.branches
 text-falls items stored =
-    let known : Known = known_of items stored in
+    let known : Known = known_in items stored in
     bodies-all-keep known items (heads no_bodies (own_of known items).arena) (own-all-keep known items (heads [] empty) (tt, tt))

@@ -1,8 +1,7 @@
 mod Falling
 mod FallingBlocks
-mod Found
+pub mod Found
 pub mod Lists
-mod Networks
 mod Patterns
 mod PatternsSaid
-mod SoundLists
+mod AclLists

@@ -10,31 +10,11 @@ use Rattle.vcl_tree.specs.declared.expression.Addition.{Addition}
 use Rattle.vcl_tree.specs.declared.expression.Addition.TheVariants.{Plus, Minus}
 use Rattle.vcl_tree.specs.declared.item.Item.{Item}
 use Rattle.vcl_check.specs.Mentions.{parts}
-use Rattle.vcl_code.specs.Names.{Known}
+use Rattle.vcl_symbols.specs.Known.{Known}
 use Rattle.vcl_program.specs.declared.code.Member.{Member}
-use Rattle.vcl_program.specs.declared.declarations.Declarations.{Declarations}
-use Rattle.vcl_program.specs.Declarations.{with_object, with_objects, one_more}
+use Rattle.vcl_program.specs.Declarations.{one_more}
 use Rattle.vcl_program.specs.Members.{member_of, with_block, backend_in, added_to, added_with}
 use Rattle.vcl_program.specs.Blocks.{Heads, with_body, all_bodies}
-
--- further objects
-abbrev pub further : Declarations → List Phrase → Declarations
-further d [] = d
-further d (p ∷ ps) = further (with_object d p) ps
-
-objects-chain : (d : Declarations) (front : Phrase) (items : List Phrase) → further (with_objects d front) items ≡ with_objects d (chain More front items)
-unfolding with_objects
-objects-chain d front [] = refl
-objects-chain d front (p ∷ ps) = objects-chain d (Node More front p) ps
-
-objects-none : (d : Declarations) → d ≡ with_objects d Nothing
-unfolding with_objects
-objects-none d = refl
-
-pub objects-end : (d after : Declarations) (items : List Phrase) (i : ℕ) → further after (drop i items) ≡ further d items → length items ≤ i
-    → after ≡ with_objects d (list_of items)
-objects-end d after items i h ended =
-    sym (at_drop_all (λ (ps : List Phrase). further after ps) items i ended) ∙ h ∙ ap (λ (s : Declarations). further s items) (objects-none d) ∙ objects-chain d Nothing items
 
 -- further members
 abbrev pub further_members : Known → List Member → List Phrase → List Member
@@ -99,16 +79,7 @@ sum-none known Plus a b [] = refl
 sum-none known Minus a b [] = refl
 sum-none known sign a b (x ∷ xs) = sum-none known x.sign (Node (sum_label sign) a b) x.term xs
 
--- an `if` makes no object and adds no member
-elseif-same : (d : Declarations) (front x : Phrase) (items : List Phrase) → d ≡ with_object d (chain ElseIf (Node ElseIf front x) items)
-elseif-same d front x [] = refl
-elseif-same d front x (p ∷ ps) = elseif-same d (Node ElseIf front x) p ps
-
-pub if-same : (d : Declarations) (sign first : Phrase) (items : List Phrase) (other : Option Phrase) → d ≡ with_object d (with_else (chain ElseIf (Node If sign first) items) other)
-if-same d sign first items (Some block) = refl
-if-same d sign first [] None = refl
-if-same d sign first (p ∷ ps) None = elseif-same d (Node If sign first) p ps
-
+-- an `if` adds no member
 elseif-none : (known : Known) (front x : Phrase) (items : List Phrase) → None ≡ member_of known (chain ElseIf (Node ElseIf front x) items)
 elseif-none known front x [] = refl
 elseif-none known front x (p ∷ ps) = elseif-none known (Node ElseIf front x) p ps

@@ -1,5 +1,5 @@
 -- Each pattern of an expression or a statement in numbers is a string that must be one.
-use Rattle.std.proofs.Common.{◌≡◌, ◌⊎◌, inl, inr, ℕ, ◌-◌, zero, suc, Bool, true, false, length, take, List, [], ◌∷◌, ◌++◌, refl, sym, ap, ◌∙◌, subst, option_and_then, option_map, position, codes, Option, Some, None, slice_get, if◌then◌else◌}
+use Rattle.std.proofs.Common.{◌≡◌, ◌⊎◌, inl, inr, ℕ, ◌-◌, zero, suc, Bool, true, false, List, [], ◌∷◌, ◌++◌, refl, sym, ap, ◌∙◌, subst, option_and_then, option_map, position, codes, Option, Some, None, slice_get, if◌then◌else◌}
 use Rattle.std.specs.Str.{bytes_eq}
 use Rattle.std.proofs.lemmas.List.Elements.{Contains-append_left, Contains-push, Contains-push_cases}
 use Rattle.std.specs.Prelude.{Contains}
@@ -7,21 +7,21 @@ use Rattle.vcl_tree.specs.Phrase.{Phrase, Node, String, Named, Nothing, More, Ca
 use Rattle.vcl_tree.specs.declared.expression.Comparison.TheVariants as asked
 use Rattle.vcl_language.specs.Functions.{function_named}
 use Rattle.vcl_language.specs.declared.functions.TheConstants.{FUNCTIONS}
-use Rattle.vcl_tree.specs.Endings.{ends_in}
 use Rattle.vcl_check.specs.declared.mentions.MentionKind.TheVariants as kind
 use Rattle.vcl_check.specs.Mentions.{Said, said, said_string, own_string, called_string, has_pattern, with_found, with_strings, parts}
 use Rattle.vcl_code.specs.declared.arena.Arena.{Arena}
 use Rattle.vcl_code.specs.declared.callees.Builtin.{Builtin}
 use Rattle.vcl_code.specs.declared.callees.Builtin.TheVariants as builtin
 use Rattle.vcl_code.specs.declared.callees.TheConstants.{BUILTINS, BUILTIN_NAMES}
-use Rattle.vcl_code.specs.declared.names.Thing.{Thing}
-use Rattle.vcl_code.specs.declared.names.Thing.TheVariants as thing
+use Rattle.vcl_symbols.specs.declared.symbol_table.Symbol.{Symbol}
+use Rattle.vcl_symbols.specs.declared.symbol_table.Symbol.TheVariants as symbol
+use Rattle.vcl_symbols.specs.Known.{Known, object_named, stored_of}
 use Rattle.vcl_code.specs.declared.names.Callee.{Callee}
 use Rattle.vcl_code.specs.declared.names.Callee.TheVariants as callee
 use Rattle.vcl_code.specs.declared.node.Arguments.{Arguments}
 use Rattle.vcl_code.specs.declared.node.Arguments.TheVariants.{Zero, One, Two, Three, More as TooMany}
 use Rattle.vcl_code.specs.Arenas.{Numbered}
-use Rattle.vcl_code.specs.Names.{Known, Plain, Field, NoTarget, Read, OfTarget, Truth, Backend, NoRead, read_of, acl_of, callee_of, builtin_of, stored_of, director_in, stored_or_director, builtin_or_other, thing_named}
+use Rattle.vcl_code.specs.Names.{Plain, Field, NoTarget, Read, OfTarget, Truth, Backend, NoRead, read_of, acl_of, callee_of, builtin_of, director_in, stored_or_director, builtin_or_other}
 use Rattle.vcl_code.specs.Expressions.{numbered, numbered_arguments, read_node, in_acl, matched, Given, given, string_of, second_string, substitution, xkey, director, called}
 
 -- a string is said to be a pattern
@@ -121,21 +121,19 @@ substitute-pattern : (name : List ℕ) (all : Bool) → builtin_of name ≡ Some
 unfolding builtin_of function_named
 substitute-pattern name all e = at-substitute (position (λ known. bytes_eq known.now name) BUILTIN_NAMES) all e
 
-director-other : (t : Option Thing) (b : Builtin) → director_in t ≡ callee.Builtin b → ⊥
-director-other (Some (thing.Director k)) b e = cc
-director-other (Some thing.Other) b e = cc
-director-other (Some (thing.Backend k)) b e = cc
-director-other (Some (thing.Acl k)) b e = cc
-director-other (Some (thing.Subroutine k)) b e = cc
+director-other : (t : Option Symbol) (b : Builtin) → director_in t ≡ callee.Builtin b → ⊥
+director-other (Some (symbol.Director kind k)) b e = cc
+director-other (Some symbol.Probe) b e = cc
+director-other (Some symbol.UnknownObject) b e = cc
+director-other (Some symbol.NoObject) b e = cc
+director-other (Some (symbol.Backend k)) b e = cc
+director-other (Some (symbol.Acl k)) b e = cc
+director-other (Some (symbol.Subroutine k)) b e = cc
 director-other None b e = cc
-
-other-callee : (named : Bool) (t : Option Thing) (b : Builtin) → (if named then director_in t else callee.Absent) ≡ callee.Builtin b → ⊥
-other-callee true t b e = director-other t b e
-other-callee false t b e = cc
 
 stored-callee : (known : Known) (name : List ℕ) (row : Option ℕ) (b : Builtin) → stored_or_director known name row ≡ callee.Builtin b → ⊥
 stored-callee known name (Some k) b e = cc
-stored-callee known name None b e = other-callee (ends_in (codes ".backend") name) (thing_named known (take (length name - 8) name)) b e
+stored-callee known name None b e = director-other (object_named known (codes ".backend") name) b e
 
 builtin-callee : (known : Known) (name : List ℕ) (found : Option Builtin) (b : Builtin) → builtin_or_other known name found ≡ callee.Builtin b → found ≡ Some b
 builtin-callee known name (Some x) b e = cc

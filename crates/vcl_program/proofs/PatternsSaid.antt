@@ -28,10 +28,12 @@ use Rattle.vcl_code.specs.declared.node.Choice.{Choice}
 use Rattle.vcl_code.specs.declared.node.Choice.TheVariants as choice
 use Rattle.vcl_code.specs.declared.node.ReturnWord.{ReturnWord}
 use Rattle.vcl_code.specs.Arenas.{Numbered, empty}
-use Rattle.vcl_code.specs.Names.{Known, Target, Plain, Field, NoTarget, target_of, subroutine_of, word_of, callee_of}
+use Rattle.vcl_symbols.specs.Known.{Known}
+use Rattle.vcl_code.specs.Names.{Target, Plain, Field, NoTarget, target_of, subroutine_of, word_of, callee_of}
 use Rattle.vcl_code.specs.Expressions.{numbered, numbered_arguments, second_string, Given, given}
 use Rattle.vcl_code.specs.Statements.{Acts, with_chain, chained, with_arms, set_acted, append_acted, unset_acted, call_acted, return_acted, with_one, performed, action_of, arms_of, arm_of, actions_of, numbered_block}
-use Rattle.vcl_program.specs.Codes.{known_of, own_of, code_of}
+use Rattle.vcl_check.specs.Sentences.{known_in}
+use Rattle.vcl_program.specs.Codes.{own_of, code_of}
 use Rattle.vcl_program.specs.Blocks.{Heads, heads, no_bodies, own_block, with_own, all_own, body, with_body, all_bodies}
 use Rattle.vcl_program.proofs.Patterns.{IsSaid, Comes, strings-stay, said-later, comes-through, same-contains, plain-comes, call-comes, expression-comes, arguments-come}
 
@@ -290,7 +292,7 @@ said-contained said p x =
 
 text-patterns : (items : List Item) (stored : List Stored) (p : List ℕ) → Contains (code_of items stored).arena.patterns p → Contains (pattern_texts (says items)) p
 text-patterns items stored p c =
-    let known : Known = known_of items stored in
+    let known : Known = known_in items stored in
     elim (bodies-all-come known items (heads no_bodies (own_of known items).arena) [] p c) [
       | inl d ↦ elim (own-all-come known items (heads [] empty) [] p d) [ inl e ↦ absurd (none-contained p e) | inr x ↦ said-contained (says items) p x ]
       | inr x ↦ said-contained (says items) p x

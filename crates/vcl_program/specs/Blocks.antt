@@ -8,7 +8,7 @@ use Rattle.vcl_language.specs.Scopes.{subroutine_number}
 use Rattle.vcl_language.specs.declared.scope.Subroutine.{Subroutine}
 use Rattle.vcl_code.specs.declared.arena.Arena.{Arena}
 use Rattle.vcl_code.specs.Arenas.{Numbered}
-use Rattle.vcl_code.specs.Names.{Known}
+use Rattle.vcl_symbols.specs.Known.{Known}
 use Rattle.vcl_code.specs.Statements.{numbered_block}
 
 -- the numbers of subroutines' blocks, and the lists behind them

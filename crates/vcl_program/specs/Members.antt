@@ -1,25 +1,25 @@
 -- The members of directors, each where a text adds it.
-use Rattle.std.specs.Prelude.{ℕ, ◌-◌, pos, Bool, ◌&&◌, nat_le, List, [], ◌∷◌, length, take, Option, Some, None, codes, unsigned_abs, if◌then◌else◌}
-use Rattle.std.specs.Int.Signed.{lt_z}
-use Rattle.vcl_tree.specs.Endings.{ends_in}
+use Rattle.std.specs.Prelude.{ℕ, List, [], ◌∷◌, Option, Some, None, codes, if◌then◌else◌}
+use Rattle.std.specs.Option.{unwrap_or}
 use Rattle.vcl_tree.specs.Phrase.{Phrase, Node, Named, Integer, Weight, More, Called, Group}
 use Rattle.vcl_tree.specs.declared.item.Item.{Item}
 use Rattle.vcl_tree.specs.declared.item.Item.TheVariants as item
-use Rattle.vcl_check.specs.Mentions.{parts}
-use Rattle.vcl_check.specs.Views.{whole_part}
-use Rattle.vcl_code.specs.Names.{Known, Read, Backend, thing_named, read_of}
-use Rattle.vcl_code.specs.declared.names.Thing.{Thing}
-use Rattle.vcl_code.specs.declared.names.Thing.TheVariants as thing
-use Rattle.vcl_program.specs.Declarations.{one_more, is_init}
+use Rattle.vcl_symbols.specs.Known.{Known, object_named}
+use Rattle.vcl_symbols.specs.declared.symbol_table.Symbol.{Symbol}
+use Rattle.vcl_symbols.specs.declared.symbol_table.Symbol.TheVariants as symbol
+use Rattle.vcl_check.specs.Mentions.{parts, is_init}
+use Rattle.vcl_check.specs.Views.{weight_of_integer, weight_of_decimal}
+use Rattle.vcl_code.specs.Names.{Read, Backend, read_of}
+use Rattle.vcl_program.specs.Declarations.{one_more}
 use Rattle.vcl_program.specs.declared.code.Member.{Member}
 
 -- the director to which a function of this name adds a backend
-abbrev pub director_in : Option Thing → Option ℕ
-director_in (Some (thing.Director k)) = Some k
+abbrev pub director_in : Option Symbol → Option ℕ
+director_in (Some (symbol.Director kind k)) = Some k
 director_in _ = None
 
 abbrev pub added_to : Known → List ℕ → Option ℕ
-added_to known name = if ends_in (codes ".add_backend") name then director_in (thing_named known (take (length name - 12) name)) else None
+added_to known name = director_in (object_named known (codes ".add_backend") name)
 
 -- a backend by its name, which may stand in parentheses
 abbrev pub backend_read : Read → Option ℕ
@@ -31,13 +31,10 @@ backend_in known (Named place name) = backend_read (read_of known name)
 backend_in known (Node Group sign e) = backend_in known e
 backend_in known _ = None
 
--- a weight is from 1 to 1,000, and 1 where none is given
-abbrev pub weight : Bool → ℕ → ℕ
-weight fits n = if fits then n else 1
-
+-- a weight, and 1 where none is given
 abbrev pub weight_in : Phrase → ℕ
-weight_in (Integer place n) = weight (lt_z (pos 0) n && lt_z n (pos 1001)) (unsigned_abs n)
-weight_in (Weight place digits) = weight (nat_le 1 (whole_part 0 digits) && nat_le (whole_part 0 digits) 1000) (whole_part 0 digits)
+weight_in (Integer place n) = unwrap_or (weight_of_integer n) 1
+weight_in (Weight place digits) = unwrap_or (weight_of_decimal digits) 1
 weight_in _ = 1
 
 abbrev pub member : Option ℕ → Option ℕ → ℕ → Option Member

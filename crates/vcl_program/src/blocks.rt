@@ -5,14 +5,15 @@ ghost use Rattle.vcl_program.specs.Blocks.{heads, own_block, with_own, all_own, 
 use crate::code::number_of;
 use std::alloc::{AllocError, Global};
 use units::{Sequence, Text};
-use vcl_code::{Arena, Names};
+use vcl_code::Arena;
 use vcl_language::{Subroutine, is_reserved, subroutine_named};
+use vcl_symbols::SymbolTable;
 use vcl_tree::{Block, Item};
 
 /// The blocks of the text's own subroutines, in its order.
 pub fn own_blocks(
     alloc: Global,
-    names: &Names<'_>,
+    names: &SymbolTable<'_>,
     items: &[Item],
     arena: &mut Arena,
 ) -> Result<Sequence<usize>, AllocError>
@@ -27,7 +28,7 @@ pub fn own_blocks(
 
 fn own(
     alloc: Global,
-    names: &Names<'_>,
+    names: &SymbolTable<'_>,
     item: &Item,
     arena: &mut Arena,
     numbers: &mut Sequence<usize>,
@@ -42,7 +43,7 @@ fn own(
 
 fn own_block(
     alloc: Global,
-    names: &Names<'_>,
+    names: &SymbolTable<'_>,
     name: &Text,
     block: &Block,
     arena: &mut Arena,
@@ -61,7 +62,7 @@ fn own_block(
 /// The blocks of the built-in subroutines, by their numbers: the bodies of each one behind another.
 pub fn built_in_blocks(
     alloc: Global,
-    names: &Names<'_>,
+    names: &SymbolTable<'_>,
     items: &[Item],
     arena: &mut Arena,
 ) -> Result<[usize; 13], AllocError>
@@ -78,7 +79,7 @@ pub fn built_in_blocks(
 
 fn in_item(
     alloc: Global,
-    names: &Names<'_>,
+    names: &SymbolTable<'_>,
     item: &Item,
     arena: &mut Arena,
     numbers: &mut [usize; 13],
@@ -96,7 +97,7 @@ fn in_item(
 
 fn body(
     alloc: Global,
-    names: &Names<'_>,
+    names: &SymbolTable<'_>,
     subroutine: Option<Subroutine>,
     block: &Block,
     arena: &mut Arena,
@@ -112,7 +113,7 @@ fn body(
 
 fn in_front(
     alloc: Global,
-    names: &Names<'_>,
+    names: &SymbolTable<'_>,
     block: &Block,
     place: usize,
     arena: &mut Arena,

@@ -1,28 +1,25 @@
 // Sound texts in numbers, with what their runs need beside that.
 ghost use Rattle.std.specs.Prelude.{◌≡◌, ◌<◌, IfOk, All, Contains, Some, length, map, slice_get};
-ghost use Rattle.acl_match.specs.Acl.{IsSound};
 ghost use Rattle.vcl_check.specs.Texts.{says, pattern_texts};
 ghost use Rattle.vcl_program.specs.Codes.{code_of};
 
 use crate::code::Code;
 use crate::numbering::numbered;
-use acl_match::{Acl, AclEntries, AclError};
+use acl_match::Acl;
 use std::alloc::{AllocError, Global};
-use units::{Sequence, Text, out_of_memory};
-use vcl_check::{Program, sound_keeps};
+use units::{Text, out_of_memory};
+use vcl_check::Program;
 use vcl_symbols::NameIndex;
 use vcl_values::Pattern;
 
-/// A sound text in numbers. It keeps the patterns and the address lists of the text, each built once.
+/// A sound text in numbers, with the patterns and the address lists that the checker built.
 #[derive(Drop)]
 pub struct Compiled {
     pub program: Program,
     pub code: Code,
     pattern_numbers: Vec<usize>,
-    acls: Vec<Acl>,
     pub ghost numbered: { code ≡ code_of program.tree.items program.stored },
     ghost patterned: { map (λ k. slice_get (pattern_texts (says program.tree.items)) k) pattern_numbers.items ≡ map Some code.arena.patterns },
-    ghost listed: { acls.items ≡ code.acls },
 }
 
 impl Compiled {
@@ -37,14 +34,10 @@ impl Compiled {
         let Ok(pattern_numbers) = numbers_of(alloc, &program, &code) else {
             return Err(out_of_memory((program, code)));
         };
-        let Ok(acls) = acls_in(alloc, &program, &code) else {
-            return Err(out_of_memory(((program, code), pattern_numbers)));
-        };
         Ok(Compiled {
             program,
             code,
             pattern_numbers,
-            acls,
         })
     }
 
@@ -72,7 +65,17 @@ impl Compiled {
         requires { number < length self.now.code.acls }
         ensures { slice_get self.now.code.acls number ≡ Some result.now }
     {
-        &self.acls[number]
+        acl_at(self.program.acls(), number)
+    }
+}
+
+fn acl_at(acls: &[Acl], number: usize) -> &Acl
+    requires { number < length acls.now }
+    ensures { slice_get acls.now number ≡ Some result.now }
+{
+    match acls.get(number) {
+        Some(acl) => acl,
+        None => unreachable!(),
     }
 }
 
@@ -106,42 +109,4 @@ fn place(texts: &NameIndex<'_>, source: &Text) -> usize
         Some(number) => number,
         None => unreachable!(),
     }
-}
-
-// The address lists of a text.
-fn acls_in(alloc: Global, program: &Program, code: &Code) -> Result<Vec<Acl>, AllocError>
-    requires { code.now ≡ code_of program.now.tree.items program.now.stored }
-    ensures { IfOk result (λ acls. acls.items ≡ code.now.acls) }
-{
-    sound_keeps();
-    acls_of(alloc, code.acls.as_slice())
-}
-
-fn acls_of(alloc: Global, lists: &[AclEntries]) -> Result<Vec<Acl>, AllocError>
-    requires { All (λ list. ∥ IsSound list ∥₁) lists.now }
-    ensures { IfOk result (λ acls. acls.items ≡ lists.now) }
-{
-    let mut acls = Vec::new(alloc);
-    for list in lists {
-        acls.push(acl_of(alloc, list)?)?;
-    }
-    Ok(acls)
-}
-
-fn acl_of(alloc: Global, list: &AclEntries) -> Result<Acl, AllocError>
-    requires { ∥ IsSound list.now ∥₁ }
-    ensures { IfOk result (λ acl. acl ≡ list.now) }
-{
-    match Acl::of(alloc, copy_of(alloc, list)?) {
-        Ok(acl) => Ok(acl),
-        Err(AclError::NoMemory) => Err(AllocError),
-        Err(AclError::Mask { place: _ }) => unreachable!(),
-        Err(AclError::Clash { place: _ }) => unreachable!(),
-    }
-}
-
-fn copy_of(alloc: Global, list: &AclEntries) -> Result<AclEntries, AllocError>
-    ensures { IfOk result (λ copy. copy ≡ list.now) }
-{
-    Ok(Sequence::from_vec(list.as_slice().to_vec(alloc)?))
 }

@@ -4,7 +4,6 @@
 //! stored functions. It is total, as the numbered form of expressions and statements is.
 #![tactic(auto)]
 
-mod addresses;
 mod blocks;
 mod code;
 mod compiled;

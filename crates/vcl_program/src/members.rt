@@ -1,25 +1,20 @@
 // The members of directors.
-ghost use Rattle.std.specs.Prelude.{◌≡◌, ◌≤◌, ◌-◌, ◌&&◌, pos, unsigned_abs, nat_le, [], length, take, position, slice_get, option_and_then, IfOk, OnOk};
-ghost use Rattle.std.specs.Int.Signed.{lt_z};
-ghost use Rattle.std.specs.Str.{bytes_eq};
-ghost use Rattle.vcl_tree.specs.Phrase.{list_of};
-ghost use Rattle.vcl_check.specs.Views.{whole_part};
-ghost use Rattle.vcl_code.specs.Names.{thing_named};
+ghost use Rattle.std.specs.Prelude.{◌≡◌, [], IfOk, OnOk};
 ghost use Rattle.vcl_program.specs.Declarations.{one_more};
-ghost use Rattle.vcl_program.specs.Members.{director_in, added_to, backend_in, weight, weight_in, member, added_with, member_of, with_block, with_subroutine, with_item, with_items};
+ghost use Rattle.vcl_program.specs.Members.{added_to, backend_in, weight_in, member, added_with, member_of, with_block, with_subroutine, with_item, with_items};
 
 use crate::code::Member;
-use crate::declarations::is_init;
 use std::alloc::{AllocError, Global};
 use units::{Sequence, Text};
-use vcl_check::whole_part;
-use vcl_code::{Names, Read, Thing};
-use vcl_tree::{Action, Block, Expression, Item, Operation, Statement, ends_in};
+use vcl_check::{is_init, weight_of_decimal, weight_of_integer};
+use vcl_code::{Read, read_of};
+use vcl_symbols::{Symbol, SymbolTable};
+use vcl_tree::{Action, Block, Expression, Item, Operation, Statement};
 
 /// The members of all directors, in the text's order.
 pub fn members(
     alloc: Global,
-    names: &Names<'_>,
+    names: &SymbolTable<'_>,
     items: &[Item],
 ) -> Result<Sequence<Member>, AllocError>
     ensures { IfOk result (λ members. members ≡ with_items names.now [] items.now) }
@@ -31,7 +26,11 @@ pub fn members(
     Ok(out)
 }
 
-fn in_item(out: &mut Sequence<Member>, names: &Names<'_>, item: &Item) -> Result<(), AllocError>
+fn in_item(
+    out: &mut Sequence<Member>,
+    names: &SymbolTable<'_>,
+    item: &Item,
+) -> Result<(), AllocError>
     ensures { OnOk result (out.new ≡ with_item names.now out.old item.now) }
 {
     match item {
@@ -42,7 +41,7 @@ fn in_item(out: &mut Sequence<Member>, names: &Names<'_>, item: &Item) -> Result
 
 fn in_subroutine(
     out: &mut Sequence<Member>,
-    names: &Names<'_>,
+    names: &SymbolTable<'_>,
     name: &Text,
     block: &Block,
 ) -> Result<(), AllocError>
@@ -55,7 +54,11 @@ fn in_subroutine(
     }
 }
 
-fn in_block(out: &mut Sequence<Member>, names: &Names<'_>, block: &Block) -> Result<(), AllocError>
+fn in_block(
+    out: &mut Sequence<Member>,
+    names: &SymbolTable<'_>,
+    block: &Block,
+) -> Result<(), AllocError>
     ensures { OnOk result (out.new ≡ with_block names.now out.old block.now) }
 {
     for statement in &block.statements {
@@ -76,7 +79,7 @@ fn one_more(out: &mut Sequence<Member>, member: Option<Member>) -> Result<(), Al
     }
 }
 
-fn member_of(names: &Names<'_>, statement: &Statement) -> Option<Member>
+fn member_of(names: &SymbolTable<'_>, statement: &Statement) -> Option<Member>
     ensures { result ≡ member_of names.now statement.now }
 {
     match &statement.action {
@@ -96,7 +99,7 @@ fn member_of(names: &Names<'_>, statement: &Statement) -> Option<Member>
 }
 
 fn added_with(
-    names: &Names<'_>,
+    names: &SymbolTable<'_>,
     director: Option<usize>,
     arguments: &[Expression],
 ) -> Option<Member>
@@ -123,40 +126,20 @@ fn member(director: Option<usize>, backend: Option<usize>, weight: u32) -> Optio
 }
 
 // The director to which a function of this name adds a backend.
-fn added_to(names: &Names<'_>, name: &[u8]) -> Option<usize>
+fn added_to(names: &SymbolTable<'_>, name: &[u8]) -> Option<usize>
     ensures { result ≡ added_to names.now name.now }
 {
-    if !ends_in(b".add_backend", name) {
-        return None;
-    }
-    match thing_named(names, front_of(name)) {
-        Some(Thing::Director(number)) => Some(number),
+    match names.object_named(b".add_backend", name) {
+        Some(Symbol::Director(_, number)) => Some(number),
         _ => None,
     }
 }
 
-fn thing_named(names: &Names<'_>, name: &[u8]) -> Option<Thing>
-    ensures { result ≡ thing_named names.now name.now }
-{
-    match names.names.find(name) {
-        None => None,
-        Some(number) => names.things.get(number).copied(),
-    }
-}
-
-// A name without its last twelve bytes, `.add_backend`.
-fn front_of(name: &[u8]) -> &[u8]
-    ensures { result.now ≡ take (length name.now - 12) name.now }
-{
-    let front = name.len().saturating_sub(12);
-    &name[..front]
-}
-
-fn backend_in(names: &Names<'_>, e: &Expression) -> Option<usize>
+fn backend_in(names: &SymbolTable<'_>, e: &Expression) -> Option<usize>
     ensures { result ≡ backend_in names.now e.now }
 {
     match &e.operation {
-        Operation::Name(_, name) => match names.read_of(name.bytes()) {
+        Operation::Name(_, name) => match read_of(names, name.bytes()) {
             Read::Backend(number) => Some(number),
             _ => None,
         },
@@ -178,29 +161,8 @@ fn weight_in(e: &Expression) -> u32
     ensures { result ≡ weight_in e.now }
 {
     match &e.operation {
-        Operation::Integer(_, number) => weight_of(*number),
-        Operation::Weight(_, digits) => decimal_weight(digits.bytes()),
+        Operation::Integer(_, number) => weight_of_integer(*number).unwrap_or(1),
+        Operation::Weight(_, digits) => weight_of_decimal(digits.bytes()).unwrap_or(1),
         _ => 1,
-    }
-}
-
-fn weight_of(number: i64) -> u32
-    ensures { result ≡ weight (lt_z (pos 0) number && lt_z number (pos 1001)) (unsigned_abs number) }
-{
-    if 0 < number && number < 1001 {
-        number as u32
-    } else {
-        1
-    }
-}
-
-fn decimal_weight(digits: &[u8]) -> u32
-    ensures { result ≡ weight (nat_le 1 (whole_part 0 digits.now) && nat_le (whole_part 0 digits.now) 1000) (whole_part 0 digits.now) }
-{
-    let number = whole_part(digits);
-    if 1 <= number && number <= 1000 {
-        number
-    } else {
-        1
     }
 }

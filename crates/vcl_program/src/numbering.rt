@@ -1,19 +1,19 @@
 // A whole text in numbers.
-ghost use Rattle.std.specs.Prelude.{◌≡◌, [], IfOk, map, position};
-ghost use Rattle.std.specs.Option.{unwrap_or};
-ghost use Rattle.std.specs.Str.{bytes_eq};
+ghost use Rattle.std.specs.Prelude.{◌≡◌, [], IfOk, position};
+ghost use Rattle.vcl_check.specs.Declarations.{known_of};
 ghost use Rattle.vcl_program.specs.Blocks.{heads};
-ghost use Rattle.vcl_program.specs.Codes.{known_in, is_default, default_of, own_of, built_in_of, code_of};
+ghost use Rattle.vcl_program.specs.Codes.{is_default, default_of, own_of, built_in_of, code_in, code_of};
 ghost use Rattle.vcl_program.specs.Members.{with_items};
 
 use crate::blocks::{built_in_blocks, own_blocks};
 use crate::code::{Code, Member};
-use crate::declarations::{Declarations, declared_in};
+use crate::declarations::{acls_of, backends_of, directors_of};
 use crate::members::members;
 use std::alloc::{AllocError, Global};
-use units::{Sequence, Text, out_of_memory};
-use vcl_code::{Arena, Names, Thing};
-use vcl_symbols::NameIndex;
+use units::{Sequence, out_of_memory};
+use vcl_check::{Mention, says, symbol_table};
+use vcl_code::Arena;
+use vcl_symbols::SymbolTable;
 use vcl_tree::{Item, Tree};
 use vcl_values::Backend;
 use vmod_host::Stored;
@@ -23,20 +23,31 @@ pub fn numbered(alloc: Global, tree: &Tree, stored: &[Stored]) -> Result<Code, A
     ensures { IfOk result (λ code. code ≡ code_of tree.now.items stored.now) }
 {
     let items = tree.items.as_slice();
-    let declared = declared_in(alloc, items)?;
-    let Ok(parts) = parts_under(alloc, &declared, stored, items) else {
-        return Err(out_of_memory(declared));
+    let said = says(alloc, items)?;
+    let code = code_in(alloc, items, said.as_slice(), stored);
+    drop(said);
+    code
+}
+
+// The same, by what the text says of names.
+fn code_in(
+    alloc: Global,
+    items: &[Item],
+    said: &[Mention<'_>],
+    stored: &[Stored],
+) -> Result<Code, AllocError>
+    ensures { IfOk result (λ code. code ≡ code_in (known_of said.now stored.now) said.now items.now) }
+{
+    let parts = parts_under(alloc, items, said, stored)?;
+    let Ok(backends) = backends_of(alloc, items) else {
+        return Err(out_of_memory(parts));
     };
-    let Declarations {
-        imports,
-        names,
-        things,
-        own,
-        backends,
-        acls,
-        directors,
-    } = declared;
-    drop(((imports, names), (things, own)));
+    let Ok(acls) = acls_of(alloc, items) else {
+        return Err(out_of_memory((parts, backends)));
+    };
+    let Ok(directors) = directors_of(alloc, said) else {
+        return Err(out_of_memory((parts, (backends, acls))));
+    };
     let default_backend = default_of(backends.as_slice());
     let built_in = parts.built_in;
     Ok(Code {
@@ -62,21 +73,21 @@ struct Parts {
 
 fn parts_under(
     alloc: Global,
-    declared: &Declarations,
-    stored: &[Stored],
     items: &[Item],
+    said: &[Mention<'_>],
+    stored: &[Stored],
 ) -> Result<Parts, AllocError>
-    ensures members { IfOk result (λ parts. parts.members ≡ with_items (known_in declared.now stored.now) [] items.now) }
-    ensures customs { IfOk result (λ parts. parts.customs ≡ (own_of (known_in declared.now stored.now) items.now).numbers) }
-    ensures built_in { IfOk result (λ parts. built_in_of (known_in declared.now stored.now) items.now ≡ heads parts.built_in parts.arena) }
+    ensures members { IfOk result (λ parts. parts.members ≡ with_items (known_of said.now stored.now) [] items.now) }
+    ensures customs { IfOk result (λ parts. parts.customs ≡ (own_of (known_of said.now stored.now) items.now).numbers) }
+    ensures built_in { IfOk result (λ parts. built_in_of (known_of said.now stored.now) items.now ≡ heads parts.built_in parts.arena) }
 {
-    let names = names_of(alloc, declared, stored)?;
+    let names = symbol_table(alloc, said, stored)?;
     let parts = parts_of(alloc, &names, items);
     drop(names);
     parts
 }
 
-fn parts_of(alloc: Global, names: &Names<'_>, items: &[Item]) -> Result<Parts, AllocError>
+fn parts_of(alloc: Global, names: &SymbolTable<'_>, items: &[Item]) -> Result<Parts, AllocError>
     ensures members { IfOk result (λ parts. parts.members ≡ with_items names.now [] items.now) }
     ensures customs { IfOk result (λ parts. parts.customs ≡ (own_of names.now items.now).numbers) }
     ensures built_in { IfOk result (λ parts. built_in_of names.now items.now ≡ heads parts.built_in parts.arena) }
@@ -97,50 +108,6 @@ fn parts_of(alloc: Global, names: &Names<'_>, items: &[Item]) -> Result<Parts, A
         customs,
         built_in,
     })
-}
-
-fn names_of<'t>(
-    alloc: Global,
-    declared: &'t Declarations,
-    stored: &'t [Stored],
-) -> Result<Names<'t>, AllocError>
-    ensures { IfOk result (λ names. names ≡ known_in declared.entry.now stored.entry.now) }
-{
-    let imports = index_of(alloc, declared.imports.as_slice())?;
-    let Ok(names) = index_of(alloc, declared.names.as_slice()) else {
-        return Err(out_of_memory(imports));
-    };
-    let Ok(things) = things_of(alloc, declared.things.as_slice()) else {
-        return Err(out_of_memory((imports, names)));
-    };
-    Ok(Names {
-        imports,
-        names,
-        things,
-        stored,
-    })
-}
-
-fn things_of(alloc: Global, things: &[Thing]) -> Result<Vec<Thing>, AllocError>
-    ensures { IfOk result (λ copy. copy.items ≡ things.now) }
-{
-    things.to_vec(alloc)
-}
-
-fn index_of<'t>(alloc: Global, names: &'t [Text]) -> Result<NameIndex<'t>, AllocError>
-    ensures { IfOk result (λ index. index ≡ names.entry.now) }
-{
-    NameIndex::of(alloc, slices_of(alloc, names)?)
-}
-
-fn slices_of<'t>(alloc: Global, names: &'t [Text]) -> Result<Vec<&'t [u8]>, AllocError>
-    ensures { IfOk result (λ out. map (λ name. name.now) out.items ≡ names.entry.now) }
-{
-    let mut out = Vec::new(alloc);
-    for name in names {
-        out.push(name.bytes())?;
-    }
-    Ok(out)
 }
 
 // The backend of this name, or else the first.

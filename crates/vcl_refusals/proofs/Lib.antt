@@ -1,9 +1,6 @@
-pub mod Items
 pub mod OneTree
 pub mod Rows
 pub mod OneFault
-pub mod Reader
-pub mod BuiltIn
 pub mod Mentioned
 pub mod Shallow
 pub mod OneOutcome

@@ -13,10 +13,10 @@ use Rattle.vcl_tree.specs.declared.item.Item.{Item}
 use Rattle.vcl_tree.specs.declared.item.Item.TheVariants as item
 use Rattle.vcl_language.specs.declared.scope.Subroutine.{Subroutine}
 use Rattle.vmod_host.specs.declared.signature.Stored.{Stored}
+use Rattle.vcl_symbols.specs.Known.{Known}
 use Rattle.vcl_check.specs.Declarations.{known_of}
 use Rattle.vcl_check.specs.Faults.{FaultIn, IsLeastOf}
 use Rattle.vcl_check.specs.Folded.{AnyOf}
-use Rattle.vcl_check.specs.Known.{Known}
 use Rattle.vcl_check.specs.Reaching.{numbered_names, roots_of}
 use Rattle.vcl_check.specs.Roles.{Block}
 use Rattle.vcl_check.specs.Texts.{AnyFault, AreRefused, calls_in, has_backend, IsFirstFault, IsRefused, IsSound, ItemFault, MayRefuse, MustRefuse, refused_at, says}

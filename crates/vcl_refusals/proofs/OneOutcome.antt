@@ -18,7 +18,7 @@ use Rattle.vcl_check.specs.Texts.{IsRefused, IsSound}
 use Rattle.vcl_store.specs.Joined.{built_in_text, IsJoined, IsTreeOf, IsUnreadable}
 use Rattle.vcl_store.specs.Refusals.{IsRefusalOf}
 use Rattle.vcl_refusals.specs.Outcomes.{ComesTo, HasNoDeepPattern, IsPlainText}
-use Rattle.vcl_refusals.proofs.BuiltIn.{built-in, is-read}
+use Rattle.vcl_store.proofs.BuiltIn.{built-in, is-read}
 use Rattle.vcl_refusals.proofs.OneFault.{IsOne, refused-one, sound-or-refused}
 use Rattle.vcl_refusals.proofs.OneTree.{joined-one, tree-one}
 use Rattle.vcl_refusals.proofs.Shallow.{joined-shallow}

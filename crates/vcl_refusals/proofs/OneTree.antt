@@ -10,7 +10,7 @@ use Rattle.vcl_tree.specs.declared.item.Version.{Version}
 use Rattle.vcl_tokens.proofs.ReadingLemmas.{one}
 use Rattle.vcl_parse.proofs.Trees.{same_tree}
 use Rattle.vcl_store.specs.Joined.{built_in_text, IsJoined, IsTreeOf}
-use Rattle.vcl_refusals.proofs.Items.{items-same}
+use Rattle.vcl_store.proofs.Items.{items-same}
 
 tree-of : (a b : Tree) → b.version ≡ a.version → b.items ≡ a.items → b ≡ a
 tree-of a b version items =

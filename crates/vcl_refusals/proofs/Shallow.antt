@@ -19,9 +19,9 @@ use Rattle.vcl_check.specs.Mentions.{Said}
 use Rattle.vcl_check.specs.Texts.{says}
 use Rattle.vcl_store.specs.Joined.{built_in_text}
 use Rattle.vcl_refusals.specs.Outcomes.{HasNoDeepPattern}
-use Rattle.vcl_refusals.proofs.BuiltIn.{built-in, items, rest, tokens}
+use Rattle.vcl_store.proofs.BuiltIn.{built-in, items, rest, tokens}
 use Rattle.vcl_refusals.proofs.Mentioned.{says-both}
-use Rattle.vcl_refusals.proofs.Reader.{first-of, second-of}
+use Rattle.vcl_store.proofs.Reader.{first-of, second-of}
 
 abbrev is-low : Option (Nested Re × Names) → Bool
 is-low None = false

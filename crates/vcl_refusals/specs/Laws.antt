@@ -3,12 +3,8 @@ use Rattle.std.specs.Prelude.{ℕ, ◌≡◌, List, Result}
 use Rattle.vcl_tree.specs.declared.error.VclError.{VclError}
 use Rattle.vcl_tree.specs.declared.item.Tree.{Tree}
 use Rattle.vmod_host.specs.declared.signature.Stored.{Stored}
-use Rattle.vcl_store.specs.Joined.{built_in_text, IsJoined, IsTreeOf}
+use Rattle.vcl_store.specs.Joined.{IsJoined}
 use Rattle.vcl_refusals.specs.Outcomes.{ComesTo, IsPlainText}
-
--- The built-in text has a tree.
-abbrev pub BuiltInIsRead : Type 0
-BuiltInIsRead = (tree : Tree) × IsTreeOf built_in_text tree
 
 -- A text has one joined tree at most.
 abbrev pub OneJoinedTree : Type 0

@@ -1,10 +1,5 @@
 // Laws of texts of VCL, as contracts of functions that do nothing.
-ghost use Rattle.vcl_refusals.specs.Laws.{BuiltInIsRead, OneJoinedTree, OneOutcome};
-
-/// The built-in text has a tree.
-pub fn built_in_is_read()
-    ensures { BuiltInIsRead }
-{}
+ghost use Rattle.vcl_refusals.specs.Laws.{OneJoinedTree, OneOutcome};
 
 /// A text has one joined tree at most.
 pub fn one_joined_tree()

@@ -1,4 +1,4 @@
--- Tables of functions of the module `std`, and one without functions.
+-- Tables of functions of the module `std`.
 use Rattle.std.proofs.Common.{◌≡◌, inl, inr, ℕ, zero, suc, List, [], ◌∷◌, Option, Some, None, slice_get, refl, sym, subst}
 use Rattle.std.proofs.lemmas.Option.{none-some, same_Some}
 use Rattle.vcl_values.specs.declared.value.Kind.TheVariants.{String, Int}
@@ -26,10 +26,3 @@ length-alone d p q (suc k) entry e = absurd (none-some entry e)
 
 pub length-meant : StandardAreMeant → (d : Signature) → d.takes ≡ String ∷ [] → d.gives ≡ Int → AreMeant (entry_of STRLEN d ∷ [])
 length-meant law d p q = law (entry_of STRLEN d ∷ []) (length-alone d p q)
-
-none-meant : AreMeant []
-none-meant zero entry e = absurd (none-some entry e)
-none-meant (suc k) entry e = absurd (none-some entry e)
-
-pub empty-meant : (stored : List Stored) → stored ≡ [] → AreMeant stored
-empty-meant stored e = subst (λ (l : List Stored). AreMeant l) (sym e) none-meant

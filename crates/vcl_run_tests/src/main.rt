@@ -1,15 +1,13 @@
-//! Rows for what runs a VCL text: values of variables, programs in numbers, runs of subroutines, targets and
-//! programs of texts. A row's first word names the call, and behind ` => ` stands what is to be said of the rest. The program prints the
-//! rows that go otherwise, and how many rows there are.
+//! Rows for what runs a VCL text: values of variables, runs of subroutines, and programs of texts. A row's first word names the
+//! call, and behind ` => ` stands what is to be said of the rest. The program prints the rows that go otherwise, and how many rows
+//! there are.
 #![tactic(auto)]
 
 ghost use Rattle.std.specs.Prelude.{map};
 ghost use Rattle.vmod_host.specs.Stored.{entry_of};
 ghost use Rattle.vcl_soundness.specs.Laws.{AreMeant};
 
-mod codes;
 mod functions;
-mod numbers;
 mod plain_context;
 mod programs;
 mod repeats;
@@ -17,7 +15,6 @@ mod rows;
 mod runs;
 mod steps;
 mod stores;
-mod targets;
 mod words;
 
 use functions::length_of_copy;
@@ -122,13 +119,6 @@ fn said(
     match word {
         "variable" | "field" => steps::name_shown(alloc, word, rest),
         "steps" => steps::steps_shown(alloc, rest),
-        "builtin" | "word" | "callee" | "declared" => numbers::name_shown(alloc, word, rest),
-        "value" => numbers::value_shown(alloc, rest),
-        "block" => numbers::block_shown(alloc, rest),
-        "sound" => codes::matches_shown(alloc, rest),
-        "backends" | "network" | "director" | "blocks" => codes::code_shown(alloc, word, rest),
-        "target" => targets::target_shown(alloc, rest),
-        "server" => targets::server_shown(alloc, rest),
         "program" => stores::program_shown(alloc, usual, rest),
         "built_in" => stores::built_in_shown(alloc, usual),
         _ => rows::run_shown(alloc, usual, copying, word, rest),

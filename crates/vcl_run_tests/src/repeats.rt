@@ -5,8 +5,9 @@ ghost use Rattle.vcl_run_tests.specs.Runnable.{IsRunnable};
 
 use crate::plain_context::context;
 use crate::programs::{Subject, program_in};
-use crate::runs::{push_bytes, push_run};
+use crate::runs::push_run;
 use http_heads::{RequestHead, read_request};
+use row_settings::push_bytes;
 use std::alloc::{AllocError, Global};
 use std::mem;
 use units::Text;

@@ -9,6 +9,7 @@ ghost use Rattle.vcl_context.specs.declared.turn.Answer.TheVariants.{Begin};
 use crate::plain_context::context;
 use crate::programs::{Subject, program};
 use crate::words::push_word;
+use row_settings::push_bytes;
 use std::alloc::{AllocError, Global};
 use units::Text;
 use vcl_context::{Answer, Command, Context, FetchResponse, Return, Turn};
@@ -207,12 +208,4 @@ fn push_made(shown: &mut String, body: &Option<Text>) -> Result<(), AllocError> 
             Ok(())
         }
     }
-}
-
-/// The bytes as characters of Latin-1.
-pub fn push_bytes(shown: &mut String, bytes: &[u8]) -> Result<(), AllocError> {
-    for byte in bytes {
-        shown.push(char::from(*byte))?;
-    }
-    Ok(())
 }

@@ -1,5 +1,5 @@
 // Words of a run's end.
-use crate::runs::push_bytes;
+use row_settings::push_bytes;
 use std::alloc::AllocError;
 use units::Text;
 use vcl_context::Return;

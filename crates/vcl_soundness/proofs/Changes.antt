@@ -32,7 +32,7 @@ use Rattle.vcl_operands.specs.Values.{fitted}
 use Rattle.vcl_eval.specs.Statements.{then_due, set_if, set_fitted, set_to, field_to, appended, append_to, append_field}
 use Rattle.vcl_context.specs.Fields.{field_value, field_set as set_field}
 use Rattle.vcl_context.specs.declared.variable.Message.{Message}
-use Rattle.vcl_store.proofs.Rows.{false-true}
+use Rattle.vcl_soundness.proofs.Rows.{false-true}
 use Rattle.vcl_soundness.specs.Laws.{is_refused}
 use Rattle.vcl_soundness.proofs.Holds.{IsOf, IsDue, Makes, known-makes}
 use Rattle.vcl_soundness.proofs.Values.{int-is, duration-is, text-of, string-fitted, fitted-makes}

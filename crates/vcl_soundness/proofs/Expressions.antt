@@ -31,7 +31,6 @@ use Rattle.vcl_check.specs.declared.seen.Sort.{Sort}
 use Rattle.vcl_check.specs.declared.seen.Sort.TheVariants as sort
 use Rattle.vcl_check.specs.Calls.{is_string, mistyped, unwritten, or_else, leftmost_unwritten, ill_called}
 use Rattle.vcl_check.specs.Kinds.{is_value, is_condition, is_ordered, same_kind, alike, adds, may_add, sum_kind, sum_sort, difference_kind, difference_sort, accepts, grouped_sort, is_ip, is_acl, is_searched}
-use Rattle.vcl_check.specs.Known as check
 use Rattle.vcl_check.specs.Known.{meaning_of, takes_values, giving, function_of}
 use Rattle.vcl_check.specs.Roles.{Name, Value, Arguments}
 use Rattle.vcl_check.specs.Rules.{may_use, is_reached, is_for_init, may_be_used, both_fit, ill_function, unwritten_call}
@@ -40,21 +39,22 @@ use Rattle.vcl_code.specs.declared.callees.Builtin.{Builtin}
 use Rattle.vcl_code.specs.declared.callees.Builtin.TheVariants as builtin
 use Rattle.vcl_code.specs.declared.names.Callee.{Callee}
 use Rattle.vcl_code.specs.declared.names.Callee.TheVariants as callee
-use Rattle.vcl_code.specs.Names.{Known, callee_of}
+use Rattle.vcl_symbols.specs.Known.{Known}
+use Rattle.vcl_code.specs.Names.{callee_of}
 use Rattle.vcl_code.specs.Expressions.{string_of, second_string}
 use Rattle.vcl_program.specs.declared.code.Director.{Director}
 use Rattle.vcl_operands.specs.Meaning.{Scene, Operand, value_of, operands_of}
-use Rattle.vcl_store.proofs.Rows.{false-true, both-true, takes_of, gives_of, passes}
-use Rattle.vcl_store.proofs.Clean.{Clean, left-clean, right-clean, fits, written, known-name, used-name}
-use Rattle.vcl_store.proofs.Expressions.{not-none, too-many, four-are-more}
-use Rattle.vcl_store.proofs.Values.{unless-none, both-fits, or-none, weight-no-string}
+use Rattle.vcl_soundness.proofs.Rows.{false-true, both-true, takes_of, gives_of, passes}
+use Rattle.vcl_soundness.proofs.Clean.{Clean, left-clean, right-clean, fits, written, known-name, used-name}
+use Rattle.vcl_soundness.proofs.TooMany.{not-none, too-many, four-are-more}
+use Rattle.vcl_soundness.proofs.NoFault.{unless-none, both-fits, or-none, weight-no-string}
 use Rattle.vcl_soundness.proofs.Names as names
 use Rattle.vcl_soundness.proofs.Names.{Stands, AclNamed, ReadsAs, name-reads, Does, function-does}
 use Rattle.vcl_soundness.proofs.Typed as typed
-use Rattle.vcl_soundness.proofs.Typed.{AllGiven, Given, Typed, CallWorth, Sought, stored-worth, xkey-worth, substitute-worth, director-worth, hash-worth, string-typed, integer-typed, duration-typed, named-typed, group-typed, either-typed, both-typed, not-typed, equal-typed, unequal-typed, less-typed, less-or-equal-typed, greater-typed, greater-or-equal-typed, sum-typed, difference-typed, match-typed, mismatch-typed, called-typed}
+use Rattle.vcl_soundness.proofs.Typed.{AllGiven, Typed, CallWorth, Sought, stored-worth, xkey-worth, substitute-worth, director-worth, hash-worth, string-typed, integer-typed, duration-typed, named-typed, group-typed, either-typed, both-typed, not-typed, equal-typed, unequal-typed, less-typed, less-or-equal-typed, greater-typed, greater-or-equal-typed, sum-typed, difference-typed, match-typed, mismatch-typed, called-typed}
 
 -- the text of a string
-string-text : (known : check.Known) (e : Phrase) → is_string (view_of known Value e).literal ≡ true → (place : ℕ) × (text : List ℕ) × (e ≡ String place text)
+string-text : (known : Known) (e : Phrase) → is_string (view_of known Value e).literal ≡ true → (place : ℕ) × (text : List ℕ) × (e ≡ String place text)
 string-text known (String place text) h = (place, text, refl)
 string-text known (Integer place n) h = absurd (integer-no-string n h)
   where
@@ -143,11 +143,11 @@ Gives _ = Unit {0}
 pub all-contained : (p : Subroutine → Bool) (xs : List Subroutine) (s : Subroutine) → list_all p xs ≡ true → (k : ℕ) → k < length xs → slice_index_or xs k s ≡ s → p s ≡ true
 all-contained p xs s all k low e = passes p xs k s all (slice_get-get_or xs k s low ∙ ap (λ (x : Subroutine). Some x) e)
 
-module _ (known : check.Known) (numbers : Known) (scene : Scene) (stands : Stands known numbers scene) (roots : List Subroutine) (root : Subroutine)
+module _ (known : Known) (scene : Scene) (stands : Stands known scene) (roots : List Subroutine) (root : Subroutine)
     (reached : Contains roots root) where
   -- a value is one of its type; what is no value may be none
   abbrev Good : Sort → Phrase → Type 0
-  Good (sort.Value k) e = Typed scene numbers k e
+  Good (sort.Value k) e = Typed scene known k e
   Good sort.Unknown e = ⊥
   Good _ e = Unit {0}
 
@@ -163,7 +163,7 @@ module _ (known : check.Known) (numbers : Known) (scene : Scene) (stands : Stand
 
   -- a value, by its type
   abbrev pub Valued : Sort → Phrase → Type 0
-  Valued s e = (k : Kind) × (s ≡ sort.Value k) × Typed scene numbers k e
+  Valued s e = (k : Kind) × (s ≡ sort.Value k) × Typed scene known k e
 
   pub valued : (s : Sort) (e : Phrase) → is_value s ≡ true → Good s e → Valued s e
   valued (sort.Value k) e h g = (k, refl, g)
@@ -210,7 +210,7 @@ module _ (known : check.Known) (numbers : Known) (scene : Scene) (stands : Stand
 
   -- a value in a condition
   abbrev pub Conditional : Sort → Phrase → Type 0
-  Conditional s e = (k : Kind) × (is_condition (sort.Value k) ≡ true) × Typed scene numbers k e
+  Conditional s e = (k : Kind) × (is_condition (sort.Value k) ≡ true) × Typed scene known k e
 
   pub conditional : (s : Sort) (e : Phrase) → is_condition s ≡ true → Good s e → Conditional s e
   conditional s e h g =
@@ -218,7 +218,7 @@ module _ (known : check.Known) (numbers : Known) (scene : Scene) (stands : Stand
       (v.0, subst (λ (x : Sort). is_condition x ≡ true) v.1 h, v.2)
 
   -- a value that is taken where one of a type is wanted
-  pub accepted : (wanted : Kind) (s : Sort) (e : Phrase) → accepts wanted s ≡ true → Good s e → (k : Kind) × (accepts wanted (sort.Value k) ≡ true) × Typed scene numbers k e
+  pub accepted : (wanted : Kind) (s : Sort) (e : Phrase) → accepts wanted s ≡ true → Good s e → (k : Kind) × (accepts wanted (sort.Value k) ≡ true) × Typed scene known k e
   accepted wanted s e h g =
       let v = valued s e (accepts-value wanted s h) g in
       (v.0, subst (λ (x : Sort). accepts wanted x ≡ true) v.1 h, v.2)
@@ -228,13 +228,13 @@ module _ (known : check.Known) (numbers : Known) (scene : Scene) (stands : Stand
   Listed l = (view_of known Arguments l).arguments
 
   abbrev Taken : List Kind → Phrase → Type 0
-  Taken ks l = AllGiven ks (operands_of numbers scene l)
+  Taken ks l = AllGiven ks (operands_of known scene l)
 
   abbrev Seen : Phrase → Argument
   Seen e = argument_of (view_of known Value e)
 
   argument-given : (wanted : Kind) (e : Phrase) → mistyped (Some (parameter.Value wanted)) (Seen e) ≡ None → Good (SortOf e) e
-      → (k : Kind) × (accepts wanted (sort.Value k) ≡ true) × Typed scene numbers k e
+      → (k : Kind) × (accepts wanted (sort.Value k) ≡ true) × Typed scene known k e
   argument-given wanted e m g = accepted wanted (SortOf e) e (unless-none (accepts wanted (SortOf e)) (view_of known Value e).first m) g
 
   zero-given : {l : Phrase} → AreFine l → (at : ℕ) → ill_called takes.Nothing (Listed l) at ≡ None → Taken [] l
@@ -315,7 +315,7 @@ module _ (known : check.Known) (numbers : Known) (scene : Scene) (stands : Stand
       by-count (a ∷ b ∷ d ∷ f ∷ rest) e = absurd (none-some t e)
 
   abbrev Agrees : Kind → Callee → Phrase → Type 0
-  Agrees k c l = CallWorth scene k c (second_string l) (operands_of numbers scene l)
+  Agrees k c l = CallWorth scene k c (second_string l) (operands_of known scene l)
 
   substituted : (all : Bool) {l : Phrase} → AreFine l → Clean known roots Arguments l → (at : ℕ)
       → ill_called (takes_of (builtin.Substitute all)) (Listed l) at ≡ None → leftmost_unwritten (takes_of (builtin.Substitute all)) (Listed l) ≡ None
@@ -338,8 +338,8 @@ module _ (known : check.Known) (numbers : Known) (scene : Scene) (stands : Stand
       let text = string-text known y (unless-none (is_string (view_of known Value y).literal) (view_of known Value y).first w.0) in
       let left = argument-given kind.String x m.0 (f (right-clean known roots Arguments More Nothing x first)) in
       let right = argument-given kind.String z n.1 (h (right-clean known roots Arguments More two z c)) in
-      let by : Phrase → Operand = λ p. value_of numbers scene p in
-      let C : Option (List ℕ) → Type 0 = λ q. CallWorth scene kind.String (callee.Builtin (builtin.Substitute all)) q (operands_of numbers scene l) in
+      let by : Phrase → Operand = λ p. value_of known scene p in
+      let C : Option (List ℕ) → Type 0 = λ q. CallWorth scene kind.String (callee.Builtin (builtin.Substitute all)) q (operands_of known scene l) in
       subst C (sym (ap string_of text.2)) (substitute-worth scene all left.0 right.0 text.1 (by x) (by y) (by z) left.2 right.2)
   substituted all (more {e = z} (more {e = y} (more {e = x} (more {l = l} {e = w} m d) f) g) h) c at i u =
       let T : Takes = takes_of (builtin.Substitute all) in
@@ -348,23 +348,23 @@ module _ (known : check.Known) (numbers : Known) (scene : Scene) (stands : Stand
 
   directed : (k : ℕ) (d : Director) → slice_get scene.directors k ≡ Some d → (way : DirectorKind) {l : Phrase} → AreFine l → Clean known roots Arguments l → (at : ℕ)
       → ill_called (method_of way method.Backend).takes (Listed l) at ≡ None → Agrees kind.Backend (callee.Director k) l
-  directed k d e director.One {l} g c at i = director-worth scene k d e (second_string l) (operands_of numbers scene l) (zero-given g at i)
-  directed k d e director.RoundRobin {l} g c at i = director-worth scene k d e (second_string l) (operands_of numbers scene l) (zero-given g at i)
-  directed k d e director.Fallback {l} g c at i = director-worth scene k d e (second_string l) (operands_of numbers scene l) (zero-given g at i)
-  directed k d e director.Random {l} g c at i = director-worth scene k d e (second_string l) (operands_of numbers scene l) (zero-given g at i)
-  directed k d e director.Hash {l} g c at i = hash-worth scene k d e kind.String (second_string l) (operands_of numbers scene l) (one-given kind.String g c at i)
+  directed k d e director.One {l} g c at i = director-worth scene k d e (second_string l) (operands_of known scene l) (zero-given g at i)
+  directed k d e director.RoundRobin {l} g c at i = director-worth scene k d e (second_string l) (operands_of known scene l) (zero-given g at i)
+  directed k d e director.Fallback {l} g c at i = director-worth scene k d e (second_string l) (operands_of known scene l) (zero-given g at i)
+  directed k d e director.Random {l} g c at i = director-worth scene k d e (second_string l) (operands_of known scene l) (zero-given g at i)
+  directed k d e director.Hash {l} g c at i = hash-worth scene k d e kind.String (second_string l) (operands_of known scene l) (one-given kind.String g c at i)
 
   -- What a call of a function does: something by the text of one value, or it gives a value.
   pub data Call (f : Function) (name : List ℕ) (l : Phrase) : Type 0 where
-    does : (c : Callee) → callee_of numbers name ≡ c → Performs c → f.gives ≡ None → Taken (kind.String ∷ []) l → Call f name l
-    yields : (k : Kind) (c : Callee) → callee_of numbers name ≡ c → Gives c → f.gives ≡ Some k → Agrees k c l → Call f name l
+    does : (c : Callee) → callee_of known name ≡ c → Performs c → f.gives ≡ None → Taken (kind.String ∷ []) l → Call f name l
+    yields : (k : Kind) (c : Callee) → callee_of known name ≡ c → Gives c → f.gives ≡ Some k → Agrees k c l → Call f name l
     enrols : (way : DirectorKind) → f ≡ method_of way method.AddBackend → Call f name l
 
-  built : (b : Builtin) (f : Function) (name : List ℕ) {l : Phrase} → AreFine l → Clean known roots Arguments l → (at : ℕ) → callee_of numbers name ≡ callee.Builtin b → f.gives ≡ gives_of b
+  built : (b : Builtin) (f : Function) (name : List ℕ) {l : Phrase} → AreFine l → Clean known roots Arguments l → (at : ℕ) → callee_of known name ≡ callee.Builtin b → f.gives ≡ gives_of b
       → ill_called (takes_of b) (Listed l) at ≡ None → leftmost_unwritten (takes_of b) (Listed l) ≡ None → Call f name l
   built (builtin.Substitute all) f name g c at e v i u = yields kind.String (callee.Builtin (builtin.Substitute all)) e tt v (substituted all g c at i u)
   built (builtin.Xkey soft) f name {l} g c at e v i u =
-      yields kind.Int (callee.Builtin (builtin.Xkey soft)) e tt v (xkey-worth scene soft kind.String (second_string l) (operands_of numbers scene l) (one-given kind.String g c at i))
+      yields kind.Int (callee.Builtin (builtin.Xkey soft)) e tt v (xkey-worth scene soft kind.String (second_string l) (operands_of known scene l) (one-given kind.String g c at i))
   built builtin.HashData f name g c at e v i u = does (callee.Builtin builtin.HashData) e tt v (one-given kind.String g c at i)
   built builtin.Synthetic f name g c at e v i u = does (callee.Builtin builtin.Synthetic) e tt v (one-given kind.String g c at i)
   built builtin.Ban f name g c at e v i u = does (callee.Builtin builtin.Ban) e tt v (one-given kind.String g c at i)
@@ -375,16 +375,16 @@ module _ (known : check.Known) (numbers : Known) (scene : Scene) (stands : Stand
       let same = same_Some _ f e in
       (t, refl, ap (λ (x : Function). x.takes) (sym same), ap (λ (x : Function). x.gives) (sym same))
 
-  stored-call : (k : ℕ) (entry : Stored) (f : Function) (name : List ℕ) {l : Phrase} → AreFine l → Clean known roots Arguments l → (at : ℕ) → callee_of numbers name ≡ callee.Stored k
-      → slice_get numbers.stored k ≡ Some entry → function_of entry.signature ≡ Some f → ill_called f.takes (Listed l) at ≡ None → Call f name l
+  stored-call : (k : ℕ) (entry : Stored) (f : Function) (name : List ℕ) {l : Phrase} → AreFine l → Clean known roots Arguments l → (at : ℕ) → callee_of known name ≡ callee.Stored k
+      → slice_get known.stored k ≡ Some entry → function_of entry.signature ≡ Some f → ill_called f.takes (Listed l) at ≡ None → Call f name l
   stored-call k entry f name {l} g c at e there is i =
       let x = given-function entry.signature.gives (takes_values entry.signature.takes) f is in
       let m = stands.meant k entry there in
       let found = ap (λ (xs : List Stored). slice_get xs k) stands.stored ∙ there in
       let taken = values-given entry.signature.takes x.0 x.1 g c at (subst (λ (t : Takes). ill_called t (Listed l) at ≡ None) x.2 i) in
-      yields entry.signature.gives (callee.Stored k) e tt x.3 (stored-worth scene k entry found m.1 m.0 (second_string l) (operands_of numbers scene l) taken)
+      yields entry.signature.gives (callee.Stored k) e tt x.3 (stored-worth scene k entry found m.1 m.0 (second_string l) (operands_of known scene l) taken)
 
-  pub calls : (f : Function) (name : List ℕ) {l : Phrase} → Does known numbers scene stands name f → AreFine l → Clean known roots Arguments l → (at : ℕ)
+  pub calls : (f : Function) (name : List ℕ) {l : Phrase} → Does known scene stands name f → AreFine l → Clean known roots Arguments l → (at : ℕ)
       → ill_called f.takes (Listed l) at ≡ None → leftmost_unwritten f.takes (Listed l) ≡ None → Call f name l
   calls f name {l} (names.of_language b e row) g c at i u =
       built b f name g c at e row.gives (subst (λ (t : Takes). ill_called t (Listed l) at ≡ None) row.takes i) (subst (λ (t : Takes). leftmost_unwritten t (Listed l) ≡ None) row.takes u)
@@ -397,13 +397,13 @@ module _ (known : check.Known) (numbers : Known) (scene : Scene) (stands : Stand
   call-good : (f : Function) (place : ℕ) (name : List ℕ) (l : Phrase) → Call f name l → Good (given_sort f.gives) (Node Called (Named place name) l)
   call-good f place name l (does c e p n t) = subst (λ (o : Option Kind). Good (given_sort o) (Node Called (Named place name) l)) (sym n) tt
   call-good f place name l (yields k c e p n t) =
-      subst (λ (o : Option Kind). Good (given_sort o) (Node Called (Named place name) l)) (sym n) (called-typed scene numbers k place name l c e t)
+      subst (λ (o : Option Kind). Good (given_sort o) (Node Called (Named place name) l)) (sym n) (called-typed scene known k place name l c e t)
   call-good f place name l (enrols way same) = subst (λ (x : Function). Good (given_sort x.gives) (Node Called (Named place name) l)) (sym same) tt
 
   called-fine : (place : ℕ) (name : List ℕ) {l : Phrase} → AreFine l → Fine (Node Called (Named place name) l)
   called-fine place name {l} g c =
       let called-clean = left-clean known roots Value Called (Named place name) l c in
-      let k = function-does known numbers scene stands name (known-name known roots (Name use'.Function) use'.Function place name refl called-clean) in
+      let k = function-does known scene stands name (known-name known roots (Name use'.Function) use'.Function place name refl called-clean) in
       let I : Meaning → Type 0 = λ x. ill_function x (Listed l) place ≡ None in
       let U : Meaning → Type 0 = λ x. unwritten_call x (Listed l) ≡ None in
       let G : Meaning → Type 0 = λ x. Good (call_sort x) (Node Called (Named place name) l) in
@@ -412,32 +412,32 @@ module _ (known : check.Known) (numbers : Known) (scene : Scene) (stands : Stand
       subst G (sym k.1) (call-good k.0 place name l (calls k.0 name k.2 g (right-clean known roots Value Called (Named place name) l c) place i u))
 
   -- a name that is read
-  named-good : (s : Sort) (place : ℕ) (name : List ℕ) → ReadsAs numbers scene name s → Good s (Named place name)
-  named-good (sort.Value k) place name h = named-typed scene numbers k place name h
+  named-good : (s : Sort) (place : ℕ) (name : List ℕ) → ReadsAs known scene name s → Good s (Named place name)
+  named-good (sort.Value k) place name h = named-typed scene known k place name h
   named-good sort.Acl place name h = tt
   named-good sort.Weight place name h = absurd h
   named-good sort.Nothing place name h = tt
   named-good sort.Unknown place name h = absurd h
 
-  reads : (place : ℕ) (name : List ℕ) → Clean known roots Value (Named place name) → ReadsAs numbers scene name (sort_of (meaning_of known use'.Read name))
+  reads : (place : ℕ) (name : List ℕ) → Clean known roots Value (Named place name) → ReadsAs known scene name (sort_of (meaning_of known use'.Read name))
   reads place name c =
       let may : Subroutine → Bool = λ x. may_use use'.Read (meaning_of known use'.Read name) x in
       let all = both-true (list_all may roots) (is_reached roots || not (is_for_init use'.Read (meaning_of known use'.Read name)))
       (unless-none (may_be_used roots use'.Read (meaning_of known use'.Read name)) place (used-name known roots Value place name c)) in
-      name-reads known numbers scene stands name root (known-name known roots Value use'.Read place name refl c) (all-contained may roots root all.0 reached.0 reached.1 reached.2)
+      name-reads known scene stands name root (known-name known roots Value use'.Read place name refl c) (all-contained may roots root all.0 reached.0 reached.1 reached.2)
 
   name-fine : (place : ℕ) (name : List ℕ) → Fine (Named place name)
   name-fine place name c = named-good (sort_of (meaning_of known use'.Read name)) place name (reads place name c)
 
   -- the right side of a match
-  acl-named : (s : Sort) (name : List ℕ) → ReadsAs numbers scene name s → is_acl s ≡ true → AclNamed numbers scene name
+  acl-named : (s : Sort) (name : List ℕ) → ReadsAs known scene name s → is_acl s ≡ true → AclNamed known scene name
   acl-named sort.Acl name r h = r
   acl-named (sort.Value k) name r h = absurd (false-true h)
   acl-named sort.Weight name r h = absurd (false-true h)
   acl-named sort.Nothing name r h = absurd (false-true h)
   acl-named sort.Unknown name r h = absurd (false-true h)
 
-  acl-sought : (e : Phrase) → is_acl (SortOf e) ≡ true → Clean known roots Value e → Sought scene numbers kind.Ip e
+  acl-sought : (e : Phrase) → is_acl (SortOf e) ≡ true → Clean known roots Value e → Sought scene known kind.Ip e
   acl-sought (Named place name) h c = typed.acl_named place name refl (acl-named (sort_of (meaning_of known use'.Read name)) name (reads place name c) h)
   acl-sought (String place text) h c = absurd (false-true h)
   acl-sought (Integer place n) h c = absurd (false-true h)
@@ -451,11 +451,11 @@ module _ (known : check.Known) (numbers : Known) (scene : Scene) (stands : Stand
   acl-sought (Node Called a b) h c = absurd (call-no-acl (view_of known (Name use'.Function) a).meaning h)
   acl-sought (Node _ a b) h c = absurd (false-true h)
 
-  string-sought : (k : Kind) (e : Phrase) → is_string (view_of known Value e).literal ≡ true → Sought scene numbers k e
-  string-sought k e w = let t = string-text known e w in subst (λ (x : Phrase). Sought scene numbers k x) (sym t.2) (typed.pattern_of t.0 t.1)
+  string-sought : (k : Kind) (e : Phrase) → is_string (view_of known Value e).literal ≡ true → Sought scene known k e
+  string-sought k e w = let t = string-text known e w in subst (λ (x : Phrase). Sought scene known k x) (sym t.2) (typed.pattern_of t.0 t.1)
 
   right-sought : (k : Kind) (e : Phrase) → (not (is_ip (sort.Value k)) || is_acl (SortOf e)) ≡ true → (not (is_searched (sort.Value k)) || is_string (view_of known Value e).literal) ≡ true
-      → Clean known roots Value e → Sought scene numbers k e
+      → Clean known roots Value e → Sought scene known k e
   right-sought kind.Ip e a w c = acl-sought e a c
   right-sought kind.String e a w c = string-sought kind.String e w
   right-sought kind.Int e a w c = string-sought kind.Int e w
@@ -471,7 +471,7 @@ module _ (known : check.Known) (numbers : Known) (scene : Scene) (stands : Stand
       (conditional (SortOf d) d x.0 f, conditional (SortOf e) e x.1 g)
 
   abbrev Two : (Kind → Kind → Type 0) → Phrase → Phrase → Type 0
-  Two P d e = (k : Kind) × (l : Kind) × P k l × Typed scene numbers k d × Typed scene numbers l e
+  Two P d e = (k : Kind) × (l : Kind) × P k l × Typed scene known k d × Typed scene known l e
 
   abbrev SameKinds : Kind → Kind → Type 0
   SameKinds k l = same_kind k l ≡ true
@@ -480,7 +480,7 @@ module _ (known : check.Known) (numbers : Known) (scene : Scene) (stands : Stand
   Ordered k l = (is_ordered (sort.Value k) ≡ true) × (same_kind k l ≡ true)
 
   two-alike : (d e : Phrase) → is_value (SortOf d) ≡ true → alike (SortOf d) (SortOf e) ≡ true → Good (SortOf d) d → Good (SortOf e) e
-      → (k : Kind) × (l : Kind) × (SortOf d ≡ sort.Value k) × (SortOf e ≡ sort.Value l) × SameKinds k l × Typed scene numbers k d × Typed scene numbers l e
+      → (k : Kind) × (l : Kind) × (SortOf d ≡ sort.Value k) × (SortOf e ≡ sort.Value l) × SameKinds k l × Typed scene known k d × Typed scene known l e
   two-alike d e v a f g =
       let x = valued (SortOf d) d v f in
       let b : alike (sort.Value x.0) (SortOf e) ≡ true = subst (λ (s : Sort). alike s (SortOf e) ≡ true) x.1 a in
@@ -504,7 +504,7 @@ module _ (known : check.Known) (numbers : Known) (scene : Scene) (stands : Stand
   -- a match
   matches : (d e : Phrase) → both_fit (is_value (SortOf d)) (not (is_ip (SortOf d)) || is_acl (SortOf e)) (view_of known Value d) (view_of known Value e) ≡ None
       → (not (is_searched (SortOf d)) || is_string (view_of known Value e).literal) ≡ true → Good (SortOf d) d → Clean known roots Value e
-      → (k : Kind) × Typed scene numbers k d × Sought scene numbers k e
+      → (k : Kind) × Typed scene known k d × Sought scene known k e
   matches d e m w f c =
       let x = both-fits (is_value (SortOf d)) (not (is_ip (SortOf d)) || is_acl (SortOf e)) (view_of known Value d) (view_of known Value e) m in
       let v = valued (SortOf d) d x.0 f in
@@ -513,45 +513,45 @@ module _ (known : check.Known) (numbers : Known) (scene : Scene) (stands : Stand
       (v.0, v.2, right-sought v.0 e a b c)
 
   compared-good : (how : Asked) (d e : Phrase) → Clean known roots Value (Node (Compared how) d e) → Good (SortOf d) d → Good (SortOf e) e
-      → Typed scene numbers kind.Bool (Node (Compared how) d e)
-  compared-good asked.Equal d e c f g = let t = equals d e (fits known roots Value (Compared asked.Equal) d e c) f g in equal-typed scene numbers t.0 t.1 d e t.2 t.3 t.4
-  compared-good asked.NotEqual d e c f g = let t = equals d e (fits known roots Value (Compared asked.NotEqual) d e c) f g in unequal-typed scene numbers t.0 t.1 d e t.2 t.3 t.4
-  compared-good asked.Less d e c f g = let t = orders d e (fits known roots Value (Compared asked.Less) d e c) f g in less-typed scene numbers t.0 t.1 d e t.2 t.3 t.4
+      → Typed scene known kind.Bool (Node (Compared how) d e)
+  compared-good asked.Equal d e c f g = let t = equals d e (fits known roots Value (Compared asked.Equal) d e c) f g in equal-typed scene known t.0 t.1 d e t.2 t.3 t.4
+  compared-good asked.NotEqual d e c f g = let t = equals d e (fits known roots Value (Compared asked.NotEqual) d e c) f g in unequal-typed scene known t.0 t.1 d e t.2 t.3 t.4
+  compared-good asked.Less d e c f g = let t = orders d e (fits known roots Value (Compared asked.Less) d e c) f g in less-typed scene known t.0 t.1 d e t.2 t.3 t.4
   compared-good asked.LessOrEqual d e c f g =
-      let t = orders d e (fits known roots Value (Compared asked.LessOrEqual) d e c) f g in less-or-equal-typed scene numbers t.0 t.1 d e t.2 t.3 t.4
-  compared-good asked.Greater d e c f g = let t = orders d e (fits known roots Value (Compared asked.Greater) d e c) f g in greater-typed scene numbers t.0 t.1 d e t.2 t.3 t.4
+      let t = orders d e (fits known roots Value (Compared asked.LessOrEqual) d e c) f g in less-or-equal-typed scene known t.0 t.1 d e t.2 t.3 t.4
+  compared-good asked.Greater d e c f g = let t = orders d e (fits known roots Value (Compared asked.Greater) d e c) f g in greater-typed scene known t.0 t.1 d e t.2 t.3 t.4
   compared-good asked.GreaterOrEqual d e c f g =
-      let t = orders d e (fits known roots Value (Compared asked.GreaterOrEqual) d e c) f g in greater-or-equal-typed scene numbers t.0 t.1 d e t.2 t.3 t.4
+      let t = orders d e (fits known roots Value (Compared asked.GreaterOrEqual) d e c) f g in greater-or-equal-typed scene known t.0 t.1 d e t.2 t.3 t.4
   compared-good asked.Match d e c f g =
       let w = unless-none (not (is_searched (SortOf d)) || is_string (view_of known Value e).literal) (view_of known Value e).first (written known roots Value (Compared asked.Match) d e c) in
       let t = matches d e (fits known roots Value (Compared asked.Match) d e c) w f (right-clean known roots Value (Compared asked.Match) d e c) in
-      match-typed scene numbers t.0 d e t.1 t.2
+      match-typed scene known t.0 d e t.1 t.2
   compared-good asked.NotMatch d e c f g =
       let w = unless-none (not (is_searched (SortOf d)) || is_string (view_of known Value e).literal) (view_of known Value e).first (written known roots Value (Compared asked.NotMatch) d e c) in
       let t = matches d e (fits known roots Value (Compared asked.NotMatch) d e c) w f (right-clean known roots Value (Compared asked.NotMatch) d e c) in
-      mismatch-typed scene numbers t.0 d e t.1 t.2
+      mismatch-typed scene known t.0 d e t.1 t.2
 
   either-fine : {d e : Phrase} → Fine d → Fine e → Fine (Node Either d e)
   either-fine {d} {e} f g c =
       let x = two-conditions d e (fits known roots Value Either d e c) (f (left-clean known roots Value Either d e c)) (g (right-clean known roots Value Either d e c)) in
-      either-typed scene numbers x.0.0 x.1.0 d e x.0.1 x.1.1 x.0.2 x.1.2
+      either-typed scene known x.0.0 x.1.0 d e x.0.1 x.1.1 x.0.2 x.1.2
 
   both-fine : {d e : Phrase} → Fine d → Fine e → Fine (Node Both d e)
   both-fine {d} {e} f g c =
       let x = two-conditions d e (fits known roots Value Both d e c) (f (left-clean known roots Value Both d e c)) (g (right-clean known roots Value Both d e c)) in
-      both-typed scene numbers x.0.0 x.1.0 d e x.0.1 x.1.1 x.0.2 x.1.2
+      both-typed scene known x.0.0 x.1.0 d e x.0.1 x.1.1 x.0.2 x.1.2
 
   not-fine : (place : ℕ) {e : Phrase} → Fine e → Fine (Node Not (At place) e)
   not-fine place {e} g c =
       let x = unless-none (is_condition (SortOf e)) (view_of known Value e).first (fits known roots Value Not (At place) e c) in
       let v = conditional (SortOf e) e x (g (right-clean known roots Value Not (At place) e c)) in
-      not-typed scene numbers v.0 (At place) e v.1 v.2
+      not-typed scene known v.0 (At place) e v.1 v.2
 
   compared-fine : {d e : Phrase} (how : Asked) → Fine d → Fine e → Fine (Node (Compared how) d e)
   compared-fine {d} {e} how f g c = compared-good how d e c (f (left-clean known roots Value (Compared how) d e c)) (g (right-clean known roots Value (Compared how) d e c))
 
   -- sums and differences
-  sum-good : (k l : Kind) (e : Phrase) → adds k l ≡ true → ((m : Kind) → sum_kind k l ≡ sort.Value m → Typed scene numbers m e) → Good (sum_kind k l) e
+  sum-good : (k l : Kind) (e : Phrase) → adds k l ≡ true → ((m : Kind) → sum_kind k l ≡ sort.Value m → Typed scene known m e) → Good (sum_kind k l) e
   sum-good kind.String l e h g = g kind.String refl
   sum-good kind.Int kind.String e h g = g kind.String refl
   sum-good kind.Int kind.Int e h g = g kind.Int refl
@@ -575,10 +575,10 @@ module _ (known : check.Known) (numbers : Known) (scene : Scene) (stands : Stand
       let b : adds v.0 w.0 ≡ true = subst (λ (s : Sort). may_add (sort.Value v.0) s ≡ true) w.1 a in
       let G : Sort → Sort → Type 0 = λ s t. Good (sum_sort s t) (Node Added d e) in
       subst (λ (s : Sort). G s (SortOf e)) (sym v.1) (subst (λ (t : Sort). G (sort.Value v.0) t) (sym w.1)
-      (sum-good v.0 w.0 (Node Added d e) b (λ m z. sum-typed scene numbers v.0 w.0 m d e b z v.2 w.2)))
+      (sum-good v.0 w.0 (Node Added d e) b (λ m z. sum-typed scene known v.0 w.0 m d e b z v.2 w.2)))
 
   difference-good : (k l : Kind) (e : Phrase) → is_ordered (sort.Value k) ≡ true → same_kind k l ≡ true
-      → ((m : Kind) → difference_kind k l ≡ sort.Value m → Typed scene numbers m e) → Good (difference_kind k l) e
+      → ((m : Kind) → difference_kind k l ≡ sort.Value m → Typed scene known m e) → Good (difference_kind k l) e
   difference-good kind.Int kind.Int e o h g = g kind.Int refl
   difference-good kind.Int _ e o h g = absurd (false-true h)
   difference-good kind.Duration kind.Duration e o h g = g kind.Duration refl
@@ -595,13 +595,13 @@ module _ (known : check.Known) (numbers : Known) (scene : Scene) (stands : Stand
       let o = subst (λ (s : Sort). is_ordered s ≡ true) t.2 x.0 in
       let G : Sort → Sort → Type 0 = λ s u. Good (difference_sort s u) (Node Subtracted d e) in
       subst (λ (s : Sort). G s (SortOf e)) (sym t.2) (subst (λ (u : Sort). G (sort.Value t.0) u) (sym t.3)
-      (difference-good t.0 t.1 (Node Subtracted d e) o t.4 (λ m z. difference-typed scene numbers t.0 t.1 m d e o t.4 z t.5 t.6)))
+      (difference-good t.0 t.1 (Node Subtracted d e) o t.4 (λ m z. difference-typed scene known t.0 t.1 m d e o t.4 z t.5 t.6)))
 
   group-fine : (place : ℕ) {e : Phrase} → Fine e → Fine (Node Group (At place) e)
   group-fine place {e} g c =
       let x = unless-none (is_value (SortOf e)) (view_of known Value e).first (fits known roots Value Group (At place) e c) in
       let v = valued (SortOf e) e x (g (right-clean known roots Value Group (At place) e c)) in
-      subst (λ (s : Sort). Good (grouped_sort s) (Node Group (At place) e)) (sym v.1) (group-typed scene numbers v.0 (At place) e v.2)
+      subst (λ (s : Sort). Good (grouped_sort s) (Node Group (At place) e)) (sym v.1) (group-typed scene known v.0 (At place) e v.2)
 
   named-fine : {e : Phrase} {x : Token} → IsName e x → Fine e
   named-fine (plain_name {p} {t}) = name-fine p t
@@ -636,11 +636,11 @@ module _ (known : check.Known) (numbers : Known) (scene : Scene) (stands : Stand
 
     term-fine : {e : Phrase} {ts rest : List Token} → IsTerm e ts rest → Fine e
     term-fine (grammar.group {p = p} h) = group-fine p (expression-fine h)
-    term-fine (grammar.string_term {p = p} {t = t}) = λ c. string-typed scene numbers p t
-    term-fine (grammar.integer_term {p = p} {n = n}) = λ c. integer-typed scene numbers p n
-    term-fine (grammar.duration_term {p = p} {n = n}) = λ c. duration-typed scene numbers p n
-    term-fine (grammar.minus_integer {p = p}) = λ c. integer-typed scene numbers p _
-    term-fine (grammar.minus_duration {p = p}) = λ c. duration-typed scene numbers p _
+    term-fine (grammar.string_term {p = p} {t = t}) = λ c. string-typed scene known p t
+    term-fine (grammar.integer_term {p = p} {n = n}) = λ c. integer-typed scene known p n
+    term-fine (grammar.duration_term {p = p} {n = n}) = λ c. duration-typed scene known p n
+    term-fine (grammar.minus_integer {p = p}) = λ c. integer-typed scene known p _
+    term-fine (grammar.minus_duration {p = p}) = λ c. duration-typed scene known p _
     term-fine (grammar.variable h n) = named-fine h
     term-fine (grammar.call h k) = call-fine h (arguments-fine k)
 

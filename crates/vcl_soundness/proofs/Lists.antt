@@ -1,206 +1,358 @@
--- What the names of a text stand for in numbers is there among what it declares, and its own subroutines have their bodies.
-use Rattle.std.proofs.Common.{◌≡◌, ℕ, zero, suc, ◌+◌, ◌<◌, ◌≤◌, Bool, true, false, length, position, List, [], ◌∷◌, ◌++◌, refl, sym, ap, ◌∙◌, subst, append_assoc, append-nil, Option, Some, None, option_and_then, slice_get, get_or, if◌then◌else◌, arith}
+-- What the names of a text stand for is there among what it declares, and its own subroutines have their bodies.
+use Rattle.std.proofs.Common.{◌≡◌, ℕ, zero, suc, ◌+◌, nat_lt, Bool, true, false, not, length, map, position, List, [], ◌∷◌, ◌++◌, refl, sym, ap, ◌∙◌, subst, append-nil, append_assoc, Option, Some, None, is_some, option_and_then, option_map, slice_get, filter, filter_map, if◌then◌else◌, arith}
+use Rattle.std.specs.List.{position_or_len, cons_option}
+use Rattle.std.specs.Option.{unwrap_or}
 use Rattle.std.specs.Prelude.{Contains}
 use Rattle.std.specs.Str.{bytes_eq}
-use Rattle.std.proofs.lemmas.List.{length-append}
-use Rattle.std.proofs.lemmas.List.Quantifiers.{position-Some}
-use Rattle.std.proofs.lemmas.Option.{none-some, same_Some, slice_get-get_or}
+use Rattle.std.proofs.lemmas.Bool.{ltb-true, ltb-false, lt-ltb, le-ltb}
+use Rattle.std.proofs.lemmas.List.Elements.{filter-append}
+use Rattle.std.proofs.lemmas.Option.{none-some, same_Some}
 use Rattle.std.proofs.lemmas.Slice.Eq.{bytes_eq-Decides}
 use Rattle.directors.specs.declared.director.DirectorKind.{DirectorKind}
-use Rattle.vcl_tree.specs.Phrase.{Phrase, Node, Named, More, Bound, Called, New}
+use Rattle.acl_match.specs.declared.entry.AclEntry.{AclEntry}
+use Rattle.vcl_values.specs.declared.value.Backend.{Backend}
+use Rattle.vcl_tree.specs.Phrase as phrase
+use Rattle.vcl_tree.specs.Phrase.{Phrase}
 use Rattle.vcl_tree.specs.declared.item.Item.{Item}
 use Rattle.vcl_tree.specs.declared.item.Item.TheVariants as item
 use Rattle.vcl_tree.specs.declared.name.Name.{Name}
 use Rattle.vcl_language.specs.Modules.{maker_named}
 use Rattle.vcl_language.specs.Names.{is_reserved}
-use Rattle.vcl_code.specs.declared.names.Thing.{Thing}
-use Rattle.vcl_code.specs.declared.names.Thing.TheVariants as thing
-use Rattle.vcl_program.specs.declared.declarations.Declarations.{Declarations}
-use Rattle.vcl_program.specs.Declarations.{nothing, declared, with_backend, with_acl, with_director, with_object, with_objects, is_init, with_own, with_subroutine, with_item, with_items}
+use Rattle.vmod_host.specs.declared.signature.Stored.{Stored}
+use Rattle.vcl_symbols.specs.Known.{symbol_named}
+use Rattle.vcl_symbols.specs.declared.symbol_table.Symbol.{Symbol}
+use Rattle.vcl_symbols.specs.declared.symbol_table.Symbol.TheVariants as symbol
+use Rattle.vcl_check.specs.declared.declarations.NameSort.{NameSort}
+use Rattle.vcl_check.specs.declared.declarations.NameSort.TheVariants as sort
+use Rattle.vcl_check.specs.declared.mentions.MentionKind.{MentionKind}
+use Rattle.vcl_check.specs.declared.mentions.MentionKind.TheVariants as kind
+use Rattle.vcl_check.specs.Declarations.{declares_name, is_declared, names_of, is_sorted, is_of_sort, names_as, Sorts, sorts_of, place_among, made_by, declares, symbol_of, known_of}
+use Rattle.vcl_check.specs.Mentions.{Said, said, said_of, is_init, own_string, with_found, with_strings, with_given, with_call, object_kind, made, with_object, with_answer, with_mentions, with_item, with_items}
+use Rattle.vcl_check.specs.Texts.{says}
+use Rattle.vcl_program.specs.Declarations.{backends_of, acls_of, director, director_by, directors_of}
+use Rattle.vcl_program.specs.declared.code.Director.{Director}
+use Rattle.vcl_program.proofs.Found.{found-by, found-is}
 use Rattle.vcl_meaning.specs.Meaning.{own_bodies}
-use Rattle.vcl_store.proofs.Declared.{init-is}
-use Rattle.vcl_store.proofs.Rows.{false-true}
+use Rattle.vcl_soundness.proofs.Rows.{false-true, at-row}
+use Rattle.vcl_soundness.proofs.Made.{IsString, own-said}
 
--- a thing of a name is among the backends, ACLs, directors, or names of the text's own subroutines
-abbrev IsThere : ℕ → ℕ → ℕ → List (List ℕ) → List ℕ → Thing → Type 0
-IsThere b a r own name (thing.Backend k) = k < b
-IsThere b a r own name (thing.Acl k) = k < a
-IsThere b a r own name (thing.Director k) = k < r
-IsThere b a r own name (thing.Subroutine k) = slice_get own k ≡ Some name
-IsThere b a r own name thing.Other = Unit {0}
+-- The first symbol of a name among lists of names and symbols.
+abbrev first : List ℕ → List (List ℕ) → List Symbol → Option Symbol
+first name (n ∷ ns) (t ∷ ts) = if bytes_eq name n then Some t else first name ns ts
+first name _ _ = None
 
-abbrev AreThere : ℕ → ℕ → ℕ → List (List ℕ) → List (List ℕ) → List Thing → Type 0
-AreThere b a r own [] [] = Unit {0}
-AreThere b a r own (name ∷ names) (x ∷ xs) = IsThere b a r own name x × AreThere b a r own names xs
-AreThere b a r own _ _ = ⊥
+abbrev at_position : List ℕ → List (List ℕ) → List Symbol → Option Symbol
+at_position name ns ts = option_and_then (λ k. slice_get ts k) (position (λ other. bytes_eq name other) ns)
 
-abbrev Kept : Declarations → Type 0
-Kept d = AreThere (length d.backends) (length d.acls) (length d.directors) d.own d.names d.things
-
--- lists that grow
-abbrev Longer : List (List ℕ) → List (List ℕ) → Type 0
-Longer own more = (k : ℕ) (name : List ℕ) → slice_get own k ≡ Some name → slice_get more k ≡ Some name
-
-still-there : (b a r c f q : ℕ) (own more : List (List ℕ)) → b ≤ c → a ≤ f → r ≤ q → Longer own more → (name : List ℕ) (x : Thing) → IsThere b a r own name x → IsThere c f q more name x
-still-there b a r c f q own more i j l g name (thing.Backend k) h = omega (arith, i, h)
-still-there b a r c f q own more i j l g name (thing.Acl k) h = omega (arith, j, h)
-still-there b a r c f q own more i j l g name (thing.Director k) h = omega (arith, l, h)
-still-there b a r c f q own more i j l g name (thing.Subroutine k) h = g k name h
-still-there b a r c f q own more i j l g name thing.Other h = tt
-
-all-still : (b a r c f q : ℕ) (own more : List (List ℕ)) → b ≤ c → a ≤ f → r ≤ q → Longer own more → (names : List (List ℕ)) (xs : List Thing) → AreThere b a r own names xs
-    → AreThere c f q more names xs
-all-still b a r c f q own more i j l g [] [] h = tt
-all-still b a r c f q own more i j l g (name ∷ names) (x ∷ xs) h = (still-there b a r c f q own more i j l g name x h.0, all-still b a r c f q own more i j l g names xs h.1)
-all-still b a r c f q own more i j l g [] (x ∷ xs) h = absurd h
-all-still b a r c f q own more i j l g (name ∷ names) [] h = absurd h
-
--- one more thing
-there-push : (b a r : ℕ) (own names : List (List ℕ)) (xs : List Thing) (name : List ℕ) (x : Thing) → AreThere b a r own names xs → IsThere b a r own name x
-    → AreThere b a r own (names ++ name ∷ []) (xs ++ x ∷ [])
-there-push b a r own [] [] name x h g = (g, tt)
-there-push b a r own (n ∷ names) (y ∷ xs) name x h g = (h.0, there-push b a r own names xs name x h.1 g)
-there-push b a r own [] (y ∷ xs) name x h g = absurd h
-there-push b a r own (n ∷ names) [] name x h g = absurd h
-
-same-own : (own : List (List ℕ)) → Longer own own
-same-own own k name e = e
-
-longer-own : (own : List (List ℕ)) (last : List ℕ) → Longer own (own ++ last ∷ [])
-longer-own [] last k name e = absurd (none-some name e)
-longer-own (n ∷ own) last zero name e = e
-longer-own (n ∷ own) last (suc k) name e = longer-own own last k name e
-
-last-own : (own : List (List ℕ)) (last : List ℕ) → slice_get (own ++ last ∷ []) (length own) ≡ Some last
-last-own [] last = refl
-last-own (n ∷ own) last = last-own own last
-
-one-longer : {A : Type 0} (xs : List A) (x : A) → length (xs ++ x ∷ []) ≡ length xs + 1
-one-longer xs x = length-append xs (x ∷ [])
-
-kept-other : (name : List ℕ) (d : Declarations) → Kept d → Kept (declared name thing.Other d)
-kept-other name d h = there-push (length d.backends) (length d.acls) (length d.directors) d.own d.names d.things name thing.Other h tt
-
-kept-backend : (is_none : Bool) (name : List ℕ) (d : Declarations) → Kept d → Kept (with_backend is_none name d)
-kept-backend is_none name d h =
-    let e = with_backend is_none name d in
-    let l : length e.backends ≡ length d.backends + 1 = one-longer d.backends _ in
-    there-push (length e.backends) (length d.acls) (length d.directors) d.own d.names d.things name (thing.Backend (length d.backends))
-    (all-still (length d.backends) (length d.acls) (length d.directors) (length e.backends) (length d.acls) (length d.directors) d.own d.own (omega (arith, l)) (omega arith) (omega arith)
-    (same-own d.own) d.names d.things h) (omega (arith, l))
-
-kept-acl : (name : List ℕ) (entries : _) (d : Declarations) → Kept d → Kept (with_acl name entries d)
-kept-acl name entries d h =
-    let e = with_acl name entries d in
-    let l : length e.acls ≡ length d.acls + 1 = one-longer d.acls _ in
-    there-push (length d.backends) (length e.acls) (length d.directors) d.own d.names d.things name (thing.Acl (length d.acls))
-    (all-still (length d.backends) (length d.acls) (length d.directors) (length d.backends) (length e.acls) (length d.directors) d.own d.own (omega arith) (omega (arith, l)) (omega arith)
-    (same-own d.own) d.names d.things h) (omega (arith, l))
-
-kept-director : (name : List ℕ) (kind : Option DirectorKind) (d : Declarations) → Kept d → Kept (with_director name kind d)
-kept-director name None d h = kept-other name d h
-kept-director name (Some kind) d h =
-    let e = with_director name (Some kind) d in
-    let l : length e.directors ≡ length d.directors + 1 = one-longer d.directors _ in
-    there-push (length d.backends) (length d.acls) (length e.directors) d.own d.names d.things name (thing.Director (length d.directors))
-    (all-still (length d.backends) (length d.acls) (length d.directors) (length d.backends) (length d.acls) (length e.directors) d.own d.own (omega arith) (omega arith) (omega (arith, l))
-    (same-own d.own) d.names d.things h) (omega (arith, l))
-
-kept-own : (name : List ℕ) (d : Declarations) → Kept d → Kept (with_own name d)
-kept-own name d h =
-    let own = d.own ++ name ∷ [] in
-    there-push (length d.backends) (length d.acls) (length d.directors) own d.names d.things name (thing.Subroutine (length d.own))
-    (all-still (length d.backends) (length d.acls) (length d.directors) (length d.backends) (length d.acls) (length d.directors) d.own own (omega arith) (omega arith) (omega arith)
-    (longer-own d.own name) d.names d.things h) (last-own d.own name)
-
--- an object adds no subroutine
-pub record Grows (d e : Declarations) : Type 0 where
-  pub kept : Kept d → Kept e
-  pub own : e.own ≡ d.own
-
-not-grown : (d : Declarations) → Grows d d
-not-grown d = record { kept = λ h. h; own = refl }
-
-director-own : (name : List ℕ) (kind : Option DirectorKind) (d : Declarations) → (with_director name kind d).own ≡ d.own
-director-own name None d = refl
-director-own name (Some kind) d = refl
-
-object-grows : (d : Declarations) (e : Phrase) → Grows d (with_object d e)
-object-grows d (Node New sign (Node Bound (Named place name) (Node Called (Named q maker) arguments))) =
-    record { kept = kept-director name (maker_named maker) d; own = director-own name (maker_named maker) d }
-object-grows d _ = not-grown d
-
-objects-grow : (d : Declarations) (b : Phrase) → Grows d (with_objects d b)
-unfolding with_objects
-objects-grow d (Node More front statement) =
-    let first = objects-grow d front in
-    let next = object-grows (with_objects d front) statement in
-    record { kept = λ h. next.kept (first.kept h); own = next.own ∙ first.own }
-objects-grow d _ = not-grown d
-
-kept-subroutine : (name : List ℕ) (block : Phrase) (d : Declarations) → Kept d → Kept (with_subroutine name block d)
-kept-subroutine name block d h = by-name (is_init name) (is_reserved name)
+later-number : (q m : ℕ) → nat_lt (suc q) (suc m) ≡ nat_lt q m
+later-number q m = by-order (nat_lt q m) refl
   where
-    by-name : (i r : Bool) → Kept (if i then with_objects d block else (if r then d else with_own name d))
-    by-name true r = (objects-grow d block).kept h
-    by-name false true = h
-    by-name false false = kept-own name d h
+    by-order : (b : Bool) → nat_lt q m ≡ b → nat_lt (suc q) (suc m) ≡ b
+    by-order true e = lt-ltb (suc q) (suc m) (omega (arith, ltb-true q m e))
+    by-order false e = le-ltb (suc q) (suc m) (omega (arith, ltb-false q m e))
 
-kept-item : (d : Declarations) (i : Item) → Kept d → Kept (with_item d i)
-kept-item d (item.Import place name) h = h
-kept-item d (item.Backend place name attributes) h = kept-backend false name.text d h
-kept-item d (item.NoBackend place name) h = kept-backend true name.text d h
-kept-item d (item.Probe place name attributes) h = kept-other name.text d h
-kept-item d (item.Acl place name entries) h = kept-acl name.text entries d h
-kept-item d (item.Sub place name block) h = kept-subroutine name.text block d h
-
-kept-items : (d : Declarations) (items : List Item) → Kept d → Kept (with_items d items)
-kept-items d [] h = h
-kept-items d (i ∷ is) h = kept-items (with_item d i) is (kept-item d i h)
-
--- what a name stands for
-at-number : (b a r : ℕ) (own names : List (List ℕ)) (xs : List Thing) (k : ℕ) (other : List ℕ) (x : Thing) → AreThere b a r own names xs → k < length names → slice_get xs k ≡ Some x
-    → IsThere b a r own (get_or names k other) x
-at-number b a r own [] xs k other x h low e = absurd (omega (arith, low))
-at-number b a r own (n ∷ names) [] k other x h low e = absurd h
-at-number b a r own (n ∷ names) (y ∷ xs) zero other x h low e = subst (λ (z : Thing). IsThere b a r own n z) (same_Some y x e) h.0
-at-number b a r own (n ∷ names) (y ∷ xs) (suc k) other x h low e = at-number b a r own names xs k other x h.1 (omega (arith, low)) e
-
-named-there : (b a r : ℕ) (own names : List (List ℕ)) (xs : List Thing) → AreThere b a r own names xs → (name : List ℕ) (x : Thing)
-    → option_and_then (λ k. slice_get xs k) (position (λ other. bytes_eq name other) names) ≡ Some x → IsThere b a r own name x
-named-there b a r own names xs h name x e = by-place (position (λ other. bytes_eq name other) names) refl e
+later-symbol : (ts : List Symbol) (t : Symbol) (q m : ℕ)
+    → option_and_then (λ k. slice_get (t ∷ ts) k) (if nat_lt (1 + q) (suc m) then Some (1 + q) else None) ≡ option_and_then (λ k. slice_get ts k) (if nat_lt q m then Some q else None)
+later-symbol ts t q m =
+    let there : Bool → ℕ → Option Symbol = λ b n. option_and_then (λ k. slice_get (t ∷ ts) k) (if b then Some n else None) in
+    let P : ℕ → Type 0 = λ n. there (nat_lt n (suc m)) n ≡ option_and_then (λ k. slice_get ts k) (if nat_lt q m then Some q else None) in
+    let next : suc q ≡ 1 + q = omega arith in
+    subst P next (ap (λ (b : Bool). there b (suc q)) (later-number q m) ∙ by-order (nat_lt q m))
   where
-    by-place : (o : Option ℕ) → position (λ other. bytes_eq name other) names ≡ o → option_and_then (λ k. slice_get xs k) o ≡ Some x → IsThere b a r own name x
-    by-place None f e = absurd (none-some x e)
-    by-place (Some k) f e =
-        let p = position-Some (λ other. bytes_eq name other) names k name f in
-        let same : name ≡ get_or names k name = (bytes_eq-Decides name (get_or names k name)).0 p.1 in
-        subst (λ (n : List ℕ). IsThere b a r own n x) (sym same) (at-number b a r own names xs k name x h p.0 e)
+    by-order : (b : Bool) → option_and_then (λ k. slice_get (t ∷ ts) k) (if b then Some (suc q) else None) ≡ option_and_then (λ k. slice_get ts k) (if b then Some q else None)
+    by-order true = refl
+    by-order false = refl
 
--- of a whole text
-pub record AllThere (d : Declarations) : Type 0 where
-  pub backends : (name : List ℕ) (k : ℕ) → option_and_then (λ i. slice_get d.things i) (position (λ other. bytes_eq name other) d.names) ≡ Some (thing.Backend k) → k < length d.backends
-  pub acls : (name : List ℕ) (k : ℕ) → option_and_then (λ i. slice_get d.things i) (position (λ other. bytes_eq name other) d.names) ≡ Some (thing.Acl k) → k < length d.acls
-  pub directors : (name : List ℕ) (k : ℕ) → option_and_then (λ i. slice_get d.things i) (position (λ other. bytes_eq name other) d.names) ≡ Some (thing.Director k) → k < length d.directors
-  pub own : (name : List ℕ) (k : ℕ) → option_and_then (λ i. slice_get d.things i) (position (λ other. bytes_eq name other) d.names) ≡ Some (thing.Subroutine k) → slice_get d.own k ≡ Some name
+no-symbol : (o : Option ℕ) → option_and_then (λ k. slice_get {X = Symbol} [] k) o ≡ None
+no-symbol None = refl
+no-symbol (Some k) = refl
 
-all-there : (d : Declarations) → Kept d → AllThere d
-all-there d h =
-    let named = named-there (length d.backends) (length d.acls) (length d.directors) d.own d.names d.things h in
-    record {
-      backends = λ name k e. named name (thing.Backend k) e;
-      acls = λ name k e. named name (thing.Acl k) e;
-      directors = λ name k e. named name (thing.Director k) e;
-      own = λ name k e. named name (thing.Subroutine k) e;
-    }
+position-first : (name : List ℕ) (ns : List (List ℕ)) (ts : List Symbol) → at_position name ns ts ≡ first name ns ts
+position-first name [] ts = refl
+position-first name (n ∷ ns) [] = no-symbol (position (λ other. bytes_eq name other) (n ∷ ns))
+position-first name (n ∷ ns) (t ∷ ts) = by-name (bytes_eq name n) (position-first name ns ts)
+  where
+    q : ℕ
+    q = position_or_len (λ other. bytes_eq name other) ns
 
-pub items-there : (items : List Item) → AllThere (with_items nothing items)
-items-there items = all-there (with_items nothing items) (kept-items nothing items tt)
+    at : ℕ → Option ℕ
+    at k = if nat_lt k (suc (length ns)) then Some k else None
 
--- what stands at a number below a list's length
-pub at-low : {A : Type 0} (xs : List A) (k : ℕ) → k < length xs → (x : A) × (slice_get xs k ≡ Some x)
-at-low [] k low = absurd (omega (arith, low))
-at-low (x ∷ xs) k low = (get_or (x ∷ xs) k x, slice_get-get_or (x ∷ xs) k x low)
+    by-name : (b : Bool) → at_position name ns ts ≡ first name ns ts
+        → option_and_then (λ k. slice_get (t ∷ ts) k) (at (if not b then 1 + q else 0)) ≡ (if b then Some t else first name ns ts)
+    by-name true e =
+        let there : Bool → Option Symbol = λ b. option_and_then (λ k. slice_get (t ∷ ts) k) (if b then Some 0 else None) in
+        ap there (lt-ltb 0 (suc (length ns)) (omega arith))
+    by-name false e = later-symbol ts t q (length ns) ∙ e
+
+-- what declares a symbol has a name among the declared ones
+declared-alike : (sorts : Sorts) (k : MentionKind) (name other : List ℕ) → declares_name k name ≡ is_some (declares sorts k name other)
+declared-alike sorts kind.Import name other = refl
+declared-alike sorts kind.Backend name other = refl
+declared-alike sorts kind.Probe name other = refl
+declared-alike sorts kind.Acl name other = refl
+declared-alike sorts kind.Subroutine name other = by-name (is_reserved name)
+  where
+    by-name : (b : Bool) → not b ≡ is_some (if b then None else Some (symbol.Subroutine (place_among sorts.subroutines name)))
+    by-name true = refl
+    by-name false = refl
+declared-alike sorts kind.Object name other = refl
+declared-alike sorts kind.NoObject name other = refl
+declared-alike sorts kind.Call name other = refl
+declared-alike sorts kind.Pattern name other = refl
+
+-- what declares the symbol that a name stands for
+pub record SaidAs (all : List Said) (sorts : Sorts) (name : List ℕ) (x : Symbol) : Type 0 where
+  pub said : Said
+  pub number : ℕ
+  pub here : slice_get all number ≡ Some said
+  pub named : name ≡ said.name
+  pub stands : symbol_of sorts said ≡ Some x
+
+said-later : (s : Said) (more : List Said) (sorts : Sorts) (name : List ℕ) (x : Symbol) → SaidAs more sorts name x → SaidAs (s ∷ more) sorts name x
+said-later s more sorts name x h = record { said = h.said; number = suc h.number; here = h.here; named = h.named; stands = h.stands }
+
+first-said : (sorts : Sorts) (name : List ℕ) (x : Symbol) (more : List Said) → first name (names_of (filter is_declared more)) (filter_map (symbol_of sorts) more) ≡ Some x
+    → SaidAs more sorts name x
+first-said sorts name x [] e = absurd (none-some x e)
+first-said sorts name x (s ∷ more) e =
+    by-symbol (is_declared s) (symbol_of sorts s) refl (declared-alike sorts s.kind s.name s.other) (first-said sorts name x more) e
+  where
+    declared : List Said
+    declared = filter is_declared more
+
+    symbols : List Symbol
+    symbols = filter_map (symbol_of sorts) more
+
+    by-name : (b : Bool) (y : Symbol) → bytes_eq name s.name ≡ b → symbol_of sorts s ≡ Some y → (first name (names_of declared) symbols ≡ Some x → SaidAs more sorts name x)
+        → (if b then Some y else first name (names_of declared) symbols) ≡ Some x → SaidAs (s ∷ more) sorts name x
+    by-name true y b-is y-is later e = record { said = s; number = zero; here = refl; named = (bytes_eq-Decides name s.name).0 b-is; stands = y-is ∙ e }
+    by-name false y b-is y-is later e = said-later s more sorts name x (later e)
+
+    by-symbol : (b : Bool) (o : Option Symbol) → symbol_of sorts s ≡ o → b ≡ is_some o → (first name (names_of declared) symbols ≡ Some x → SaidAs more sorts name x)
+        → first name (names_of (if b then s ∷ declared else declared)) (cons_option o symbols) ≡ Some x → SaidAs (s ∷ more) sorts name x
+    by-symbol true (Some y) o-is b-is later e = by-name (bytes_eq name s.name) y refl o-is later e
+    by-symbol false None o-is b-is later e = said-later s more sorts name x (later e)
+    by-symbol true None o-is b-is later e = absurd (false-true (sym b-is))
+    by-symbol false (Some y) o-is b-is later e = absurd (false-true b-is)
+
+symbol-said : (all : List Said) (stored : List Stored) (name : List ℕ) (x : Symbol) → symbol_named (known_of all stored) name ≡ Some x → SaidAs all (sorts_of all) name x
+symbol-said all stored name x e =
+    first-said (sorts_of all) name x all (sym (position-first name (names_of (filter is_declared all)) (filter_map (symbol_of (sorts_of all)) all)) ∙ e)
+
+-- the name of what is said of a sort has its number among the names of the sort
+sorted-at : (w : NameSort) (all : List Said) (k : ℕ) (s : Said) → slice_get all k ≡ Some s → is_of_sort w s ≡ true → (i : ℕ) × (slice_get (names_as w all) i ≡ Some s.name)
+sorted-at w [] k s e p = absurd (none-some s e)
+sorted-at w (x ∷ more) zero s e p = (zero, ap (λ (b : Bool). slice_get (names_of (if b then x ∷ filter (is_of_sort w) more else filter (is_of_sort w) more)) zero) here ∙ ap (λ (y : Said). Some y.name) same)
+  where
+    same : x ≡ s
+    same = same_Some x s e
+
+    here : is_of_sort w x ≡ true
+    here = ap (is_of_sort w) same ∙ p
+sorted-at w (x ∷ more) (suc k) s e p = by-sort (is_of_sort w x) (sorted-at w more k s e p)
+  where
+    by-sort : (b : Bool) → (i : ℕ) × (slice_get (names_as w more) i ≡ Some s.name)
+        → (i : ℕ) × (slice_get (names_of (if b then x ∷ filter (is_of_sort w) more else filter (is_of_sort w) more)) i ≡ Some s.name)
+    by-sort true h = (suc h.0, h.1)
+    by-sort false h = h
+
+pub number-stands : (w : NameSort) (all : List Said) (k : ℕ) (s : Said) → slice_get all k ≡ Some s → is_of_sort w s ≡ true
+    → slice_get (names_as w all) (place_among (names_as w all) s.name) ≡ Some s.name
+number-stands w all k s e p =
+    let i = sorted-at w all k s e p in
+    let f = found-by s.name (names_as w all) i.0 i.1 in
+    let place : place_among (names_as w all) s.name ≡ f.0 = ap (λ (o : Option ℕ). unwrap_or o 0) f.1 in
+    ap (slice_get (names_as w all)) place ∙ found-is s.name (names_as w all) f.0 f.1
+
+-- the sort and the number of a symbol
+abbrev IsSorted : Sorts → MentionKind → List ℕ → List ℕ → Symbol → Type 0
+IsSorted sorts c name other (symbol.Backend k) = (is_sorted sort.Backend c name other ≡ true) × (k ≡ place_among sorts.backends name)
+IsSorted sorts c name other (symbol.Acl k) = (is_sorted sort.Acl c name other ≡ true) × (k ≡ place_among sorts.acls name)
+IsSorted sorts c name other (symbol.Director d k) = (is_sorted sort.Director c name other ≡ true) × (k ≡ place_among sorts.directors name)
+IsSorted sorts c name other (symbol.Subroutine k) = (is_sorted sort.Subroutine c name other ≡ true) × (k ≡ place_among sorts.subroutines name)
+IsSorted sorts c name other _ = Unit {0}
+
+abbrev AreSorted : Sorts → MentionKind → List ℕ → List ℕ → Option Symbol → Type 0
+AreSorted sorts c name other None = Unit {0}
+AreSorted sorts c name other (Some x) = IsSorted sorts c name other x
+
+declared-sorted : (sorts : Sorts) (c : MentionKind) (name other : List ℕ) → AreSorted sorts c name other (declares sorts c name other)
+declared-sorted sorts kind.Backend name other = (refl, refl)
+declared-sorted sorts kind.Acl name other = (refl, refl)
+declared-sorted sorts kind.Object name other = by-maker (maker_named other) refl
+  where
+    by-maker : (o : Option DirectorKind) → is_some (maker_named other) ≡ is_some o → AreSorted sorts kind.Object name other (Some (made_by sorts name o))
+    by-maker None e = tt
+    by-maker (Some d) e = (e, refl)
+declared-sorted sorts kind.Subroutine name other = by-name (is_reserved name) refl
+  where
+    by-name : (b : Bool) → is_reserved name ≡ b → AreSorted sorts kind.Subroutine name other (if b then None else Some (symbol.Subroutine (place_among sorts.subroutines name)))
+    by-name true e = tt
+    by-name false e = (ap not e, refl)
+declared-sorted sorts kind.Import name other = tt
+declared-sorted sorts kind.Probe name other = tt
+declared-sorted sorts kind.NoObject name other = tt
+declared-sorted sorts kind.Call name other = tt
+declared-sorted sorts kind.Pattern name other = tt
+
+said-sorted : (all : List Said) (sorts : Sorts) (name : List ℕ) (x : Symbol) (h : SaidAs all sorts name x) → IsSorted sorts h.said.kind h.said.name h.said.other x
+said-sorted all sorts name x h =
+    subst (AreSorted sorts h.said.kind h.said.name h.said.other) h.stands (declared-sorted sorts h.said.kind h.said.name h.said.other)
+
+-- A sort that blocks say nothing of.
+pub record IsQuiet (w : NameSort) : Type 0 where
+  pub pattern : (name other : List ℕ) → is_sorted w kind.Pattern name other ≡ false
+  pub call : (name other : List ℕ) → is_sorted w kind.Call name other ≡ false
+  pub object : (name other : List ℕ) → is_sorted w kind.Object name other ≡ false
+  pub no_object : (name other : List ℕ) → is_sorted w kind.NoObject name other ≡ false
+
+backends-quiet : IsQuiet sort.Backend
+backends-quiet = record { pattern = λ n o. refl; call = λ n o. refl; object = λ n o. refl; no_object = λ n o. refl }
+
+acls-quiet : IsQuiet sort.Acl
+acls-quiet = record { pattern = λ n o. refl; call = λ n o. refl; object = λ n o. refl; no_object = λ n o. refl }
+
+subroutines-quiet : IsQuiet sort.Subroutine
+subroutines-quiet = record { pattern = λ n o. refl; call = λ n o. refl; object = λ n o. refl; no_object = λ n o. refl }
+
+-- what an item declares itself
+abbrev head_of : Item → Said
+head_of (item.Import place name) = said_of kind.Import name
+head_of (item.Backend place name attributes) = said_of kind.Backend name
+head_of (item.NoBackend place name) = said_of kind.Backend name
+head_of (item.Probe place name attributes) = said_of kind.Probe name
+head_of (item.Acl place name entries) = said_of kind.Acl name
+head_of (item.Sub place name block) = said_of kind.Subroutine name
+
+module _ (w : NameSort) (quiet : IsQuiet w) where
+  abbrev Of : List Said → List Said
+  Of before = filter (is_of_sort w) before
+
+  other-same : (before : List Said) (s : Said) → is_of_sort w s ≡ false → Of (before ++ s ∷ []) ≡ Of before
+  other-same before s e =
+      filter-append (is_of_sort w) before (s ∷ []) ∙ ap (λ (b : Bool). Of before ++ (if b then s ∷ [] else [])) e ∙ append-nil (Of before)
+
+  found-same : (before : List Said) (o : Option Said) → IsString o → Of (with_found before o) ≡ Of before
+  found-same before None is = refl
+  found-same before (Some s) is = other-same before s (ap (λ (k : MentionKind). is_sorted w k s.name s.other) is ∙ quiet.pattern s.name s.other)
+
+  strings-same : (before : List Said) (p : Phrase) → Of (with_strings before p) ≡ Of before
+  strings-same before (phrase.Node label a b) =
+      found-same (with_strings (with_strings before a) b) (own_string label a b) (own-said label a b) ∙ strings-same (with_strings before a) b ∙ strings-same before a
+  strings-same before _ = refl
+
+  given-same : (before : List Said) (p : Phrase) → Of (with_given before p) ≡ Of before
+  given-same before (phrase.Node phrase.Bound name value) = strings-same before value
+  given-same before _ = refl
+
+  call-same : (owner : List ℕ) (before : List Said) (p : Phrase) → Of (with_call owner before p) ≡ Of before
+  call-same owner before (phrase.Named place name) = other-same before (said kind.Call place name owner) (quiet.call name owner)
+  call-same owner before _ = refl
+
+  object-other : (owner name maker : List ℕ) → is_sorted w (object_kind owner) name maker ≡ false
+  object-other owner name maker = by-init (is_init owner)
+    where
+      by-init : (b : Bool) → is_sorted w (if b then kind.Object else kind.NoObject) name maker ≡ false
+      by-init true = quiet.object name maker
+      by-init false = quiet.no_object name maker
+
+  made-same : (owner : List ℕ) (place : ℕ) (name : List ℕ) (before : List Said) (p : Phrase) → Of (made owner place name before p) ≡ Of before
+  made-same owner place name before (phrase.Node phrase.Called (phrase.Named q maker) arguments) =
+      let one = said (object_kind owner) place name maker in
+      strings-same (before ++ one ∷ []) arguments ∙ other-same before one (object-other owner name maker)
+  made-same owner place name before _ = refl
+
+  object-same : (owner : List ℕ) (before : List Said) (p : Phrase) → Of (with_object owner before p) ≡ Of before
+  object-same owner before (phrase.Node phrase.Bound (phrase.Named place name) maker) = made-same owner place name before maker
+  object-same owner before _ = refl
+
+  answer-same : (before : List Said) (p : Phrase) → Of (with_answer before p) ≡ Of before
+  answer-same before (phrase.Node phrase.Called word arguments) = strings-same before arguments
+  answer-same before _ = refl
+
+  mentions-same : (owner : List ℕ) (before : List Said) (p : Phrase) → Of (with_mentions owner before p) ≡ Of before
+  mentions-same owner before (phrase.Node phrase.More a b) = mentions-same owner (with_mentions owner before a) b ∙ mentions-same owner before a
+  mentions-same owner before (phrase.Node phrase.ElseIf a b) = mentions-same owner (with_mentions owner before a) b ∙ mentions-same owner before a
+  mentions-same owner before (phrase.Node phrase.Else a b) = mentions-same owner (with_mentions owner before a) b ∙ mentions-same owner before a
+  mentions-same owner before (phrase.Node phrase.If a b) = mentions-same owner before b
+  mentions-same owner before (phrase.Node phrase.Branch condition block) = mentions-same owner (with_strings before condition) block ∙ strings-same before condition
+  mentions-same owner before (phrase.Node phrase.Set a b) = given-same before b
+  mentions-same owner before (phrase.Node phrase.Append a b) = given-same before b
+  mentions-same owner before (phrase.Node phrase.Jump a b) = call-same owner before b
+  mentions-same owner before (phrase.Node phrase.New a b) = object-same owner before b
+  mentions-same owner before (phrase.Node phrase.Return a b) = answer-same before b
+  mentions-same owner before (phrase.Node phrase.Called a b) = strings-same before (phrase.Node phrase.Called a b)
+  mentions-same owner before _ = refl
+
+  item-heads : (before : List Said) (i : Item) → Of (with_item before i) ≡ Of before ++ Of (head_of i ∷ [])
+  item-heads before (item.Import place name) = filter-append (is_of_sort w) before (said_of kind.Import name ∷ [])
+  item-heads before (item.Backend place name attributes) = filter-append (is_of_sort w) before (said_of kind.Backend name ∷ [])
+  item-heads before (item.NoBackend place name) = filter-append (is_of_sort w) before (said_of kind.Backend name ∷ [])
+  item-heads before (item.Probe place name attributes) = filter-append (is_of_sort w) before (said_of kind.Probe name ∷ [])
+  item-heads before (item.Acl place name entries) = filter-append (is_of_sort w) before (said_of kind.Acl name ∷ [])
+  item-heads before (item.Sub place name block) =
+      mentions-same name.text (before ++ said_of kind.Subroutine name ∷ []) block ∙ filter-append (is_of_sort w) before (said_of kind.Subroutine name ∷ [])
+
+  items-heads : (before : List Said) (items : List Item) → Of (with_items before items) ≡ Of before ++ Of (map head_of items)
+  items-heads before [] = sym (append-nil (Of before))
+  items-heads before (i ∷ is) =
+      items-heads (with_item before i) is
+      ∙ ap (λ (l : List Said). l ++ Of (map head_of is)) (item-heads before i)
+      ∙ append_assoc (Of before) (Of (head_of i ∷ [])) (Of (map head_of is))
+      ∙ ap (λ (l : List Said). Of before ++ l) (sym (filter-append (is_of_sort w) (head_of i ∷ []) (map head_of is)))
+
+  pub heads-alone : (items : List Item) → Of (says items) ≡ Of (map head_of items)
+  heads-alone items = items-heads [] items
+
+-- as many backends, ACLs and directors as are said
+abbrev heads_as : NameSort → List Item → List (List ℕ)
+heads_as w items = names_of (filter (is_of_sort w) (map head_of items))
+
+next : {m n : ℕ} → m ≡ n → suc m ≡ suc n
+next e = ap (λ k. suc k) e
+
+same-backends : (items : List Item) → length (heads_as sort.Backend items) ≡ length (backends_of items)
+same-backends [] = refl
+same-backends (item.Import place name ∷ is) = same-backends is
+same-backends (item.Backend place name attributes ∷ is) = next (same-backends is)
+same-backends (item.NoBackend place name ∷ is) = next (same-backends is)
+same-backends (item.Probe place name attributes ∷ is) = same-backends is
+same-backends (item.Acl place name entries ∷ is) = same-backends is
+same-backends (item.Sub place name block ∷ is) = same-backends is
+
+same-acls : (items : List Item) → length (heads_as sort.Acl items) ≡ length (acls_of items)
+same-acls [] = refl
+same-acls (item.Import place name ∷ is) = same-acls is
+same-acls (item.Backend place name attributes ∷ is) = same-acls is
+same-acls (item.NoBackend place name ∷ is) = same-acls is
+same-acls (item.Probe place name attributes ∷ is) = same-acls is
+same-acls (item.Acl place name entries ∷ is) = next (same-acls is)
+same-acls (item.Sub place name block ∷ is) = same-acls is
+
+same-directors : (all : List Said) → length (names_as sort.Director all) ≡ length (directors_of all)
+same-directors [] = refl
+same-directors (s ∷ more) = by-kind s.kind (same-directors more)
+  where
+    sorted : List Said
+    sorted = filter (is_of_sort sort.Director) more
+
+    by-maker : (o : Option DirectorKind) → length (names_of sorted) ≡ length (directors_of more)
+        → length (names_of (if is_some o then s ∷ sorted else sorted)) ≡ length (cons_option (option_map (director s.name) o) (directors_of more))
+    by-maker (Some d) e = next e
+    by-maker None e = e
+
+    by-kind : (k : MentionKind) → length (names_of sorted) ≡ length (directors_of more)
+        → length (names_of (if is_sorted sort.Director k s.name s.other then s ∷ sorted else sorted)) ≡ length (cons_option (director_by k s.name s.other) (directors_of more))
+    by-kind kind.Object e = by-maker (maker_named s.other) e
+    by-kind kind.Import e = e
+    by-kind kind.Backend e = e
+    by-kind kind.Probe e = e
+    by-kind kind.Acl e = e
+    by-kind kind.Subroutine e = e
+    by-kind kind.NoObject e = e
+    by-kind kind.Call e = e
+    by-kind kind.Pattern e = e
 
 -- the names of the text's own subroutines, and their bodies
 abbrev own_name : Item → List (List ℕ) → List (List ℕ)
@@ -211,30 +363,59 @@ abbrev own_names : List Item → List (List ℕ)
 own_names [] = []
 own_names (i ∷ is) = own_name i (own_names is)
 
-own-later : (name : List ℕ) (block : Phrase) (d : Declarations) (more : List (List ℕ))
-    → (with_subroutine name block d).own ++ more ≡ d.own ++ (if is_reserved name then more else name ∷ more)
-own-later name block d more = by-name (is_init name) (is_reserved name) refl refl
+same-own : (items : List Item) → heads_as sort.Subroutine items ≡ own_names items
+same-own [] = refl
+same-own (item.Import place name ∷ is) = same-own is
+same-own (item.Backend place name attributes ∷ is) = same-own is
+same-own (item.NoBackend place name ∷ is) = same-own is
+same-own (item.Probe place name attributes ∷ is) = same-own is
+same-own (item.Acl place name entries ∷ is) = same-own is
+same-own (item.Sub place name block ∷ is) = by-name (is_reserved name.text) (same-own is)
   where
-    by-name : (i r : Bool) → is_init name ≡ i → is_reserved name ≡ r
-        → (if i then with_objects d block else (if r then d else with_own name d)).own ++ more ≡ d.own ++ (if r then more else name ∷ more)
-    by-name true true i-is r-is = ap (λ (own : List (List ℕ)). own ++ more) (objects-grow d block).own
-    by-name true false i-is r-is =
-        let reserved : is_reserved name ≡ true = subst (λ (n : List ℕ). is_reserved n ≡ true) (sym (init-is name i-is)) refl in
-        absurd (false-true (sym r-is ∙ reserved))
-    by-name false true i-is r-is = refl
-    by-name false false i-is r-is = append_assoc d.own (name ∷ []) more
+    by-name : (b : Bool) → heads_as sort.Subroutine is ≡ own_names is
+        → names_of (if not b then said_of kind.Subroutine name ∷ filter (is_of_sort sort.Subroutine) (map head_of is) else filter (is_of_sort sort.Subroutine) (map head_of is))
+        ≡ (if b then own_names is else name.text ∷ own_names is)
+    by-name true e = e
+    by-name false e = ap (λ (l : List (List ℕ)). name.text ∷ l) e
 
-item-own : (d : Declarations) (i : Item) (more : List (List ℕ)) → (with_item d i).own ++ more ≡ d.own ++ own_name i more
-item-own d (item.Import place name) more = refl
-item-own d (item.Backend place name attributes) more = refl
-item-own d (item.NoBackend place name) more = refl
-item-own d (item.Probe place name attributes) more = refl
-item-own d (item.Acl place name entries) more = refl
-item-own d (item.Sub place name block) more = own-later name.text block d more
+-- of a whole text
+pub record AllThere (items : List Item) (stored : List Stored) : Type 0 where
+  pub backends : (name : List ℕ) (k : ℕ) → symbol_named (known_of (says items) stored) name ≡ Some (symbol.Backend k) → (b : Backend) × (slice_get (backends_of items) k ≡ Some b)
+  pub acls : (name : List ℕ) (k : ℕ) → symbol_named (known_of (says items) stored) name ≡ Some (symbol.Acl k) → (l : List AclEntry) × (slice_get (acls_of items) k ≡ Some l)
+  pub directors : (name : List ℕ) (d : DirectorKind) (k : ℕ) → symbol_named (known_of (says items) stored) name ≡ Some (symbol.Director d k)
+      → (x : Director) × (slice_get (directors_of (says items)) k ≡ Some x)
+  pub own : (name : List ℕ) (k : ℕ) → symbol_named (known_of (says items) stored) name ≡ Some (symbol.Subroutine k) → slice_get (own_names items) k ≡ Some name
 
-own-is : (d : Declarations) (items : List Item) → (with_items d items).own ≡ d.own ++ own_names items
-own-is d [] = sym (append-nil d.own)
-own-is d (i ∷ is) = own-is (with_item d i) is ∙ item-own d i (own_names is)
+-- what is said of a sort stands at its number
+numbered-at : (w : NameSort) (all : List Said) (k : ℕ) (name : List ℕ) (x : Symbol) (h : SaidAs all (sorts_of all) name x)
+    → (is_sorted w h.said.kind h.said.name h.said.other ≡ true) × (k ≡ place_among (names_as w all) h.said.name) → slice_get (names_as w all) k ≡ Some name
+numbered-at w all k name x h p =
+    ap (slice_get (names_as w all)) p.1 ∙ number-stands w all h.number h.said h.here p.0 ∙ ap (λ (n : List ℕ). Some n) (sym h.named)
+
+pub items-there : (items : List Item) (stored : List Stored) → AllThere items stored
+items-there items stored =
+    let all : List Said = says items in
+    let sorts : Sorts = sorts_of all in
+    record {
+      backends = λ name k e.
+          let h = symbol-said all stored name (symbol.Backend k) e in
+          let n = numbered-at sort.Backend all k name (symbol.Backend k) h (said-sorted all sorts name (symbol.Backend k) h) in
+          at-row (names_as sort.Backend all) (backends_of items) k name
+          (ap (λ (l : List Said). length (names_of l)) (heads-alone sort.Backend backends-quiet items) ∙ same-backends items) n;
+      acls = λ name k e.
+          let h = symbol-said all stored name (symbol.Acl k) e in
+          let n = numbered-at sort.Acl all k name (symbol.Acl k) h (said-sorted all sorts name (symbol.Acl k) h) in
+          at-row (names_as sort.Acl all) (acls_of items) k name
+          (ap (λ (l : List Said). length (names_of l)) (heads-alone sort.Acl acls-quiet items) ∙ same-acls items) n;
+      directors = λ name d k e.
+          let h = symbol-said all stored name (symbol.Director d k) e in
+          let n = numbered-at sort.Director all k name (symbol.Director d k) h (said-sorted all sorts name (symbol.Director d k) h) in
+          at-row (names_as sort.Director all) (directors_of all) k name (same-directors all) n;
+      own = λ name k e.
+          let h = symbol-said all stored name (symbol.Subroutine k) e in
+          let n = numbered-at sort.Subroutine all k name (symbol.Subroutine k) h (said-sorted all sorts name (symbol.Subroutine k) h) in
+          ap (λ (l : List (List ℕ)). slice_get l k) (sym (ap names_of (heads-alone sort.Subroutine subroutines-quiet items) ∙ same-own items)) ∙ n;
+    }
 
 -- a subroutine of the text's own, by its number
 pub record OwnAt (items : List Item) (k : ℕ) (text : List ℕ) : Type 0 where
@@ -260,7 +441,7 @@ later-own i items k j text f h =
       body = f h.block h.body;
     }
 
-own-at : (items : List Item) (k : ℕ) (text : List ℕ) → slice_get (own_names items) k ≡ Some text → OwnAt items k text
+pub own-at : (items : List Item) (k : ℕ) (text : List ℕ) → slice_get (own_names items) k ≡ Some text → OwnAt items k text
 own-at [] k text e = absurd (none-some text e)
 own-at (item.Import place name ∷ is) k text e = later-own (item.Import place name) is k k text (λ b h. h) (own-at is k text e)
 own-at (item.Backend place name attributes ∷ is) k text e = later-own (item.Backend place name attributes) is k k text (λ b h. h) (own-at is k text e)
@@ -289,6 +470,3 @@ own-at (item.Sub place name block ∷ is) k text e = by-name (is_reserved name.t
     by-name false f (suc k) more e =
         later-own (item.Sub place name block) is k (suc k) text
         (λ c h. subst (λ (b : Bool). slice_get (if b then own_bodies is else block ∷ own_bodies is) (suc k) ≡ Some c) (sym f) h) (more k text e)
-
-pub own-numbered : (items : List Item) (k : ℕ) (text : List ℕ) → slice_get (with_items nothing items).own k ≡ Some text → OwnAt items k text
-own-numbered items k text e = own-at items k text (ap (λ (own : List (List ℕ)). slice_get own k) (sym (own-is nothing items)) ∙ e)

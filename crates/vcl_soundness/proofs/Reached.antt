@@ -13,13 +13,13 @@ use Rattle.vcl_symbols.specs.Calls.{Calls, Walk, Reaches}
 use Rattle.vcl_language.specs.Names.{is_reserved, subroutine_named}
 use Rattle.vcl_language.specs.declared.scope.Subroutine.{Subroutine}
 use Rattle.vcl_language.specs.declared.subroutines.TheConstants.{SUBROUTINES, SUBROUTINE_NAMES}
-use Rattle.vcl_check.specs.declared.known.Thing.{Thing}
-use Rattle.vcl_check.specs.declared.known.Thing.TheVariants as thing
+use Rattle.vcl_symbols.specs.Known.{Known, symbol_named}
+use Rattle.vcl_symbols.specs.declared.symbol_table.Symbol.{Symbol}
+use Rattle.vcl_symbols.specs.declared.symbol_table.Symbol.TheVariants as symbol
 use Rattle.vcl_check.specs.declared.mentions.MentionKind.TheVariants as kind
-use Rattle.vcl_check.specs.Known.{Known, thing_named}
 use Rattle.vcl_check.specs.Mentions.{Said, said}
 use Rattle.vcl_check.specs.Reaching.{numbered_names, number_in, is_subroutine, call_between, callee, call_of, calls_of, AreReached, marking, reaching, roots_by, roots_of}
-use Rattle.vcl_store.proofs.Rows.{false-true, passes}
+use Rattle.vcl_soundness.proofs.Rows.{false-true, passes}
 
 -- walks with one more call at their end
 walk-on : (calls : List Call) (n v a b : ℕ) → Walk calls v n a → Calls calls a b → Walk calls v (suc n) b
@@ -158,11 +158,11 @@ some-of : {A : Type 0} (o : Option A) → (o ≡ None → ⊥) → (a : A) × (o
 some-of None h = absurd (h refl)
 some-of (Some a) h = (a, refl)
 
-own-number : (known : Known) (name : List ℕ) (t : Thing) → thing_named known name ≡ Some t → (b : ℕ) × (number_in (numbered_names known.names) name ≡ Some b)
+own-number : (known : Known) (name : List ℕ) (t : Symbol) → symbol_named known name ≡ Some t → (b : ℕ) × (number_in (numbered_names known.names) name ≡ Some b)
 unfolding numbered_names
 own-number known name t e = by-place (position (λ other. bytes_eq name other) known.names) refl e
   where
-    by-place : (o : Option ℕ) → position (λ other. bytes_eq name other) known.names ≡ o → option_and_then (λ k. slice_get known.things k) o ≡ Some t
+    by-place : (o : Option ℕ) → position (λ other. bytes_eq name other) known.names ≡ o → option_and_then (λ k. slice_get known.symbols k) o ≡ Some t
         → (b : ℕ) × (position (λ other. bytes_eq name other) (map (λ n. n.now) SUBROUTINE_NAMES ++ known.names) ≡ Some b)
     by-place None f e = absurd (none-some t e)
     by-place (Some k) f e =
@@ -182,13 +182,13 @@ mapped-contains {A} {B} f (z ∷ xs) x y (suc k) low e g = by-first (f z) (mappe
     by-first (Some w) c = later-contains w (filter_map f xs) y c
 
 pub called-held : (known : Known) (says : List Said) (s : Subroutine) (owner name : List ℕ) → Held (calls_of known (numbered_names known.names) says) (numbered_names known.names) s owner
-    → (place : ℕ) → Contains says (said kind.Call place name owner) → thing_named known name ≡ Some thing.Subroutine
+    → (place : ℕ) → Contains says (said kind.Call place name owner) → (k : ℕ) → symbol_named known name ≡ Some (symbol.Subroutine k)
     → Held (calls_of known (numbered_names known.names) says) (numbered_names known.names) s name
-called-held known says s owner name h place c e =
+called-held known says s owner name h place c k e =
     let N : List (List ℕ) = numbered_names known.names in
-    let b = own-number known name thing.Subroutine e in
+    let b = own-number known name (symbol.Subroutine k) e in
     let one : Call = record { from = h.number; to = b.0; place = place } in
-    let found : callee known N name ≡ Some b.0 = ap (λ (o : Option Thing). if is_subroutine o then number_in N name else None) e ∙ b.1 in
+    let found : callee known N name ≡ Some b.0 = ap (λ (o : Option Symbol). if is_subroutine o then number_in N name else None) e ∙ b.1 in
     let is : call_of known N (said kind.Call place name owner) ≡ Some one =
     ap (λ (o : Option ℕ). call_between o (callee known N name) place) h.at ∙ ap (λ (o : Option ℕ). call_between (Some h.number) o place) found in
     let there : Contains (calls_of known N says) one = mapped-contains (call_of known N) says (said kind.Call place name owner) one c.0 c.1 c.2 is in

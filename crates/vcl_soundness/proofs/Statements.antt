@@ -38,7 +38,6 @@ use Rattle.vcl_check.specs.declared.seen.Sort.{Sort}
 use Rattle.vcl_check.specs.declared.seen.Sort.TheVariants as sort
 use Rattle.vcl_check.specs.Calls.{mistyped, ill_called}
 use Rattle.vcl_check.specs.Kinds.{is_value, is_condition, same_kind, alike, accepts, is_text}
-use Rattle.vcl_check.specs.Known as check
 use Rattle.vcl_check.specs.Known.{meaning_of, of_variable, of_word}
 use Rattle.vcl_check.specs.Roles.{Name, Value, Arguments, Block, Statement, Branch, Assignment, Object, Answer, Unread}
 use Rattle.vcl_check.specs.Rules.{is_known, may_use, is_reached, is_for_init, may_be_used, may_stand, is_new, may_stand_in, misplaced, ill_set, ill_appended, ill_function, ill_answer, is_one, is_nowhere, answer_takes, other_scope, unwritten_call}
@@ -59,11 +58,11 @@ use Rattle.vcl_operands.specs.Meaning.{called as call_value}
 use Rattle.vcl_eval.specs.States.{State, Doing, in_state, nothing, set_on, set_due, counted, banned, most_statements}
 use Rattle.vcl_eval.specs.Statements.{set_to, field_to, append_to, append_field, key_given, body_given}
 use Rattle.vcl_meaning.specs.Meaning.{Text, scene_in, then_with, with_value, with_only, set_target, append_target, unset_target, call_on, returned, performed, either_by, statement_of, branches_of, branch_of, block_of}
-use Rattle.vcl_store.proofs.Rows.{false-true, both-true, IsField, field-unset}
-use Rattle.vcl_store.proofs.Names.{known-variable, known-subroutine}
-use Rattle.vcl_store.proofs.Values.{unless-none, or-none}
-use Rattle.vcl_store.proofs.Clean.{Clean, left-clean, right-clean, fits, placed, written, known-name, used-name}
-use Rattle.vcl_store.proofs.Expressions.{not-none, four-are-more, too-many}
+use Rattle.vcl_soundness.proofs.Rows.{false-true, both-true, IsField, field-unset}
+use Rattle.vcl_soundness.proofs.Calls.{known-variable, known-subroutine}
+use Rattle.vcl_soundness.proofs.NoFault.{unless-none, or-none}
+use Rattle.vcl_soundness.proofs.Clean.{Clean, left-clean, right-clean, fits, placed, written, known-name, used-name}
+use Rattle.vcl_soundness.proofs.TooMany.{not-none, four-are-more, too-many}
 use Rattle.vcl_soundness.proofs.Holds.{Holds, IsOf, Done, Goes, bind-holds, then-goes, set-goes as context-goes, due-goes}
 use Rattle.vcl_soundness.proofs.Values.{truth-has}
 use Rattle.vcl_soundness.proofs.Tables.{TargetOf, target-is, is-set, is-set-too}
@@ -175,7 +174,7 @@ call-goes : (calls : ℕ → Doing) (o : Option ℕ) (k : ℕ) → o ≡ Some k 
 call-goes calls (Some i) k e h s = subst (λ (j : ℕ). Holds Done (calls j s)) (sym (same_Some i k e)) (h s)
 call-goes calls None k e h s = absurd (none-some k e)
 
-module _ (known : check.Known) (t : Text) (stands : (c : Context) → Stands known t.known (scene_in t c)) (roots : List Subroutine) (root : Subroutine)
+module _ (t : Text) (stands : (c : Context) → Stands t.known (scene_in t c)) (roots : List Subroutine) (root : Subroutine)
     (reached : Contains roots root) (traffic : has scope.Init root ≡ false) (calls' : ℕ → Doing) where
   -- what a statement and a name may do from the subroutine from which it is reached
   stands-there : (f : _) (a b : Seen) → misplaced roots f a b ≡ None → may_stand f b.meaning root ≡ true
@@ -183,16 +182,16 @@ module _ (known : check.Known) (t : Text) (stands : (c : Context) → Stands kno
       let all = both-true (list_all (λ x. may_stand f b.meaning x) roots) (is_reached roots || not (is_new f)) (unless-none (may_stand_in roots f b.meaning) a.first e) in
       all-contained (λ x. may_stand f b.meaning x) roots root all.0 reached.0 reached.1 reached.2
 
-  used-there : (u : Use) (place : ℕ) (name : List ℕ) → Clean known roots (Name u) (Named place name) → may_use u (meaning_of known u name) root ≡ true
+  used-there : (u : Use) (place : ℕ) (name : List ℕ) → Clean t.known roots (Name u) (Named place name) → may_use u (meaning_of t.known u name) root ≡ true
   used-there u place name c =
-      let m = meaning_of known u name in
+      let m = meaning_of t.known u name in
       let all = both-true (list_all (λ x. may_use u m x) roots) (is_reached roots || not (is_for_init u m))
-      (unless-none (may_be_used roots u m) place (used-name known roots (Name u) place name c)) in
+      (unless-none (may_be_used roots u m) place (used-name t.known roots (Name u) place name c)) in
       all-contained (λ x. may_use u m x) roots root all.0 reached.0 reached.1 reached.2
 
   -- expressions, whatever the variables are
   abbrev FineIn : Context → Phrase → Type 0
-  FineIn c e = Fine known t.known (scene_in t c) (stands c) roots root reached e
+  FineIn c e = Fine t.known (scene_in t c) (stands c) roots root reached e
 
   abbrev Fines : Phrase → Type 0
   Fines e = (c : Context) → FineIn c e
@@ -201,7 +200,7 @@ module _ (known : check.Known) (t : Text) (stands : (c : Context) → Stands kno
   TypedIn c k e = Typed (scene_in t c) t.known k e
 
   abbrev SortOf : Phrase → Sort
-  SortOf e = (view_of known Value e).sort
+  SortOf e = (view_of t.known Value e).sort
 
   -- what statements do with a value
   with-goes : (P : Kind → Type 0) (e : Phrase) (next : Worth → Doing) → ((c : Context) → (k : Kind) × P k × TypedIn c k e) → ((k : Kind) → P k → (v : Worth) → IsOf k v → Goes (next v))
@@ -235,65 +234,65 @@ module _ (known : check.Known) (t : Text) (stands : (c : Context) → Stands kno
   abbrev StatementGoes : Phrase → Type 0
   StatementGoes e = Goes (statement_of t calls' e)
 
-  set-goes : (p q : ℕ) (name : List ℕ) {e : Phrase} → Fines e → Clean known roots Statement (Node Set (At p) (Node Bound (Named q name) e))
+  set-goes : (p q : ℕ) (name : List ℕ) {e : Phrase} → Fines e → Clean t.known roots Statement (Node Set (At p) (Node Bound (Named q name) e))
       → StatementGoes (Node Set (At p) (Node Bound (Named q name) e))
   unfolding statement_of meaning_of
   set-goes p q name {e} f c =
       let b = Node Bound (Named q name) e in
-      let bound = right-clean known roots Statement Set (At p) b c in
-      let name-clean = left-clean known roots (Assignment use'.Set) Bound (Named q name) e bound in
-      let value-clean = right-clean known roots (Assignment use'.Set) Bound (Named q name) e bound in
-      let v = known-variable (variable_named name) (known-name known roots (Name use'.Set) use'.Set q name refl name-clean) in
-      let M : Option Row → Type 0 = λ o. ill_set (of_variable o) (view_of known (Assignment use'.Set) b) ≡ None in
+      let bound = right-clean t.known roots Statement Set (At p) b c in
+      let name-clean = left-clean t.known roots (Assignment use'.Set) Bound (Named q name) e bound in
+      let value-clean = right-clean t.known roots (Assignment use'.Set) Bound (Named q name) e bound in
+      let v = known-variable (variable_named name) (known-name t.known roots (Name use'.Set) use'.Set q name refl name-clean) in
+      let M : Option Row → Type 0 = λ o. ill_set (of_variable o) (view_of t.known (Assignment use'.Set) b) ≡ None in
       let U : Option Row → Type 0 = λ o. may_use use'.Set (of_variable o) root ≡ true in
-      let fit = unless-none (accepts v.0.kind (SortOf e)) (view_of known Value e).first (subst M v.1 (fits known roots Statement Set (At p) b c)) in
+      let fit = unless-none (accepts v.0.kind (SortOf e)) (view_of t.known Value e).first (subst M v.1 (fits t.known roots Statement Set (At p) b c)) in
       set-target v.0 (target_of name) e (target-is name v.0 v.1) (subst U v.1 (used-there use'.Set q name name-clean))
-      (λ k. accepted known t.known (scene_in t k) (stands k) roots root reached v.0.kind (SortOf e) e fit (f k value-clean))
+      (λ k. accepted t.known (scene_in t k) (stands k) roots root reached v.0.kind (SortOf e) e fit (f k value-clean))
 
-  append-goes : (p q : ℕ) (name : List ℕ) {e : Phrase} → Fines e → Clean known roots Statement (Node Append (At p) (Node Bound (Named q name) e))
+  append-goes : (p q : ℕ) (name : List ℕ) {e : Phrase} → Fines e → Clean t.known roots Statement (Node Append (At p) (Node Bound (Named q name) e))
       → StatementGoes (Node Append (At p) (Node Bound (Named q name) e))
   unfolding statement_of meaning_of
   append-goes p q name {e} f c =
       let b = Node Bound (Named q name) e in
-      let bound = right-clean known roots Statement Append (At p) b c in
-      let name-clean = left-clean known roots (Assignment use'.Append) Bound (Named q name) e bound in
-      let value-clean = right-clean known roots (Assignment use'.Append) Bound (Named q name) e bound in
-      let v = known-variable (variable_named name) (known-name known roots (Name use'.Append) use'.Append q name refl name-clean) in
-      let M : Option Row → Type 0 = λ o. ill_appended (of_variable o) (view_of known (Assignment use'.Append) b) ≡ None in
+      let bound = right-clean t.known roots Statement Append (At p) b c in
+      let name-clean = left-clean t.known roots (Assignment use'.Append) Bound (Named q name) e bound in
+      let value-clean = right-clean t.known roots (Assignment use'.Append) Bound (Named q name) e bound in
+      let v = known-variable (variable_named name) (known-name t.known roots (Name use'.Append) use'.Append q name refl name-clean) in
+      let M : Option Row → Type 0 = λ o. ill_appended (of_variable o) (view_of t.known (Assignment use'.Append) b) ≡ None in
       let U : Option Row → Type 0 = λ o. may_use use'.Append (of_variable o) root ≡ true in
-      let fit = unless-none (is_text v.0.kind && is_value (SortOf e)) (view_of known Value e).first (subst M v.1 (fits known roots Statement Append (At p) b c)) in
+      let fit = unless-none (is_text v.0.kind && is_value (SortOf e)) (view_of t.known Value e).first (subst M v.1 (fits t.known roots Statement Append (At p) b c)) in
       let both = both-true (is_text v.0.kind) (is_value (SortOf e)) fit in
       append-target name v.0 (target_of name) e v.1 refl (target-is name v.0 v.1) both.0 (subst U v.1 (used-there use'.Append q name name-clean))
-      (λ k. let x = valued known t.known (scene_in t k) (stands k) roots root reached (SortOf e) e both.1 (f k value-clean) in (x.0, tt, x.2))
+      (λ k. let x = valued t.known (scene_in t k) (stands k) roots root reached (SortOf e) e both.1 (f k value-clean) in (x.0, tt, x.2))
 
   unset-target : (w : Target) → IsField w → Goes (unset_target w)
   unset-target (Field message name) h s = tt
   unset-target (Plain w) h s = absurd h
   unset-target NoTarget h s = absurd h
 
-  unset-goes : (p q : ℕ) (name : List ℕ) → Clean known roots Statement (Node Unset (At p) (Named q name)) → StatementGoes (Node Unset (At p) (Named q name))
+  unset-goes : (p q : ℕ) (name : List ℕ) → Clean t.known roots Statement (Node Unset (At p) (Named q name)) → StatementGoes (Node Unset (At p) (Named q name))
   unfolding statement_of meaning_of
   unset-goes p q name c =
-      let name-clean = right-clean known roots Statement Unset (At p) (Named q name) c in
-      let v = known-variable (variable_named name) (known-name known roots (Name use'.Unset) use'.Unset q name refl name-clean) in
+      let name-clean = right-clean t.known roots Statement Unset (At p) (Named q name) c in
+      let v = known-variable (variable_named name) (known-name t.known roots (Name use'.Unset) use'.Unset q name refl name-clean) in
       let M : Option Row → Type 0 = λ o. may_use use'.Unset (of_variable o) root ≡ true in
       unset-target (target_of name) (field-unset name v.0 root v.1 (subst M v.1 (used-there use'.Unset q name name-clean)))
 
   -- calls of subroutines that do the same
   abbrev pub Leads : List ℕ → Type 0
-  Leads name = is_known (meaning_of known use'.Subroutine name) ≡ true → (k : ℕ) → subroutine_of t.known name ≡ Some k → Goes (calls' k)
+  Leads name = is_known (meaning_of t.known use'.Subroutine name) ≡ true → (k : ℕ) → subroutine_of t.known name ≡ Some k → Goes (calls' k)
 
-  jump-goes : (p q : ℕ) (name : List ℕ) → Clean known roots Statement (Node Jump (At p) (Named q name)) → Leads name → StatementGoes (Node Jump (At p) (Named q name))
+  jump-goes : (p q : ℕ) (name : List ℕ) → Clean t.known roots Statement (Node Jump (At p) (Named q name)) → Leads name → StatementGoes (Node Jump (At p) (Named q name))
   unfolding statement_of
   jump-goes p q name c h s =
-      let name-clean = right-clean known roots Statement Jump (At p) (Named q name) c in
-      let is = known-name known roots (Name use'.Subroutine) use'.Subroutine q name refl name-clean in
-      let k = known-subroutine known t.known (stands s.context).meet name is in
+      let name-clean = right-clean t.known roots Statement Jump (At p) (Named q name) c in
+      let is = known-name t.known roots (Name use'.Subroutine) use'.Subroutine q name refl name-clean in
+      let k = known-subroutine t.known name is in
       call-goes calls' (subroutine_of t.known name) k.0 k.1 (h is k.0 k.1) s
 
   -- `new` doesn't stand there
-  new-nowhere : (p : ℕ) (b : Phrase) → Clean known roots Statement (Node New (At p) b) → ⊥
-  new-nowhere p b c = false-true (sym traffic ∙ stands-there form.New (view_of known Unread (At p)) (view_of known Object b) (placed known roots Statement New (At p) b c))
+  new-nowhere : (p : ℕ) (b : Phrase) → Clean t.known roots Statement (Node New (At p) b) → ⊥
+  new-nowhere p b c = false-true (sym traffic ∙ stands-there form.New (view_of t.known Unread (At p)) (view_of t.known Object b) (placed t.known roots Statement New (At p) b c))
 
   -- words of return, by how many arguments they are used with
   ill-answer : (o : Option Word) (w : Word) (r : ReturnWord) (given : Seens) (place : ℕ) → o ≡ Some w → IsWord w r → ill_answer roots (of_word o) given place ≡ None
@@ -310,15 +309,15 @@ module _ (known : check.Known) (t : Text) (stands : (c : Context) → Stands kno
 
   -- one value and two
   abbrev SeenOf : Phrase → Argument
-  SeenOf e = argument_of (view_of known Value e)
+  SeenOf e = argument_of (view_of t.known Value e)
 
   abbrev Wanted : Kind → Phrase → Type 0
   Wanted k e = mistyped (Some (parameter.Value k)) (SeenOf e) ≡ None
 
-  exactly : (k : Kind) (e : Phrase) → ((s : Sort) → accepts k s ≡ alike (sort.Value k) s) → Wanted k e → (c : Context) → FineIn c e → Clean known roots Value e → TypedIn c k e
+  exactly : (k : Kind) (e : Phrase) → ((s : Sort) → accepts k s ≡ alike (sort.Value k) s) → Wanted k e → (c : Context) → FineIn c e → Clean t.known roots Value e → TypedIn c k e
   exactly k e strict m c f clean =
-      let a = unless-none (accepts k (SortOf e)) (view_of known Value e).first m in
-      let x = accepted known t.known (scene_in t c) (stands c) roots root reached k (SortOf e) e a (f clean) in
+      let a = unless-none (accepts k (SortOf e)) (view_of t.known Value e).first m in
+      let x = accepted t.known (scene_in t c) (stands c) roots root reached k (SortOf e) e a (f clean) in
       let same : x.0 ≡ k = same-kind k x.0 (sym (strict (sort.Value x.0)) ∙ x.1) in
       subst (λ (l : Kind). TypedIn c l e) same x.2
 
@@ -341,28 +340,28 @@ module _ (known : check.Known) (t : Text) (stands : (c : Context) → Stands kno
   three-wanted _ x y z place i = not-none place i
 
   abbrev AreFines : Phrase → Type 0
-  AreFines l = (c : Context) → AreFine known t.known (scene_in t c) (stands c) roots root reached l
+  AreFines l = (c : Context) → AreFine t.known (scene_in t c) (stands c) roots root reached l
 
   abbrev ListedOf : Phrase → Seens
-  ListedOf l = (view_of known Arguments l).arguments
+  ListedOf l = (view_of t.known Arguments l).arguments
 
   abbrev ReturnedGoes : ReturnWord → Phrase → State → Type 0
   ReturnedGoes r l s = Holds Done (returned (Some r) (operands_of t.known (scene_in t s.context) l) s)
 
-  with-arguments : (r : ReturnWord) (place : ℕ) (s : State) {l : Phrase} → AreFine known t.known (scene_in t s.context) (stands s.context) roots root reached l → Clean known roots Arguments l
+  with-arguments : (r : ReturnWord) (place : ℕ) (s : State) {l : Phrase} → AreFine t.known (scene_in t s.context) (stands s.context) roots root reached l → Clean t.known roots Arguments l
       → ill_called (if is_one (ListedOf l) && not (is_untimed r) then takes.One (parameter.Value kind.Duration) else takes_of r) (ListedOf l) place ≡ None → ReturnedGoes r l s
   unfolding operands_of
   with-arguments r place s none c i = returned-alone r (stands-alone r place i) s
   with-arguments r place s (more {e = x} none f) c i =
       let m = one-wanted r (SeenOf x) place i in
-      let a = exactly m.0 x m.1 m.2 s.context f (right-clean known roots Arguments More Nothing x c) in
+      let a = exactly m.0 x m.1 m.2 s.context f (right-clean t.known roots Arguments More Nothing x c) in
       returned-one r m.0 (value_of t.known (scene_in t s.context) x) m.3 a s
   with-arguments r place s (more {e = y} (more {e = x} none f) g) c i =
-      let front = left-clean known roots Arguments More (Node More Nothing x) y c in
+      let front = left-clean t.known roots Arguments More (Node More Nothing x) y c in
       let m = two-wanted r (SeenOf x) (SeenOf y) place i in
-      let a = exactly kind.Int x (λ z. refl) m.0 s.context f (right-clean known roots Arguments More Nothing x front) in
-      let b = accepted known t.known (scene_in t s.context) (stands s.context) roots root reached kind.String (SortOf y) y (unless-none (accepts kind.String (SortOf y)) (view_of known Value y).first m.1)
-      (g (right-clean known roots Arguments More (Node More Nothing x) y c)) in
+      let a = exactly kind.Int x (λ z. refl) m.0 s.context f (right-clean t.known roots Arguments More Nothing x front) in
+      let b = accepted t.known (scene_in t s.context) (stands s.context) roots root reached kind.String (SortOf y) y (unless-none (accepts kind.String (SortOf y)) (view_of t.known Value y).first m.1)
+      (g (right-clean t.known roots Arguments More (Node More Nothing x) y c)) in
       let by : Phrase → Operand = λ p. value_of t.known (scene_in t s.context) p in
       returned-two r kind.Int b.0 (by x) (by y) m.2 a b.2 s
   with-arguments r place s (more {e = z} (more {e = y} (more {e = x} none f) g) h) c i = absurd (three-wanted r (SeenOf x) (SeenOf y) (SeenOf z) place i)
@@ -373,33 +372,33 @@ module _ (known : check.Known) (t : Text) (stands : (c : Context) → Stands kno
   word-of : (o p : Option ReturnWord) (r : ReturnWord) → o ≡ Some r → (s : State) (xs : List Operand) → p ≡ o → Holds Done (returned (Some r) xs s) → Holds Done (returned p xs s)
   word-of o p r e s xs f h = subst (λ (q : Option ReturnWord). Holds Done (returned q xs s)) (sym (f ∙ e)) h
 
-  return-goes : (p q : ℕ) (name : List ℕ) → Clean known roots Statement (Node Answers (At p) (Named q name)) → StatementGoes (Node Answers (At p) (Named q name))
+  return-goes : (p q : ℕ) (name : List ℕ) → Clean t.known roots Statement (Node Answers (At p) (Named q name)) → StatementGoes (Node Answers (At p) (Named q name))
   unfolding statement_of meaning_of
   return-goes p q name c s =
-      let name-clean = right-clean known roots Statement Answers (At p) (Named q name) c in
-      let w = known-one (word_named name) (known-name known roots Answer use'.Word q name refl name-clean) in
+      let name-clean = right-clean t.known roots Statement Answers (At p) (Named q name) c in
+      let w = known-one (word_named name) (known-name t.known roots Answer use'.Word q name refl name-clean) in
       let r = word-found name w.0 w.1 in
-      let i = ill-answer (word_named name) w.0 r.0 seens.Zero q w.1 r.2 (fits known roots Statement Answers (At p) (Named q name) c) in
+      let i = ill-answer (word_named name) w.0 r.0 seens.Zero q w.1 r.2 (fits t.known roots Statement Answers (At p) (Named q name) c) in
       word-of (word_of name) (word_of name) r.0 r.1 s [] refl (returned-alone r.0 (stands-alone r.0 q i) s)
 
-  answer-goes : (p q : ℕ) (name : List ℕ) {l : Phrase} → AreFines l → Clean known roots Statement (Node Answers (At p) (Node Called (Named q name) l))
+  answer-goes : (p q : ℕ) (name : List ℕ) {l : Phrase} → AreFines l → Clean t.known roots Statement (Node Answers (At p) (Node Called (Named q name) l))
       → StatementGoes (Node Answers (At p) (Node Called (Named q name) l))
   unfolding statement_of meaning_of
   answer-goes p q name {l} g c s =
       let b = Node Called (Named q name) l in
-      let answer = right-clean known roots Statement Answers (At p) b c in
-      let name-clean = left-clean known roots Answer Called (Named q name) l answer in
-      let w = known-one (word_named name) (known-name known roots (Name use'.Word) use'.Word q name refl name-clean) in
+      let answer = right-clean t.known roots Statement Answers (At p) b c in
+      let name-clean = left-clean t.known roots Answer Called (Named q name) l answer in
+      let w = known-one (word_named name) (known-name t.known roots (Name use'.Word) use'.Word q name refl name-clean) in
       let r = word-found name w.0 w.1 in
-      let i = ill-answer (word_named name) w.0 r.0 (ListedOf l) q w.1 r.2 (fits known roots Statement Answers (At p) b c) in
+      let i = ill-answer (word_named name) w.0 r.0 (ListedOf l) q w.1 r.2 (fits t.known roots Statement Answers (At p) b c) in
       word-of (word_of name) (word_of name) r.0 r.1 s (operands_of t.known (scene_in t s.context) l) refl
-      (with-arguments r.0 q s (g s.context) (right-clean known roots Answer Called (Named q name) l answer) i)
+      (with-arguments r.0 q s (g s.context) (right-clean t.known roots Answer Called (Named q name) l answer) i)
 
   -- a function that is called as a statement
   abbrev PerformedGoes : Callee → Phrase → State → Type 0
   PerformedGoes x l s = Holds Done (performed (scene_in t s.context) x (second_string l) (operands_of t.known (scene_in t s.context) l) s)
 
-  performed-goes : (s : State) (f : Function) (name : List ℕ) (l : Phrase) → has f.scope root ≡ true → Call known t.known (scene_in t s.context) (stands s.context) roots root reached f name l
+  performed-goes : (s : State) (f : Function) (name : List ℕ) (l : Phrase) → has f.scope root ≡ true → Call t.known (scene_in t s.context) (stands s.context) roots root reached f name l
       → PerformedGoes (callee_of t.known name) l s
   performed-goes s f name l h (does x e p n g) =
       let scene = scene_in t s.context in
@@ -410,55 +409,55 @@ module _ (known : check.Known) (t : Text) (stands : (c : Context) → Stands kno
       subst (λ (y : Callee). PerformedGoes y l s) (sym e) (gives-goes scene k (second_string l) (operands_of t.known scene l) x p g s)
   performed-goes s f name l h (enrols way same) = absurd (false-true (sym traffic ∙ subst (λ (x : Function). has x.scope root ≡ true) same h))
 
-  run-goes : (place : ℕ) (name : List ℕ) {l : Phrase} → AreFines l → Clean known roots Statement (Node Called (Named place name) l) → StatementGoes (Node Called (Named place name) l)
+  run-goes : (place : ℕ) (name : List ℕ) {l : Phrase} → AreFines l → Clean t.known roots Statement (Node Called (Named place name) l) → StatementGoes (Node Called (Named place name) l)
   unfolding statement_of
   run-goes place name {l} g c s =
-      let name-clean = left-clean known roots Statement Called (Named place name) l c in
+      let name-clean = left-clean t.known roots Statement Called (Named place name) l c in
       let scene = scene_in t s.context in
-      let k = function-does known t.known scene (stands s.context) name (known-name known roots (Name use'.Function) use'.Function place name refl name-clean) in
+      let k = function-does t.known scene (stands s.context) name (known-name t.known roots (Name use'.Function) use'.Function place name refl name-clean) in
       let T : Meaning → Type 0 = λ m. may_use use'.Function m root ≡ true in
       let I : Meaning → Type 0 = λ m. ill_function m (ListedOf l) place ≡ None in
       let U : Meaning → Type 0 = λ m. unwritten_call m (ListedOf l) ≡ None in
-      let i = subst I k.1 (fits known roots Statement Called (Named place name) l c) in
-      let u = subst U k.1 (written known roots Statement Called (Named place name) l c) in
+      let i = subst I k.1 (fits t.known roots Statement Called (Named place name) l c) in
+      let u = subst U k.1 (written t.known roots Statement Called (Named place name) l c) in
       performed-goes s k.0 name l (subst T k.1 (used-there use'.Function place name name-clean))
-      (calls known t.known scene (stands s.context) roots root reached k.0 name k.2 (g s.context) (right-clean known roots Statement Called (Named place name) l c) place i u)
+      (calls t.known scene (stands s.context) roots root reached k.0 name k.2 (g s.context) (right-clean t.known roots Statement Called (Named place name) l c) place i u)
 
   -- conditions, branches and blocks
   abbrev pub BlockGoes : Phrase → Type 0
-  BlockGoes b = Clean known roots Block b → AllCall Leads b → Goes (block_of t calls' b)
+  BlockGoes b = Clean t.known roots Block b → AllCall Leads b → Goes (block_of t calls' b)
 
   abbrev StatementFine : Phrase → Type 0
-  StatementFine e = Clean known roots Statement e → AllCall Leads e → StatementGoes e
+  StatementFine e = Clean t.known roots Statement e → AllCall Leads e → StatementGoes e
 
   abbrev BranchFine : Phrase → Type 0
-  BranchFine b = Clean known roots Branch b → AllCall Leads b → (f : Doing) → Goes f → Goes (branch_of t calls' b f)
+  BranchFine b = Clean t.known roots Branch b → AllCall Leads b → (f : Doing) → Goes f → Goes (branch_of t calls' b f)
 
   abbrev ConditionalFine : Phrase → Type 0
-  ConditionalFine e = Clean known roots Statement e → AllCall Leads e → ((f : Doing) → Goes f → Goes (branches_of t calls' e f)) × StatementGoes e
+  ConditionalFine e = Clean t.known roots Statement e → AllCall Leads e → ((f : Doing) → Goes f → Goes (branches_of t calls' e f)) × StatementGoes e
 
   branch-fine : {e b : Phrase} → Fines e → BlockGoes b → BranchFine (Node phrase.Branch e b)
   unfolding branch_of
   branch-fine {e} {b} f g c calls f' h s =
-      let view = view_of known Value e in
-      let fit = unless-none (is_condition view.sort) view.first (fits known roots Branch phrase.Branch e b c) in
+      let view = view_of t.known Value e in
+      let fit = unless-none (is_condition view.sort) view.first (fits t.known roots Branch phrase.Branch e b c) in
       let Q : Kind → Type 0 = λ k. is_condition (sort.Value k) ≡ true in
-      let block = g (right-clean known roots Branch phrase.Branch e b c) calls in
+      let block = g (right-clean t.known roots Branch phrase.Branch e b c) calls in
       with-goes Q e (λ v. either_by (truth_of v) (block_of t calls' b) f')
-      (λ x. conditional known t.known (scene_in t x) (stands x) roots root reached view.sort e fit (f x (left-clean known roots Branch phrase.Branch e b c)))
+      (λ x. conditional t.known (scene_in t x) (stands x) roots root reached view.sort e fit (f x (left-clean t.known roots Branch phrase.Branch e b c)))
       (λ k q v p. let b' = truth-has k v p q in either-goes (truth_of v) b'.0 b'.1 (block_of t calls' b) f' block h) s
 
   if-fine : (place : ℕ) {b : Phrase} → BranchFine b → ConditionalFine (Node If (At place) b)
   unfolding statement_of branches_of
   if-fine place {b} f c calls =
-      let arm = f (right-clean known roots Statement If (At place) b c) calls in
+      let arm = f (right-clean t.known roots Statement If (At place) b c) calls in
       (arm, arm nothing nothing-goes)
 
   else-if-fine : {e b : Phrase} → ConditionalFine e → BranchFine b → ConditionalFine (Node ElseIf e b)
   unfolding statement_of branches_of
   else-if-fine {e} {b} f g c calls =
-      let front = (f (left-clean known roots Statement ElseIf e b c) calls.0).0 in
-      let arm = g (right-clean known roots Statement ElseIf e b c) calls.1 in (
+      let front = (f (left-clean t.known roots Statement ElseIf e b c) calls.0).0 in
+      let arm = g (right-clean t.known roots Statement ElseIf e b c) calls.1 in (
         λ x h. front (branch_of t calls' b x) (arm x h),
         front (branch_of t calls' b nothing) (arm nothing nothing-goes),
       )
@@ -466,8 +465,8 @@ module _ (known : check.Known) (t : Text) (stands : (c : Context) → Stands kno
   else-fine : {e b : Phrase} → ConditionalFine e → BlockGoes b → StatementFine (Node Else e b)
   unfolding statement_of
   else-fine {e} {b} f g c calls =
-      let front = (f (left-clean known roots Statement Else e b c) calls.0).0 in
-      front (block_of t calls' b) (g (right-clean known roots Statement Else e b c) calls.1)
+      let front = (f (left-clean t.known roots Statement Else e b c) calls.0).0 in
+      front (block_of t calls' b) (g (right-clean t.known roots Statement Else e b c) calls.1)
 
   none-fine : BlockGoes Nothing
   unfolding block_of
@@ -476,8 +475,8 @@ module _ (known : check.Known) (t : Text) (stands : (c : Context) → Stands kno
   more-fine : {l e : Phrase} → BlockGoes l → StatementFine e → BlockGoes (Node More l e)
   unfolding block_of
   more-fine {l} {e} f g c calls s =
-      let front = f (left-clean known roots Block More l e c) calls.0 in
-      let last = counted-goes (statement_of t calls' e) (g (right-clean known roots Block More l e c) calls.1) in
+      let front = f (left-clean t.known roots Block More l e c) calls.0 in
+      let last = counted-goes (statement_of t calls' e) (g (right-clean t.known roots Block More l e c) calls.1) in
       bind-holds Done Done (block_of t calls' l s) (λ done. counted (statement_of t calls' e)) (front s) (λ done p z. last z)
 
   set-fine : {n e : Phrase} {x : Token} (p : ℕ) → IsName n x → Fines e → StatementFine (Node Set (At p) (Node Bound n e))
@@ -505,10 +504,10 @@ module _ (known : check.Known) (t : Text) (stands : (c : Context) → Stands kno
   answer-fine p (word_name {p = q} {t = n}) g c h = answer-goes p q n g c
 
   expressions : {e : Phrase} {ts rest : List Token} → IsExpression e ts rest → Fines e
-  expressions h c = expression-fine known t.known (scene_in t c) (stands c) roots root reached h
+  expressions h c = expression-fine t.known (scene_in t c) (stands c) roots root reached h
 
   arguments : {b : Bool} {l : Phrase} {ts rest : List Token} → IsArguments b l ts rest → AreFines l
-  arguments h c = arguments-fine known t.known (scene_in t c) (stands c) roots root reached h
+  arguments h c = arguments-fine t.known (scene_in t c) (stands c) roots root reached h
 
   mutual
     pub block-goes : {b : Phrase} {ts rest : List Token} → IsBlock b ts rest → BlockGoes b

@@ -42,7 +42,7 @@ use Rattle.vcl_context.specs.declared.variable.ResponseVariable.TheVariants as r
 use Rattle.vcl_code.specs.Names.{Target, Plain, Field, NoTarget, plain_or_field, target_of}
 use Rattle.vcl_check.specs.Kinds.{is_text}
 use Rattle.vcl_check.specs.Rules.{is_nowhere}
-use Rattle.vcl_store.proofs.Rows.{false-true, passes, row-in, no-row-in, IsTarget, target-found}
+use Rattle.vcl_soundness.proofs.Rows.{false-true, passes, row-in, no-row-in, IsTarget, target-found}
 
 -- entries of one number of lists that are alike
 alike-row : {A B C : Type 0} (f : A → C) (g : B → C) (xs : List A) (ys : List B) (k : ℕ) (x : A) (y : B) → map f xs ≡ map g ys → slice_get xs k ≡ Some x → slice_get ys k ≡ Some y → f x ≡ g y

@@ -20,7 +20,8 @@ use Rattle.vcl_check.specs.Kinds.{is_condition, is_ordered, same_kind, adds, sum
 use Rattle.vcl_code.specs.declared.callees.Builtin.TheVariants as builtin
 use Rattle.vcl_code.specs.declared.names.Callee.{Callee}
 use Rattle.vcl_code.specs.declared.names.Callee.TheVariants as callee
-use Rattle.vcl_code.specs.Names.{Known, read_of, acl_of, callee_of}
+use Rattle.vcl_symbols.specs.Known.{Known}
+use Rattle.vcl_code.specs.Names.{read_of, acl_of, callee_of}
 use Rattle.vcl_code.specs.Expressions.{second_string}
 use Rattle.vcl_program.specs.declared.code.Director.{Director}
 use Rattle.vcl_context.specs.declared.turn.Answer.{Answer}
@@ -28,7 +29,7 @@ use Rattle.vcl_context.specs.declared.turn.Command.TheVariants.{Xkey}
 use Rattle.vcl_operands.specs.Outs.{On, Stuck, and_then, known_on, made_on, ask, number_of}
 use Rattle.vcl_operands.specs.Meaning.{Scene, Operand, named_value, purged, values_of, all_values, called, decides, sought_in, matched_in, value_of, operands_of}
 use Rattle.vcl_operands.specs.Values.{ok_of, as_text, opposite, matched, sought, ordered, summed, lessened, substituted, director_value, director_at, asked_with, asked, fitted, joined, all_fitted, meant, answered, applied}
-use Rattle.vcl_store.proofs.Rows.{false-true}
+use Rattle.vcl_soundness.proofs.Rows.{false-true}
 use Rattle.vcl_soundness.proofs.Names.{AclNamed, ReadIs}
 use Rattle.vcl_soundness.proofs.Holds.{Holds, IsOf, Makes, bind-holds, made-holds, known-holds, given-makes}
 use Rattle.vcl_soundness.proofs.Values.{opposite-some, decides-holds, Compares, ordered-some, sum-given, difference-given, matched-of, text-of, substituted-of, fitted-makes}
@@ -172,9 +173,9 @@ module _ (scene : Scene) where
   hash-worth k d e wanted second [] h s = absurd h
   hash-worth k d e wanted second (x ∷ w ∷ ws) h s = absurd h.1
 
-  module _ (numbers : Known) where
+  module _ (known : Known) where
     abbrev pub Typed : Kind → Phrase → Type 0
-    Typed k e = Worth k (value_of numbers scene e)
+    Typed k e = Worth k (value_of known scene e)
 
     pub string-typed : (place : ℕ) (text : List ℕ) → Typed kind.String (String place text)
     unfolding value_of
@@ -188,9 +189,9 @@ module _ (scene : Scene) where
     unfolding value_of
     duration-typed place n s = refl
 
-    pub named-typed : (k : Kind) (place : ℕ) (name : List ℕ) → ReadIs scene k (read_of numbers name) → Typed k (Named place name)
+    pub named-typed : (k : Kind) (place : ℕ) (name : List ℕ) → ReadIs scene k (read_of known name) → Typed k (Named place name)
     unfolding value_of
-    named-typed k place name h s = made-holds (IsOf k) (named_value scene (read_of numbers name)) h s
+    named-typed k place name h s = made-holds (IsOf k) (named_value scene (read_of known name)) h s
 
     pub group-typed : (k : Kind) (d e : Phrase) → Typed k e → Typed k (Node Group d e)
     unfolding value_of
@@ -199,25 +200,25 @@ module _ (scene : Scene) where
     pub either-typed : (k l : Kind) (d e : Phrase) → is_condition (sort.Value k) ≡ true → is_condition (sort.Value l) ≡ true → Typed k d → Typed l e → Typed kind.Bool (Node Either d e)
     unfolding value_of
     either-typed k l d e c b f g s =
-        bind-holds (IsOf k) (IsOf kind.Bool) (value_of numbers scene d s) (decides true (value_of numbers scene e)) (f s) (decides-holds true k l c b (value_of numbers scene e) g)
+        bind-holds (IsOf k) (IsOf kind.Bool) (value_of known scene d s) (decides true (value_of known scene e)) (f s) (decides-holds true k l c b (value_of known scene e) g)
 
     pub both-typed : (k l : Kind) (d e : Phrase) → is_condition (sort.Value k) ≡ true → is_condition (sort.Value l) ≡ true → Typed k d → Typed l e → Typed kind.Bool (Node Both d e)
     unfolding value_of
     both-typed k l d e c b f g s =
-        bind-holds (IsOf k) (IsOf kind.Bool) (value_of numbers scene d s) (decides false (value_of numbers scene e)) (f s) (decides-holds false k l c b (value_of numbers scene e) g)
+        bind-holds (IsOf k) (IsOf kind.Bool) (value_of known scene d s) (decides false (value_of known scene e)) (f s) (decides-holds false k l c b (value_of known scene e) g)
 
     pub not-typed : (k : Kind) (d e : Phrase) → is_condition (sort.Value k) ≡ true → Typed k e → Typed kind.Bool (Node Not d e)
     unfolding value_of
     not-typed k d e c f s =
-        bind-holds (IsOf k) (IsOf kind.Bool) (value_of numbers scene e s) (λ v. made_on (opposite v)) (f s) (λ v p s. made-holds (IsOf kind.Bool) (opposite v) (opposite-some k v p c) s)
+        bind-holds (IsOf k) (IsOf kind.Bool) (value_of known scene e s) (λ v. made_on (opposite v)) (f s) (λ v p s. made-holds (IsOf kind.Bool) (opposite v) (opposite-some k v p c) s)
 
     -- operands of two
     ordered-typed : (how : Comparison) (k l : Kind) (d e : Phrase) → Compares how k l → Typed k d → Typed l e → (s : List Answer)
-        → Holds (IsOf kind.Bool) (and_then (value_of numbers scene d s) (λ v s. and_then (value_of numbers scene e s) (λ w. made_on (ordered how v w))))
+        → Holds (IsOf kind.Bool) (and_then (value_of known scene d s) (λ v s. and_then (value_of known scene e s) (λ w. made_on (ordered how v w))))
     ordered-typed how k l d e c f g s =
-        bind-holds (IsOf k) (IsOf kind.Bool) (value_of numbers scene d s) (λ v s. and_then (value_of numbers scene e s) (λ w. made_on (ordered how v w))) (f s)
+        bind-holds (IsOf k) (IsOf kind.Bool) (value_of known scene d s) (λ v s. and_then (value_of known scene e s) (λ w. made_on (ordered how v w))) (f s)
         (λ v p s.
-        bind-holds (IsOf l) (IsOf kind.Bool) (value_of numbers scene e s) (λ w. made_on (ordered how v w)) (g s)
+        bind-holds (IsOf l) (IsOf kind.Bool) (value_of known scene e s) (λ w. made_on (ordered how v w)) (g s)
         (λ w q s. made-holds (IsOf kind.Bool) (ordered how v w) (ordered-some how k l v w p q c) s))
 
     pub equal-typed : (k l : Kind) (d e : Phrase) → Compares compare.Equal k l → Typed k d → Typed l e → Typed kind.Bool (Node (Compared asked.Equal) d e)
@@ -247,9 +248,9 @@ module _ (scene : Scene) where
     pub sum-typed : (k l m : Kind) (d e : Phrase) → adds k l ≡ true → sum_kind k l ≡ sort.Value m → Typed k d → Typed l e → Typed m (Node Added d e)
     unfolding value_of
     sum-typed k l m d e a z f g s =
-        bind-holds (IsOf k) (IsOf m) (value_of numbers scene d s) (λ v s. and_then (value_of numbers scene e s) (λ w. made_on (summed v w))) (f s)
+        bind-holds (IsOf k) (IsOf m) (value_of known scene d s) (λ v s. and_then (value_of known scene e s) (λ w. made_on (summed v w))) (f s)
         (λ v p s.
-        bind-holds (IsOf l) (IsOf m) (value_of numbers scene e s) (λ w. made_on (summed v w)) (g s)
+        bind-holds (IsOf l) (IsOf m) (value_of known scene e s) (λ w. made_on (summed v w)) (g s)
         (λ w q s.
         let A : Kind → Kind → Type 0 = λ x y. (adds x y ≡ true) × (sum_kind x y ≡ sort.Value m) in
         let h : A (kind_of v) (kind_of w) = subst (λ (x : Kind). A x (kind_of w)) (sym p) (subst (λ (y : Kind). A k y) (sym q) (a, z)) in
@@ -259,9 +260,9 @@ module _ (scene : Scene) where
         → Typed m (Node Subtracted d e)
     unfolding value_of
     difference-typed k l m d e o a z f g s =
-        bind-holds (IsOf k) (IsOf m) (value_of numbers scene d s) (λ v s. and_then (value_of numbers scene e s) (λ w. made_on (lessened v w))) (f s)
+        bind-holds (IsOf k) (IsOf m) (value_of known scene d s) (λ v s. and_then (value_of known scene e s) (λ w. made_on (lessened v w))) (f s)
         (λ v p s.
-        bind-holds (IsOf l) (IsOf m) (value_of numbers scene e s) (λ w. made_on (lessened v w)) (g s)
+        bind-holds (IsOf l) (IsOf m) (value_of known scene e s) (λ w. made_on (lessened v w)) (g s)
         (λ w q s.
         let A : Kind → Kind → Type 0 = λ x y. (is_ordered (sort.Value x) ≡ true) × (same_kind x y ≡ true) × (difference_kind x y ≡ sort.Value m) in
         let h : A (kind_of v) (kind_of w) = subst (λ (x : Kind). A x (kind_of w)) (sym p) (subst (λ (y : Kind). A k y) (sym q) (o, a, z)) in
@@ -270,7 +271,7 @@ module _ (scene : Scene) where
     -- the right side of a match: a pattern, or behind an address the name of an ACL
     pub data Sought (k : Kind) : Phrase → Type 0 where
       pattern_of : (place : ℕ) (text : List ℕ) → Sought k (String place text)
-      acl_named : (place : ℕ) (name : List ℕ) → k ≡ kind.Ip → AclNamed numbers scene name → Sought k (Named place name)
+      acl_named : (place : ℕ) (name : List ℕ) → k ≡ kind.Ip → AclNamed known scene name → Sought k (Named place name)
 
     sought-makes : (wanted : Bool) (entries : List AclEntry) (v : Value) → kind_of v ≡ kind.Ip → Makes (IsOf kind.Bool) (sought entries wanted v)
     sought-makes wanted entries (value.Ip a) f = refl
@@ -281,11 +282,11 @@ module _ (scene : Scene) where
     sought-makes wanted entries (value.Backend a) f = absurd (cc)
 
     matched-holds : (wanted : Bool) (k : Kind) (left : Operand) → Worth k left → (e : Phrase) → Sought k e → (s : List Answer)
-        → Holds (IsOf kind.Bool) (matched_in numbers scene wanted left e s)
+        → Holds (IsOf kind.Bool) (matched_in known scene wanted left e s)
     matched-holds wanted k left f _ (pattern_of place text) s =
         bind-holds (IsOf k) (IsOf kind.Bool) (left s) (λ v. known_on (matched text wanted v)) (f s)
         (λ v p s. known-holds (IsOf kind.Bool) (matched text wanted v) (λ w e. matched-of text wanted v w e) s)
-    matched-holds wanted k left f _ (acl_named place name is acl) s = by-acl (acl_of numbers name) acl.1
+    matched-holds wanted k left f _ (acl_named place name is acl) s = by-acl (acl_of known name) acl.1
       where
         by-acl : (o : Option ℕ) → o ≡ Some acl.0 → Holds (IsOf kind.Bool) (sought_in scene wanted left o s)
         by-acl None e = absurd (none-some acl.0 e)
@@ -298,14 +299,14 @@ module _ (scene : Scene) where
 
     pub match-typed : (k : Kind) (d e : Phrase) → Typed k d → Sought k e → Typed kind.Bool (Node (Compared asked.Match) d e)
     unfolding value_of
-    match-typed k d e f h s = matched-holds true k (value_of numbers scene d) f e h s
+    match-typed k d e f h s = matched-holds true k (value_of known scene d) f e h s
 
     pub mismatch-typed : (k : Kind) (d e : Phrase) → Typed k d → Sought k e → Typed kind.Bool (Node (Compared asked.NotMatch) d e)
     unfolding value_of
-    mismatch-typed k d e f h s = matched-holds false k (value_of numbers scene d) f e h s
+    mismatch-typed k d e f h s = matched-holds false k (value_of known scene d) f e h s
 
     -- a call of what its name stands for
-    pub called-typed : (k : Kind) (place : ℕ) (name : List ℕ) (l : Phrase) (c : Callee) → callee_of numbers name ≡ c
-        → CallWorth k c (second_string l) (operands_of numbers scene l) → Typed k (Node Called (Named place name) l)
+    pub called-typed : (k : Kind) (place : ℕ) (name : List ℕ) (l : Phrase) (c : Callee) → callee_of known name ≡ c
+        → CallWorth k c (second_string l) (operands_of known scene l) → Typed k (Node Called (Named place name) l)
     unfolding value_of
-    called-typed k place name l c e h s = subst (λ (x : Callee). CallWorth k x (second_string l) (operands_of numbers scene l)) (sym e) h s
+    called-typed k place name l c e h s = subst (λ (x : Callee). CallWorth k x (second_string l) (operands_of known scene l)) (sym e) h s

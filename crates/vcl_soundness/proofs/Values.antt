@@ -18,7 +18,7 @@ use Rattle.vcl_context.specs.declared.turn.Answer.{Answer}
 use Rattle.vcl_operands.specs.Outs.{On, and_then, made_on}
 use Rattle.vcl_operands.specs.Meaning.{Operand, decided_by, decides}
 use Rattle.vcl_operands.specs.Values.{ok_of, as_text, truth_value, opposite, ordered, matched, fitted, text, replaced_in, substituted}
-use Rattle.vcl_store.proofs.Rows.{false-true}
+use Rattle.vcl_soundness.proofs.Rows.{false-true}
 use Rattle.vcl_soundness.proofs.Holds.{Holds, IsOf, Makes, bind-holds, made-holds, IsGiven, map-of}
 
 -- a value of a type

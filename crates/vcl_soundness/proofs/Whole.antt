@@ -1,5 +1,5 @@
 -- A run of a sound text isn't stuck.
-use Rattle.std.proofs.Common.{◌≡◌, inl, inr, ℕ, zero, suc, ◌+◌, ◌<◌, ◌==◌, Bool, true, false, length, map, List, [], ◌∷◌, codes, refl, sym, ap, ◌∙◌, subst, Option, Some, None, slice_get, slice_index_or, if◌then◌else◌, arith}
+use Rattle.std.proofs.Common.{◌≡◌, inl, inr, ℕ, zero, suc, ◌+◌, ◌<◌, ◌==◌, Bool, true, false, length, map, List, [], ◌∷◌, refl, sym, ap, subst, Option, Some, None, slice_get, slice_index_or, if◌then◌else◌, arith}
 use Rattle.std.specs.Prelude.{Contains}
 use Rattle.std.proofs.lemmas.List.Elements.{Contains-append_cases}
 use Rattle.std.proofs.lemmas.Option.{none-some, same_Some}
@@ -17,7 +17,7 @@ use Rattle.vcl_tree.specs.declared.item.Tree.{Tree}
 use Rattle.vcl_tree.specs.declared.item.Version.{Version}
 use Rattle.vcl_tree.specs.declared.name.Name.{Name}
 use Rattle.vcl_tree.specs.declared.token.Token.{Token}
-use Rattle.vcl_language.specs.Names.{is_reserved, subroutine_named}
+use Rattle.vcl_language.specs.Names.{subroutine_named}
 use Rattle.vcl_language.specs.Scopes.{has, subroutine_number}
 use Rattle.vcl_language.specs.declared.scope.Scope.TheVariants as scope
 use Rattle.vcl_language.specs.declared.scope.Subroutine.{Subroutine}
@@ -25,32 +25,27 @@ use Rattle.vcl_language.specs.declared.scope.Subroutine.TheVariants as subroutin
 use Rattle.vmod_host.specs.declared.signature.Stored.{Stored}
 use Rattle.vcl_context.specs.declared.context.Context.{Context}
 use Rattle.vcl_check.specs.declared.form.Use.TheVariants as use'
-use Rattle.vcl_check.specs.declared.known.Thing.{Thing as Checked}
-use Rattle.vcl_check.specs.declared.known.Thing.TheVariants as checked
 use Rattle.vcl_check.specs.Folded.{AnyOf}
-use Rattle.vcl_check.specs.Known as check
-use Rattle.vcl_check.specs.Known.{meaning_of, of_called}
-use Rattle.vcl_check.specs.Reaching.{numbered_names, number_in, reaching, roots_by}
+use Rattle.vcl_symbols.specs.Known.{Known}
+use Rattle.vcl_check.specs.Known.{meaning_of}
+use Rattle.vcl_check.specs.Reaching.{numbered_names}
 use Rattle.vcl_check.specs.Roles.{Block}
 use Rattle.vcl_check.specs.Rules.{is_known}
 use Rattle.vcl_check.specs.Sentences as sentences
 use Rattle.vcl_check.specs.Sentences.{roots_in}
 use Rattle.vcl_check.specs.Texts.{ItemFault, AnyFault, IsSound, calls_in, says}
-use Rattle.vcl_code.specs.declared.names.Thing.{Thing}
-use Rattle.vcl_code.specs.declared.names.Thing.TheVariants as thing
-use Rattle.vcl_code.specs.Names.{Known, thing_named, subroutine_in, subroutine_of}
-use Rattle.vcl_program.specs.Declarations.{nothing as undeclared, with_items, is_init}
-use Rattle.vcl_program.specs.declared.declarations.Declarations.{Declarations}
+use Rattle.vcl_code.specs.Names.{subroutine_of}
 use Rattle.vcl_context.specs.declared.turn.Answer.{Answer}
 use Rattle.vcl_operands.specs.Outs.{IsSure}
 use Rattle.vcl_eval.specs.States.{state, Doing, most_statements}
 use Rattle.vcl_meaning.specs.Meaning.{Text, text_of, bodies_of, body_of, is_body_of, scene_in, block_of, body_on, called_within, called, bodies_done, run_of}
 use Rattle.vcl_store.specs.Joined.{IsJoined}
-use Rattle.vcl_store.proofs.Clean.{Clean}
-use Rattle.vcl_store.proofs.Declared.{at_init, AllFit, init-is, both-known}
-use Rattle.vcl_store.proofs.Rows.{false-true}
+use Rattle.vcl_soundness.proofs.Clean.{Clean}
+use Rattle.vcl_soundness.proofs.Made.{AllFit, all-made}
+use Rattle.vcl_soundness.proofs.Calls.{subroutine-named}
+use Rattle.vcl_soundness.proofs.Rows.{false-true}
 use Rattle.vcl_soundness.specs.Laws.{AreMeant}
-use Rattle.vcl_soundness.proofs.Lists.{AllThere, items-there, at-low, OwnAt, own-numbered}
+use Rattle.vcl_soundness.proofs.Lists.{AllThere, items-there, OwnAt, own-at}
 use Rattle.vcl_soundness.proofs.Names.{Stands}
 use Rattle.vcl_soundness.proofs.Reached.{Held, built-held, called-held, held-root, built-root}
 use Rattle.vcl_soundness.proofs.Said.{IsCalled, block-calls}
@@ -118,28 +113,19 @@ any-contained P f (y ∷ ys) (suc i) k x l e h = inr (any-contained P f ys i (k 
 block-clean : (items : List Item) (stored : List Stored) (s : IsSound items stored) (place : ℕ) (name : Name) (block : Phrase) → Contains items (item.Sub place name block)
     → Clean (sentences.known_in items stored) (roots_in items stored s.faultless.rows name.text) Block block
 block-clean items stored s place name block c f h =
-    let K : check.Known = sentences.known_in items stored in
+    let K : Known = sentences.known_in items stored in
     let first : (f : Fault) → AnyFault items stored s.faultless.rows s.faultless.places f → ⊥ = s.faultless.first in
     first f (inr (inr (inl (any-contained (ItemFault K (numbered_names K.names) s.faultless.rows) f items c.0 0 (item.Sub place name block) c.1 c.2 (λ j. h)))))
-
-init-named : subroutine_named (codes "vcl_init") ≡ Some subroutine.Init
-unfolding subroutine_named
-init-named = refl
-
-init-roots : (items : List Item) (stored : List Stored) (rows : List (List Bool)) (name : List ℕ) → is_init name ≡ true → roots_in items stored rows name ≡ at_init
-init-roots items stored rows name e =
-    let R : Option Subroutine → List Subroutine = λ o. roots_by o (is_reserved name) (reaching rows (number_in (numbered_names (sentences.known_in items stored).names) name)) in
-    ap R (ap subroutine_named (init-is name e) ∙ init-named)
 
 all-fit : (text : List ℕ) (joined : Tree) (stored : List Stored) → IsJoined text joined → IsSound joined.items stored → AllFit (sentences.known_in joined.items stored) joined.items
 all-fit text joined stored j s place name block c =
     let r = joined-read text joined j place name block c in
-    let C : List Subroutine → Type 0 = λ l. Clean (sentences.known_in joined.items stored) l Block block in
     record {
       tokens = r.0;
       rest = r.1;
       reads = r.2;
-      init = λ e. subst C (init-roots joined.items stored s.faultless.rows name.text e) (block-clean joined.items stored s place name block c);
+      roots = roots_in joined.items stored s.faultless.rows name.text;
+      clean = block-clean joined.items stored s place name block c;
     }
 
 -- calls with what is known of each
@@ -151,31 +137,6 @@ all-call P Q f (Node If a b) h = all-call P Q f b h
 all-call P Q f (Node phrase.Branch a b) h = all-call P Q f b h
 all-call P Q f (Node Jump a (Named place name)) h = f name h
 all-call P Q f _ h = tt
-
-subroutine-checked : (o : Option Checked) → is_known (of_called o) ≡ true → o ≡ Some checked.Subroutine
-subroutine-checked (Some checked.Subroutine) h = refl
-subroutine-checked (Some checked.Backend) h = absurd (false-true h)
-subroutine-checked (Some checked.Acl) h = absurd (false-true h)
-subroutine-checked (Some checked.Probe) h = absurd (false-true h)
-subroutine-checked (Some (checked.Object kind)) h = absurd (false-true h)
-subroutine-checked (Some checked.NoObject) h = absurd (false-true h)
-subroutine-checked None h = absurd (false-true h)
-
-called-checked : (known : check.Known) (name : List ℕ) → is_known (meaning_of known use'.Subroutine name) ≡ true → check.thing_named known name ≡ Some checked.Subroutine
-unfolding meaning_of
-called-checked known name h = subroutine-checked (check.thing_named known name) h
-
-subroutine-thing : (o : Option Thing) (k : ℕ) → subroutine_in o ≡ Some k → o ≡ Some (thing.Subroutine k)
-subroutine-thing (Some (thing.Subroutine j)) k e = ap (λ (i : ℕ). Some (thing.Subroutine i)) (same_Some j k e)
-subroutine-thing (Some thing.Other) k e = absurd (none-some k e)
-subroutine-thing (Some (thing.Acl j)) k e = absurd (none-some k e)
-subroutine-thing (Some (thing.Backend j)) k e = absurd (none-some k e)
-subroutine-thing (Some (thing.Director j)) k e = absurd (none-some k e)
-subroutine-thing None k e = absurd (none-some k e)
-
-called-thing : (numbers : Known) (name : List ℕ) (k : ℕ) → subroutine_of numbers name ≡ Some k → thing_named numbers name ≡ Some (thing.Subroutine k)
-unfolding subroutine_of
-called-thing numbers name k e = subroutine-thing (thing_named numbers name) k e
 
 -- built-in subroutines by their numbers
 same-number : (a b : Subroutine) → (subroutine_number a == subroutine_number b) ≡ true → a ≡ b
@@ -236,7 +197,7 @@ module _ (text : List ℕ) (joined : Tree) (stored : List Stored) (j : IsJoined 
   items : List Item
   items = joined.items
 
-  abbrev K : check.Known
+  abbrev K : Known
   K = sentences.known_in joined.items stored
 
   abbrev N : List (List ℕ)
@@ -252,17 +213,16 @@ module _ (text : List ℕ) (joined : Tree) (stored : List Stored) (j : IsJoined 
   fit = all-fit text joined stored j sound
 
   -- the names stand for what is there
-  stands : (c : Context) → Stands K T.known (scene_in T c)
+  stands : (c : Context) → Stands T.known (scene_in T c)
   stands c =
-      let d : Declarations = with_items undeclared joined.items in
-      let there : AllThere d = items-there joined.items in
+      let there : AllThere joined.items stored = items-there joined.items stored in
       record {
-        meet = both-known K joined.items stored fit;
+        made = all-made K joined.items stored fit;
         stored = refl;
         meant = meant';
-        backends = λ name k e. at-low d.backends k (there.backends name k e);
-        acls = λ name k e. at-low d.acls k (there.acls name k e);
-        directors = λ name k e. at-low d.directors k (there.directors name k e);
+        backends = there.backends;
+        acls = there.acls;
+        directors = there.directors;
       }
 
   -- a subroutine of the text's own that is reached
@@ -274,19 +234,20 @@ module _ (text : List ℕ) (joined : Tree) (stored : List Stored) (j : IsJoined 
   called-reaching : (owner name : List ℕ) → Held (calls_in joined.items stored) N root owner → IsCalled (says joined.items) owner name → is_known (meaning_of K use'.Subroutine name) ≡ true
       → (k : ℕ) → subroutine_of T.known name ≡ Some k → Reaching k
   called-reaching owner name h c is k e =
-      let there : AllThere (with_items undeclared joined.items) = items-there joined.items in
+      let there : AllThere joined.items stored = items-there joined.items stored in
+      let named = subroutine-named K name k e in
       record {
         own_text = name;
-        own = own-numbered joined.items k name (there.own name k (called-thing T.known name k e));
-        held = called-held K (says joined.items) root owner name h c.0 c.1 (called-checked K name is);
+        own = own-at joined.items k name (there.own name k named);
+        held = called-held K (says joined.items) root owner name h c.0 c.1 k named;
       }
 
   -- a block that is reached
   reached-goes : (calls : ℕ → Doing) → ((k : ℕ) → Reaching k → Goes (calls k)) → (place : ℕ) (name : Name) (block : Phrase)
       → Contains joined.items (item.Sub place name block) → Contains (Roots name.text) root → Held (calls_in joined.items stored) N root name.text → Goes (block_of T calls block)
   reached-goes calls goes place name block c reached held =
-      block-goes K T stands (Roots name.text) root reached traffic calls (fit place name block c).reads (block-clean joined.items stored sound place name block c)
-      (all-call (IsCalled (says joined.items) name.text) (Leads K T stands (Roots name.text) root reached traffic calls)
+      block-goes T stands (Roots name.text) root reached traffic calls (fit place name block c).reads (block-clean joined.items stored sound place name block c)
+      (all-call (IsCalled (says joined.items) name.text) (Leads T stands (Roots name.text) root reached traffic calls)
       (λ own h is k e. goes k (called-reaching name.text own held h is k e)) block (block-calls joined.items place name block c))
 
   body-goes : (calls : ℕ → Doing) (o : Option Phrase) (block : Phrase) → o ≡ Some block → Goes (block_of T calls block) → Goes (body_on (block_of T calls) o)

@@ -1,8 +1,4 @@
-pub mod Clean
-pub mod Declared
-pub mod Expressions
-pub mod Names
 pub mod Refusals
-pub mod Rows
-pub mod Values
-pub mod Weights
+pub mod Items
+pub mod Reader
+pub mod BuiltIn

@@ -9,11 +9,11 @@ sub vcl_recv {
   if (!req.http.Host && req.proto == \"HTTP/1.1\") {
     return (synth(400));
   }
-  if (!(req.method == \"GET\" || req.method == \"HEAD\" || req.method == \"PUT\" || req.method == \"POST\"
-      || req.method == \"TRACE\" || req.method == \"OPTIONS\" || req.method == \"DELETE\" || req.method == \"PATCH\")) {
+  if (req.method != \"GET\" && req.method != \"HEAD\" && req.method != \"PUT\" && req.method != \"POST\"
+      && req.method != \"TRACE\" && req.method != \"OPTIONS\" && req.method != \"DELETE\" && req.method != \"PATCH\") {
     return (synth(501));
   }
-  if (!(req.method == \"GET\" || req.method == \"HEAD\")) {
+  if (req.method != \"GET\" && req.method != \"HEAD\") {
     return (pass);
   }
   if (req.http.Authorization || req.http.Cookie) {
@@ -72,7 +72,7 @@ sub vcl_backend_response {
   if (beresp.ttl <= 0s
       || beresp.http.Set-Cookie
       || beresp.http.Surrogate-Control ~ \"(?i)no-store\"
-      || (!beresp.http.Surrogate-Control && beresp.http.Cache-Control ~ \"(?i)(no-cache|no-store|private)\")
+      || (!beresp.http.Surrogate-Control && beresp.http.Cache-Control ~ \"(?i)no-cache|no-store|private\")
       || beresp.http.Vary == \"*\") {
     set beresp.ttl = 120s;
     set beresp.uncacheable = true;

@@ -7,8 +7,10 @@
 
 mod built_in;
 mod joined;
+mod laws;
 mod program;
 
 pub use built_in::BUILT_IN;
 pub use joined::joined_tree;
+pub use laws::built_in_is_read;
 pub use program::{checked, program_of};

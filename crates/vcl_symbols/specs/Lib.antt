@@ -2,3 +2,4 @@ pub mod Names
 pub mod Calls
 pub mod Circles
 pub mod Visits
+pub mod Known

@@ -1,5 +1,5 @@
 -- Dialers in memory, as clauses see them.
-use Rattle.std.specs.Prelude.{◌≡◌, ◌⊎◌, ℕ, List, [], ◌∷◌, ◌++◌, map, Contains, Option, Some, None, Box}
+use Rattle.std.specs.Prelude.{◌≡◌, ◌⊎◌, ℕ, true, List, [], ◌∷◌, ◌++◌, map, Contains, Option, Some, None, Box}
 use Rattle.std.specs.declared.alloc.Global.{Global}
 use Rattle.wire.specs.Causes.{next_count}
 use Rattle.wire.specs.Flow.{Flow}
@@ -40,7 +40,7 @@ planned_link plan peer =
     let flow : Flow = record { given = []; left = plan.input.items; took = [] } in
     let reads : Direction = record { faults = 0; calls = 0; failing = plan.failing_reads.items; most = plan.most } in
     let writes : Direction = record { faults = 0; calls = 0; failing = plan.failing_writes.items; most = plan.most } in
-    record { flow = flow; reads = reads; writes = writes; peer = peer }
+    record { flow = flow; reads = reads; writes = writes; peer = peer; is_open = true; quiet = 0 }
 
 -- a dial is counted, and takes the first plan unless it fails
 abbrev pub Takes : DialerState → DialerState → Option Plan → Type 0

@@ -1,5 +1,5 @@
 -- Connections in memory, as clauses see them.
-use Rattle.std.specs.Prelude.{ℕ, ◌++◌, ◌==◌, ◌&&◌, nat_lt, List, length, take, drop, if◌then◌else◌}
+use Rattle.std.specs.Prelude.{ℕ, ◌++◌, ◌==◌, ◌&&◌, nat_lt, Bool, List, length, take, drop, if◌then◌else◌}
 use Rattle.wire.specs.Causes.{next_count}
 use Rattle.wire.specs.Flow.{Flow}
 use Rattle.wire.specs.declared.peer.Peer.{Peer}
@@ -12,12 +12,15 @@ pub record Direction : Type 0 where
   pub failing : List ℕ
   pub most : ℕ
 
--- a connection: what went over it, its two directions, and its other end
+-- a connection: what went over it, its two directions, its other end, whether it wasn't ended yet, and how many waits will find
+-- nothing yet
 pub record LinkState : Type 0 where
   pub flow : Flow
   pub reads : Direction
   pub writes : Direction
   pub peer : Peer
+  pub is_open : Bool
+  pub quiet : ℕ
 
 -- a call was made, which failed or didn't
 abbrev pub called : Direction → Direction

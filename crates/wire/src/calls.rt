@@ -51,7 +51,8 @@ impl Calls {
 
     /// Adds the faults of other calls.
     pub fn join(&mut self, faults: u64)
-        ensures { self.new ≡ joined self.old faults }
+        ensures faults { self.new ≡ joined self.old faults }
+        ensures later { self.old.faults ≤ self.new.faults }
     {
         self.faults = self.faults.saturating_add(faults);
     }

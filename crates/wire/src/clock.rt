@@ -20,4 +20,9 @@ pub trait Clock {
     fn word(&mut self) -> u64
         ensures word { Tells (words self.old) (words self.new) result }
         ensures readings { readings self.new ≡ readings self.old };
+
+    /// Lets so many milliseconds pass, about. It tells nothing, and may be cut short.
+    fn rest(&mut self, millis: u64)
+        ensures readings { readings self.new ≡ readings self.old }
+        ensures words { words self.new ≡ words self.old };
 }

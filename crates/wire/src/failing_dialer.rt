@@ -1,5 +1,5 @@
 // A dialer in memory whose dials fail at chosen numbers.
-ghost use Rattle.std.specs.Prelude.{◌≡◌, ◌++◌, [], ◌∷◌, None, Some, IsErrOf, IfOk, OnOk, MatchOption};
+ghost use Rattle.std.specs.Prelude.{◌≡◌, ◌++◌, [], ◌∷◌, true, false, None, Some, IsErrOf, IfOk, OnOk, MatchOption};
 ghost use Rattle.wire.specs.Causes.{Rose};
 ghost use Rattle.wire.specs.Flow.{IsFresh};
 ghost use Rattle.wire.specs.DialerMemory.{talks_at, talks_of, talk_of, planned_link, handed_back, Takes, Gives, Fails};
@@ -7,7 +7,7 @@ ghost use Rattle.wire.specs.Talks.{Adds, counted_link};
 ghost use Rattle.wire.specs.declared.peer.Peer.{Peer as End};
 
 use crate::kept::{Kept, keep, place};
-use crate::{Calls, DialError, Dialer, Direction, FailingLink, Peer};
+use crate::{Calls, DialError, Dialer, Direction, FailingLink, Peer, TimeLimits};
 use std::alloc::{AllocError, Global};
 use std::collections::VecDeque;
 use std::marker::Model;
@@ -150,11 +150,20 @@ impl Dialer for FailingDialer {
 
     ghost write_faults = { λ d. d.write_faults };
 
+    fn within(&mut self, _limits: TimeLimits)
+        ensures talks { Some self.new.talks ≡ Some self.old.talks }
+        ensures dials { self.new.dial_faults ≡ self.old.dial_faults }
+        ensures reads { self.new.read_faults ≡ self.old.read_faults }
+        ensures writes { self.new.write_faults ≡ self.old.write_faults }
+        ensures same { self.new ≡ self.old }
+    {}
+
     fn dial(&mut self, host: &Text, port: &Text) -> Result<DialedLink, DialError>
         ensures fresh { IfOk result (λ link. IsFresh (Some link.flow)) }
         ensures reads { IfOk result (λ link. link.reads.faults ≡ 0) }
         ensures writes { IfOk result (λ link. link.writes.faults ≡ 0) }
         ensures peer { IfOk result (λ link. link.peer ≡ End.Dialed host.now port.now) }
+        ensures is_open { IfOk result (λ link. link.is_open ≡ true) }
         ensures dialed { OnOk result ((Some self.new.talks ≡ Some self.old.talks) × (self.new.dial_faults ≡ self.old.dial_faults)) }
         ensures failed { IsErrOf result DialError.Failed → Adds (Some self.old.talks) (Some self.new.talks) (record { peer = End.Dialed host.now port.now; link = None } ∷ [])
             × Rose self.old.dial_faults self.new.dial_faults }
@@ -176,6 +185,7 @@ impl Dialer for FailingDialer {
     }
 
     fn hang_up(&mut self, link: DialedLink)
+        requires closed { link.is_open ≡ false }
         ensures talk { Adds (Some self.old.talks) (Some self.new.talks) (record { peer = link.peer; link = Some link } ∷ []) }
         ensures dials { self.new.dial_faults ≡ self.old.dial_faults }
         ensures reads { self.new.read_faults ≡ counted_link self.old.read_faults link.reads.faults }

@@ -1,12 +1,13 @@
 // A connection in memory whose calls fail at chosen numbers.
-ghost use Rattle.std.specs.Prelude.{◌≡◌, ◌↔◌, [], Some, min, max, length, Contains, IsErr, IfOk, OnErr};
+ghost use Rattle.std.specs.Prelude.{◌≡◌, ◌↔◌, ◌==◌, ◌-◌, [], Some, true, false, min, max, length, Contains, IsErr, IfOk, OnErr, if◌then◌else◌};
 ghost use Rattle.std.specs.Io.{ReadsAtMost, WritesAtMost};
 ghost use Rattle.wire.specs.Causes.{HasCause, TakesOrRose};
 ghost use Rattle.wire.specs.Flow.{Reads, Writes};
 ghost use Rattle.wire.specs.LinkMemory.{called, failed, gave, taken, wrote};
+ghost use Rattle.wire.specs.declared.link.Readiness.TheVariants as answer;
 
 use crate::giving::give;
-use crate::{Calls, Failed, Link, Peer};
+use crate::{Calls, Failed, Link, Peer, Readiness};
 use std::alloc::Global;
 use std::marker::Model;
 
@@ -47,6 +48,8 @@ pub struct FailingLink<P: Drop = ()> {
     reads: Direction,
     writes: Direction,
     peer: Peer,
+    is_open: bool,
+    quiet: u64,
     place: P,
 }
 
@@ -61,6 +64,8 @@ impl<P: Drop> Model for FailingLink<P> {
       reads = l.reads;
       writes = l.writes;
       peer = l.peer;
+      is_open = l.is_open;
+      quiet = l.quiet;
     } };
 
     ghost invariant = { λ l. l.at ≤ length l.input.items };
@@ -75,7 +80,7 @@ impl FailingLink {
         writes: Direction,
         peer: Peer,
     ) -> FailingLink
-        ensures { result ≡ record { flow = record { given = []; left = input.items; took = [] }; reads = reads; writes = writes; peer = peer } }
+        ensures { result ≡ record { flow = record { given = []; left = input.items; took = [] }; reads = reads; writes = writes; peer = peer; is_open = true; quiet = 0 } }
     {
         FailingLink {
             input,
@@ -84,7 +89,19 @@ impl FailingLink {
             reads,
             writes,
             peer,
+            is_open: true,
+            quiet: 0,
             place: (),
+        }
+    }
+
+    /// The connection, of which so many waits find nothing yet.
+    pub fn quiet_for(self, waits: u64) -> FailingLink
+        ensures { result ≡ record self { quiet = waits } }
+    {
+        FailingLink {
+            quiet: waits,
+            ..self
         }
     }
 
@@ -99,6 +116,8 @@ impl FailingLink {
             reads: self.reads,
             writes: self.writes,
             peer: self.peer,
+            is_open: self.is_open,
+            quiet: self.quiet,
             place,
         }
     }
@@ -116,6 +135,8 @@ impl<P: Drop> FailingLink<P> {
             reads: self.reads,
             writes: self.writes,
             peer: self.peer,
+            is_open: self.is_open,
+            quiet: self.quiet,
             place: (),
         };
         (link, self.place)
@@ -139,6 +160,13 @@ impl<P: Drop> FailingLink<P> {
     {
         self.writes.calls.faults()
     }
+
+    /// Whether it wasn't ended yet.
+    pub fn is_open(&self) -> bool
+        ensures { result ≡ self.now.is_open }
+    {
+        self.is_open
+    }
 }
 
 impl<P: Drop> Link for FailingLink<P> {
@@ -152,12 +180,15 @@ impl<P: Drop> Link for FailingLink<P> {
 
     ghost peer = { λ l. l.peer };
 
+    ghost is_open = { λ l. l.is_open };
+
     fn read(&mut self, into: &mut [u8]) -> Result<usize, Failed>
         ensures bound { ReadsAtMost result into.new }
         ensures bytes { Reads (Some self.old.flow) (Some self.new.flow) result into.new }
         ensures cause { HasCause self.old.reads.faults self.new.reads.faults result }
         ensures other { self.new.writes.faults ≡ self.old.writes.faults }
         ensures peer { self.new.peer ≡ self.old.peer }
+        ensures is_open { self.new.is_open ≡ self.old.is_open }
         ensures fails { IsErr result ↔ Contains self.old.reads.failing self.old.reads.calls }
         ensures count { IfOk result (λ count. count ≡ min (min (length self.old.flow.left) (length into.old)) (max 1 self.old.reads.most)) }
         ensures gives { IfOk result (λ count. self.new ≡ record self.old { flow = gave self.old.flow count; reads = called self.old.reads }) }
@@ -178,6 +209,7 @@ impl<P: Drop> Link for FailingLink<P> {
         ensures takes { TakesOrRose self.old.writes.faults self.new.writes.faults result piece.now }
         ensures other { self.new.reads.faults ≡ self.old.reads.faults }
         ensures peer { self.new.peer ≡ self.old.peer }
+        ensures is_open { self.new.is_open ≡ self.old.is_open }
         ensures fails { Contains self.old.writes.failing self.old.writes.calls → IsErr result }
         ensures count { IfOk result (λ count. count ≡ min (length piece.now) self.old.writes.most) }
         ensures took { IfOk result (λ count. self.new ≡ record self.old { flow = taken self.old.flow piece.now count; writes = wrote self.old.writes piece.now count }) }
@@ -195,11 +227,39 @@ impl<P: Drop> Link for FailingLink<P> {
         Ok(count)
     }
 
+    fn wait(&mut self) -> Readiness
+        ensures bytes { Some self.new.flow ≡ Some self.old.flow }
+        ensures reads { self.new.reads.faults ≡ self.old.reads.faults }
+        ensures writes { self.new.writes.faults ≡ self.old.writes.faults }
+        ensures peer { self.new.peer ≡ self.old.peer }
+        ensures is_open { self.new.is_open ≡ self.old.is_open }
+        ensures answer { result ≡ if self.old.quiet == 0 then answer.Ready else answer.NothingYet }
+        ensures others { self.new ≡ record self.old { quiet = self.old.quiet - 1 } }
+    {
+        if self.quiet == 0 {
+            return Readiness::Ready;
+        }
+        self.quiet -= 1;
+        Readiness::NothingYet
+    }
+
+    fn allow_reuse(&mut self)
+        ensures bytes { Some self.new.flow ≡ Some self.old.flow }
+        ensures reads { self.new.reads.faults ≡ self.old.reads.faults }
+        ensures writes { self.new.writes.faults ≡ self.old.writes.faults }
+        ensures peer { self.new.peer ≡ self.old.peer }
+        ensures is_open { self.new.is_open ≡ self.old.is_open }
+        ensures same { self.new ≡ self.old }
+    {}
+
     fn shut(&mut self)
         ensures bytes { Some self.new.flow ≡ Some self.old.flow }
         ensures reads { self.new.reads.faults ≡ self.old.reads.faults }
         ensures writes { self.new.writes.faults ≡ self.old.writes.faults }
         ensures peer { self.new.peer ≡ self.old.peer }
-        ensures same { self.new ≡ self.old }
-    {}
+        ensures closed { self.new.is_open ≡ false }
+        ensures others { self.new ≡ record self.old { is_open = false } }
+    {
+        self.is_open = false;
+    }
 }

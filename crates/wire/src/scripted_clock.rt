@@ -89,4 +89,11 @@ impl Clock for ScriptedClock {
     fn word(&mut self) -> u64 {
         self.words.tell()
     }
+
+    /// No time passes.
+    fn rest(&mut self, _millis: u64)
+        ensures readings { Some self.new.readings ≡ Some self.old.readings }
+        ensures words { Some self.new.words ≡ Some self.old.words }
+        ensures same { self.new ≡ self.old }
+    {}
 }

@@ -1,9 +1,9 @@
 // A dialer in memory whose dials never fail.
-ghost use Rattle.std.specs.Prelude.{◌≡◌, None, Some, IfOk, IfErr, MatchOption};
+ghost use Rattle.std.specs.Prelude.{◌≡◌, true, false, None, Some, IfOk, IfErr, MatchOption};
 ghost use Rattle.wire.specs.UnfailingMemory.{GivesUnfailing};
 ghost use Rattle.wire.specs.declared.peer.Peer.{Peer as End};
 
-use crate::{DialError, Dialer, Peer, UnfailingLink};
+use crate::{DialError, Dialer, Peer, TimeLimits, UnfailingLink};
 use std::alloc::Global;
 use std::collections::VecDeque;
 use std::marker::Model;
@@ -60,8 +60,13 @@ impl Dialer for UnfailingDialer {
 
     ghost write_faults = { λ _. 0 };
 
+    fn within(&mut self, _limits: TimeLimits)
+        ensures same { self.new ≡ self.old }
+    {}
+
     fn dial(&mut self, host: &Text, port: &Text) -> Result<UnfailingLink, DialError>
         ensures peer { IfOk result (λ link. link.peer ≡ End.Dialed host.now port.now) }
+        ensures is_open { IfOk result (λ link. link.is_open ≡ true) }
         ensures memory { IfErr result (λ error. error ≡ DialError.NoMemory) }
         ensures gives { IfOk result (λ link. GivesUnfailing self.old self.new (End.Dialed host.now port.now) link) }
     {
@@ -77,6 +82,7 @@ impl Dialer for UnfailingDialer {
     }
 
     fn hang_up(&mut self, link: UnfailingLink)
+        requires closed { link.is_open ≡ false }
         ensures latest { self.new ≡ record self.old { latest = Some link } }
     {
         self.latest = Some(link);

@@ -1,10 +1,11 @@
 // A connection in memory that never fails.
-ghost use Rattle.std.specs.Prelude.{◌≡◌, ◌++◌, [], min, length, take, drop, None, Ok, IfOk};
+ghost use Rattle.std.specs.Prelude.{◌≡◌, ◌++◌, [], true, false, min, length, take, drop, None, Ok, IfOk};
 ghost use Rattle.std.specs.Io.{ReadsAtMost, WritesAtMost};
 ghost use Rattle.wire.specs.Causes.{HasCause, TakesOrRose};
 ghost use Rattle.wire.specs.Flow.{Reads, Writes};
+ghost use Rattle.wire.specs.declared.link.Readiness.TheVariants.{Ready};
 
-use crate::{Failed, Link, Peer, Sink, Source, UnfailingSink, UnfailingSource};
+use crate::{Failed, Link, Peer, Readiness, Sink, Source, UnfailingSink, UnfailingSource};
 use std::alloc::{AllocError, Global};
 use std::marker::Model;
 
@@ -15,6 +16,7 @@ pub struct UnfailingLink {
     source: UnfailingSource,
     sink: UnfailingSink,
     peer: Peer,
+    is_open: bool,
 }
 
 impl Model for UnfailingLink {
@@ -22,7 +24,7 @@ impl Model for UnfailingLink {
 
     ghost Value = { UnfailingState };
 
-    ghost view = { λ l. record { left = l.source; kept = l.sink.kept; room = l.sink.room; peer = l.peer } };
+    ghost view = { λ l. record { left = l.source; kept = l.sink.kept; room = l.sink.room; peer = l.peer; is_open = l.is_open } };
 }
 
 impl UnfailingLink {
@@ -33,12 +35,13 @@ impl UnfailingLink {
         room: usize,
         peer: Peer,
     ) -> Result<UnfailingLink, AllocError>
-        ensures { IfOk result (λ link. link ≡ record { left = input.items; kept = []; room = room; peer = peer }) }
+        ensures { IfOk result (λ link. link ≡ record { left = input.items; kept = []; room = room; peer = peer; is_open = true }) }
     {
         Ok(UnfailingLink {
             source: UnfailingSource::new(input),
             sink: UnfailingSink::with_room(alloc, room)?,
             peer,
+            is_open: true,
         })
     }
 
@@ -59,11 +62,14 @@ impl Link for UnfailingLink {
 
     ghost peer = { λ l. l.peer };
 
+    ghost is_open = { λ l. l.is_open };
+
     fn read(&mut self, into: &mut [u8]) -> Result<usize, Failed>
         ensures bound { ReadsAtMost result into.new }
         ensures bytes { Reads None None result into.new }
         ensures cause { HasCause 0 0 result }
         ensures peer { self.new.peer ≡ self.old.peer }
+        ensures is_open { self.new.is_open ≡ self.old.is_open }
         ensures count { result ≡ Ok (min (length self.old.left) (length into.old)) }
         ensures given { IfOk result (λ count. (take count into.new ≡ take count self.old.left) × (self.new ≡ record self.old { left = drop count self.old.left })) }
     {
@@ -76,14 +82,33 @@ impl Link for UnfailingLink {
         ensures cause { HasCause 0 0 result }
         ensures takes { TakesOrRose 0 0 result piece.now }
         ensures peer { self.new.peer ≡ self.old.peer }
+        ensures is_open { self.new.is_open ≡ self.old.is_open }
         ensures whole { result ≡ Ok (length piece.now) }
         ensures kept { self.new ≡ record self.old { kept = take self.old.room (self.old.kept ++ piece.now) } }
     {
         self.sink.write(piece)
     }
 
-    fn shut(&mut self)
+    fn wait(&mut self) -> Readiness
         ensures peer { self.new.peer ≡ self.old.peer }
+        ensures is_open { self.new.is_open ≡ self.old.is_open }
+        ensures same { self.new ≡ self.old }
+        ensures ready { result ≡ Ready }
+    {
+        Readiness::Ready
+    }
+
+    fn allow_reuse(&mut self)
+        ensures peer { self.new.peer ≡ self.old.peer }
+        ensures is_open { self.new.is_open ≡ self.old.is_open }
         ensures same { self.new ≡ self.old }
     {}
+
+    fn shut(&mut self)
+        ensures peer { self.new.peer ≡ self.old.peer }
+        ensures closed { self.new.is_open ≡ false }
+        ensures others { self.new ≡ record self.old { is_open = false } }
+    {
+        self.is_open = false;
+    }
 }

@@ -42,6 +42,7 @@ fn said(alloc: Global, row: &str) -> Result<String, AllocError> {
         "pushed" => readings::pushed_shown(alloc, rest),
         "quoted" => readings::quoted_shown(alloc, rest),
         "acl" => addresses::list_shown(alloc, rest),
+        "address" => addresses::address_shown(alloc, rest),
         "choose" => choosing::choice_shown(alloc, rest),
         "key" => choosing::key_shown(alloc, rest),
         "words" => console::words_shown(alloc, rest),

@@ -51,5 +51,6 @@ fn push_line(out: &mut String, line: &NumberedLine) -> Result<(), AllocError> {
         Line::Fail(fetch) => write!(out, "{number} fail {fetch};"),
         Line::Cli(rest) => write!(out, "{number} cli {rest:?};"),
         Line::Lurk(count) => write!(out, "{number} lurk {count};"),
+        Line::Probe { backend, good } => write!(out, "{number} probe {backend:?} {good};"),
     }
 }

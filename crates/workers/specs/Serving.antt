@@ -1,15 +1,16 @@
 -- What workers do.
-use Rattle.std.specs.Prelude.{◌≡◌, ℕ, ◌+◌, List, [], ◌∷◌, ◌++◌, Option, Some}
+use Rattle.std.specs.Prelude.{◌≡◌, ℕ, ◌+◌, false, List, [], ◌∷◌, ◌++◌, Option, Some}
 use Rattle.entrance.specs.Arriving.{LinkTold, IsNew}
 
 -- Below, a connection is served in this way, and a link is told so.
 module _ {H K T : Type 0} (Serves : H → H → LinkTold → LinkTold → T → Type 0) (told : K → LinkTold) where
-  -- One connection was served to its end, from what was told of it when it was new to what its link tells now.
+  -- One connection was served and ended, from what was told of it when it was new to what its link tells now.
   pub record Served (before after : H) (link : K) (transcript : T) : Type 0 where
     pub opening : LinkTold
     pub address : List ℕ
     pub is_new : IsNew opening address
     pub serves : Serves before after opening (told link) transcript
+    pub closed : (told link).is_open ≡ false
 
   -- Connections were served, one behind another, each from the shift that the one before it left.
   abbrev pub AllServed : H → H → List K → List T → Type 0

@@ -1,5 +1,5 @@
 // What workers leave, joined in their order.
-ghost use Rattle.std.specs.Prelude.{◌≡◌, ◌+◌, ◌<◌, ◌≤◌, ◌++◌, ◌∷◌, [], Some, All, map, sum_by, vec_len, vec_capacity};
+ghost use Rattle.std.specs.Prelude.{◌≡◌, ◌+◌, ◌<◌, ◌≤◌, ◌++◌, ◌∷◌, [], false, Some, All, map, sum_by, vec_len, vec_capacity};
 ghost use Rattle.std.specs.List.{flat_map};
 ghost use Rattle.wire.specs.Talks.{Adds};
 ghost use Rattle.entrance.specs.HandingBack.{kept_after};
@@ -30,11 +30,13 @@ fn join_one<W: World, H: Drop, T: Drop, A: Quota, B: Ledger>(
     joined: &mut Joined<H, T, A, B>,
 )
     requires counted { IsCounted worker }
+    requires closed { All (λ link. W.Listener.Link.is_open link ≡ false) worker.links.items }
     requires so_far { joined.old.accepted.amount ≡ vec_len joined.old.transcripts }
     requires room { total.now.amount ≤ vec_capacity joined.old.transcripts }
     requires seats { vec_len joined.old.shifts < vec_capacity joined.old.shifts }
     ensures links { Adds (W.links world.old) (W.links world.new) worker.links.items }
     ensures kept { W.kept world.new ≡ kept_after (W.kept world.old) worker.links.items }
+    ensures given { W.given world.new ≡ W.given world.old }
     ensures ports { W.ports world.new ≡ W.ports world.old }
     ensures kits { W.kits world.new ≡ W.kits world.old }
     ensures files { W.files world.new ≡ W.files world.old }
@@ -68,7 +70,7 @@ fn join_one<W: World, H: Drop, T: Drop, A: Quota, B: Ledger>(
     joined.shifts.push_reserved(shift);
 }
 
-/// Takes down workers that have left, in their order: their links go back to the world, and all else that they leave is joined
+/// Takes down workers that have left, in their order: their links, each of which was ended, go back to the world, and all else that they leave is joined
 /// behind what was joined before. It takes no memory.
 pub fn disband<W: World, H: Drop, T: Drop, A: Quota, B: Ledger>(
     world: &mut W,
@@ -77,11 +79,13 @@ pub fn disband<W: World, H: Drop, T: Drop, A: Quota, B: Ledger>(
     joined: &mut Joined<H, T, A, B>,
 )
     requires counted { All IsCounted workers.items }
+    requires closed { All (λ worker. All (λ link. W.Listener.Link.is_open link ≡ false) worker.links.items) workers.items }
     requires so_far { joined.old.accepted.amount ≡ vec_len joined.old.transcripts }
     requires room { total.now.amount ≤ vec_capacity joined.old.transcripts }
     requires seats { vec_len joined.old.shifts + vec_len workers ≤ vec_capacity joined.old.shifts }
     ensures links { Adds (W.links world.old) (W.links world.new) (flat_map (λ worker. worker.links.items) workers.items) }
     ensures kept { W.kept world.new ≡ kept_after (W.kept world.old) (flat_map (λ worker. worker.links.items) workers.items) }
+    ensures given { W.given world.new ≡ W.given world.old }
     ensures ports { W.ports world.new ≡ W.ports world.old }
     ensures kits { W.kits world.new ≡ W.kits world.old }
     ensures files { W.files world.new ≡ W.files world.old }

@@ -1,6 +1,6 @@
 // What workers do with connections.
 ghost use Rattle.std.specs.Prelude.{◌≡◌};
-ghost use Rattle.entrance.specs.Arriving.{LinkTold, IsNew, told_by};
+ghost use Rattle.entrance.specs.Arriving.{LinkTold, IsNew, ended_so, told_by};
 
 use std::sync::Wait;
 use wire::Link;
@@ -19,7 +19,7 @@ pub trait Service<L: Link, P> {
     /// At this site a connection was served, from one shift to the next, and from what was told of it when it was new to what is told now.
     ghost Serves: { Self → P → Self.Shift → Self.Shift → LinkTold → LinkTold → Self.Transcript → Type 0 };
 
-    /// Serves a connection that was just accepted from this address, to its end.
+    /// Serves a connection that was just accepted from this address. It is ended behind that.
     fn serve<R: Wait>(
         &self,
         rt: &R,
@@ -29,7 +29,8 @@ pub trait Service<L: Link, P> {
         address: [u8; 4],
     ) -> (Self::Shift, Self::Transcript)
         requires ready { Ready self.now site.now shift }
-        requires new { IsNew (told_by L.flow L.read_faults L.write_faults L.peer link.old) address }
+        requires new { IsNew (told_by L.flow L.read_faults L.write_faults L.peer L.is_open link.old) address }
         ensures ready { Ready self.now site.now result.0 }
-        ensures serves { Serves self.now site.now shift result.0 (told_by L.flow L.read_faults L.write_faults L.peer link.old) (told_by L.flow L.read_faults L.write_faults L.peer link.new) result.1 };
+        ensures serves { Serves self.now site.now shift result.0 (told_by L.flow L.read_faults L.write_faults L.peer L.is_open link.old)
+            (ended_so (told_by L.flow L.read_faults L.write_faults L.peer L.is_open link.new)) result.1 };
 }

@@ -34,10 +34,10 @@ fn attend<R: Wait, L: Link, S: Service<L, P>, P, A: Quota, B: Ledger>(
     one: (L, [u8; 4]),
 )
     requires ready { IsSomeAnd worker.old.shift (S.Ready service.now site.now) }
-    requires new { IsNew (told_by L.flow L.read_faults L.write_faults L.peer one.0) one.1 }
+    requires new { IsNew (told_by L.flow L.read_faults L.write_faults L.peer L.is_open one.0) one.1 }
     requires room { (vec_len worker.old.links < vec_capacity worker.old.links) × (vec_len worker.old.transcripts < vec_capacity worker.old.transcripts) }
     ensures ready { IsSomeAnd worker.new.shift (S.Ready service.now site.now) }
-    ensures works { Works (S.Serves service.now site.now) (told_by L.flow L.read_faults L.write_faults L.peer) worker.old.shift worker.new.shift
+    ensures works { Works (S.Serves service.now site.now) (told_by L.flow L.read_faults L.write_faults L.peer L.is_open) worker.old.shift worker.new.shift
         worker.old.links.items worker.new.links.items worker.old.transcripts.items worker.new.transcripts.items }
     ensures one { vec_len worker.new.transcripts ≡ vec_len worker.old.transcripts + 1 }
     ensures same { worker.new ≡ record worker.old { shift = worker.new.shift; links = worker.new.links; transcripts = worker.new.transcripts } }
@@ -64,7 +64,7 @@ fn go_on<R: Wait, L: Listener, S: Service<L::Link, P>, P, A: Quota, B: Ledger>(
     requires parts { (0 < worker.old.accepted.parts) × (0 < worker.old.left.parts) }
     requires ready { IsSomeAnd worker.old.shift (S.Ready service.now site.now) }
     ensures ready { IsSomeAnd worker.new.shift (S.Ready service.now site.now) }
-    ensures works { Works (S.Serves service.now site.now) (told_by L.Link.flow L.Link.read_faults L.Link.write_faults L.Link.peer) worker.old.shift worker.new.shift
+    ensures works { Works (S.Serves service.now site.now) (told_by L.Link.flow L.Link.read_faults L.Link.write_faults L.Link.peer L.Link.is_open) worker.old.shift worker.new.shift
         worker.old.links.items worker.new.links.items worker.old.transcripts.items worker.new.transcripts.items }
     ensures counted { worker.new.accepted.amount + vec_len worker.old.transcripts ≡ worker.old.accepted.amount + vec_len worker.new.transcripts }
     ensures shut { IfSome result (λ leave. OnOk leave (worker.new.left.amount ≡ worker.old.left.amount + 1)) }
@@ -98,7 +98,7 @@ pub fn serve_worker<R: Wait, L: Listener, S: Service<L::Link, P>, P, A: Quota, B
     requires parts { (0 < worker.old.accepted.parts) × (0 < worker.old.left.parts) }
     requires ready { IsSomeAnd worker.old.shift (S.Ready service.now site.now) }
     ensures ready { IsSomeAnd worker.new.shift (S.Ready service.now site.now) }
-    ensures works { Works (S.Serves service.now site.now) (told_by L.Link.flow L.Link.read_faults L.Link.write_faults L.Link.peer) worker.old.shift worker.new.shift
+    ensures works { Works (S.Serves service.now site.now) (told_by L.Link.flow L.Link.read_faults L.Link.write_faults L.Link.peer L.Link.is_open) worker.old.shift worker.new.shift
         worker.old.links.items worker.new.links.items worker.old.transcripts.items worker.new.transcripts.items }
     ensures counted { worker.new.accepted.amount + vec_len worker.old.transcripts ≡ worker.old.accepted.amount + vec_len worker.new.transcripts }
     ensures shut { OnOk result (worker.new.left.amount ≡ worker.old.left.amount + 1) }

@@ -22,7 +22,7 @@ fn work_out<R: Wait, L: Listener, S: Service<L::Link, P>, P, A: Quota, B: Ledger
     worker: &mut Worker<S::Shift, L::Link, S::Transcript, A, B>,
 )
     requires { IsReady (S.Ready service.now site.now) worker.old }
-    ensures { HasWorked (S.Ready service.now site.now) (S.Serves service.now site.now) (told_by L.Link.flow L.Link.read_faults L.Link.write_faults L.Link.peer) worker.old worker.new }
+    ensures { HasWorked (S.Ready service.now site.now) (S.Serves service.now site.now) (told_by L.Link.flow L.Link.read_faults L.Link.write_faults L.Link.peer L.Link.is_open) worker.old worker.new }
 {
     let leave = serve_worker(rt, service, site, door, worker);
     worker.leave = Some(leave);
@@ -45,7 +45,7 @@ pub fn work<
 )
     requires { All (IsReady (S.Ready service.now site.now)) workers.old }
     ensures { (i : ℕ) (d : _) → i < length workers.old
-        → HasWorked (S.Ready service.now site.now) (S.Serves service.now site.now) (told_by L.Link.flow L.Link.read_faults L.Link.write_faults L.Link.peer) (slice_index_or workers.old i d) (slice_index_or workers.new i d) }
+        → HasWorked (S.Ready service.now site.now) (S.Serves service.now site.now) (told_by L.Link.flow L.Link.read_faults L.Link.write_faults L.Link.peer L.Link.is_open) (slice_index_or workers.old i d) (slice_index_or workers.new i d) }
 {
     let threads = workers.len().max(1);
     thread::for_each_mut(
@@ -54,7 +54,7 @@ pub fn work<
         threads,
         &|_, worker: &mut Worker<S::Shift, L::Link, S::Transcript, A, B>|
             requires { IsReady (S.Ready service.now site.now) worker.now }
-            ensures { HasWorked (S.Ready service.entry.now site.entry.now) (S.Serves service.entry.now site.entry.now) (told_by L.Link.flow L.Link.read_faults L.Link.write_faults L.Link.peer) worker.entry.now worker.exit.now }
+            ensures { HasWorked (S.Ready service.entry.now site.entry.now) (S.Serves service.entry.now site.entry.now) (told_by L.Link.flow L.Link.read_faults L.Link.write_faults L.Link.peer L.Link.is_open) worker.entry.now worker.exit.now }
         { work_out(rt, service, site, door, worker) },
     );
 }

@@ -2,6 +2,7 @@
 use Rattle.std.specs.Prelude.{◌≡◌, ℕ, Bool, List, find, Option, Some, None}
 use Rattle.std.specs.Option.{option_map}
 use Rattle.std.specs.Str.{bytes_eq}
+use Rattle.wire.specs.Calls.{Counted}
 use Rattle.world.specs.declared.file.File.{File}
 
 abbrev pub has_name : List ℕ → File → Bool
@@ -15,3 +16,8 @@ text_named name files = option_map (λ file. file.text) (find (has_name name) fi
 abbrev pub IsShelved : Option (List File) → List ℕ → Option (List ℕ) → Type 0
 IsShelved None name text = Unit {0}
 IsShelved (Some files) name text = text ≡ text_named name files
+
+-- a shelf in memory: its files, and its calls
+pub record ShelfState : Type 0 where
+  pub files : List File
+  pub reads : Counted

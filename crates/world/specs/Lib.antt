@@ -1,4 +1,5 @@
 pub mod Files
 pub mod Keeping
+pub mod Awaiting
 pub mod ListenerMemory
 pub mod WorldMemory

@@ -1,10 +1,11 @@
 -- Worlds in memory, as clauses see them.
 use Rattle.std.specs.Prelude.{ℕ, ◌++◌, ◌||◌, Bool, false, List, [], ◌∷◌, drop, Option, Some, None}
-use Rattle.wire.specs.Calls.{Counted, called, failed, joined, uncalled}
+use Rattle.wire.specs.Calls.{Counted, called, failed, joined, joined_count, uncalled}
 use Rattle.wire.specs.DialerMemory.{DialerState}
 use Rattle.wire.specs.LinkMemory.{LinkState}
 use Rattle.wire.specs.Tapes.{Tape, ClockState}
 use Rattle.wire.specs.declared.failing_dialer.Plan.{Plan}
+use Rattle.world.specs.Files.{ShelfState}
 use Rattle.world.specs.ListenerMemory.{ListenerState}
 use Rattle.world.specs.declared.failing_world.Listening.{Listening}
 use Rattle.world.specs.declared.file.File.{File}
@@ -17,18 +18,21 @@ pub record PlannedState : Type 0 where
   pub readings : List ℕ
   pub words : List ℕ
 
--- a world: the listeners that it is to give, its calls of listen, its files, its calls of shelf, the kits that it is to give, the
--- ports that were asked for, the links that were handed back and their number, the kits that were, and whether a listener that
--- was said its end
+-- a world: the listeners that it is to give, its calls of listen, its files, the numbers of the calls of a shelf that fail and how
+-- many did at those that were handed back, the kits that it is to give, the
+-- ports that were asked for, the links that were handed back and their number, the number of those that the listeners gave that were,
+-- the kits that were, and whether such a listener said its end
 pub record WorldState : Type 0 where
   pub listening : List Listening
   pub listens : Counted
   pub files : List File
-  pub shelves : Counted
+  pub failing_reads : List ℕ
+  pub read_faults : ℕ
   pub planned : List PlannedState
   pub ports : List ℕ
   pub links : List LinkState
   pub kept : ℕ
+  pub given : ℕ
   pub kits : List (Kit DialerState ClockState)
   pub ended : Bool
 
@@ -36,7 +40,7 @@ pub record WorldState : Type 0 where
 abbrev pub first_listener : List Listening → Option ListenerState
 first_listener [] = None
 first_listener (first ∷ rest) =
-    let listener : ListenerState = record { coming = first.coming.items; accepts = uncalled first.failing.items; ended = false } in
+    let listener : ListenerState = record { coming = first.coming.items; accepts = uncalled first.failing.items; ended = false; given = 0; quiet = first.quiet } in
     Some listener
 
 -- the world once it gave the first planned listener
@@ -66,4 +70,8 @@ first_kit (first ∷ rest) = Some (kit_of first)
 
 -- the world once a listener was handed back
 abbrev pub retired : WorldState → ListenerState → WorldState
-retired w listener = record w { listens = joined w.listens listener.accepts.faults; ended = listener.ended || w.ended }
+retired w listener = record w { listens = joined w.listens listener.accepts.faults; given = joined_count w.given listener.given; ended = listener.ended || w.ended }
+
+-- the world once a shelf was handed back
+abbrev pub reshelved : WorldState → ShelfState → WorldState
+reshelved w shelf = record w { read_faults = joined_count w.read_faults shelf.reads.faults }

@@ -1,13 +1,14 @@
 // A listener in memory whose calls fail at chosen numbers.
-ghost use Rattle.std.specs.Prelude.{◌≡◌, ◌↔◌, ◌||◌, is_none, false, Some, Contains, IsErr, IfOk, IfSome, OnErr};
+ghost use Rattle.std.specs.Prelude.{◌≡◌, ◌↔◌, ◌||◌, true, false, drop, Some, Contains, IsErr, IfOk, OnErr};
 ghost use Rattle.wire.specs.Calls.{failed, uncalled};
 ghost use Rattle.wire.specs.Causes.{HasCause};
 ghost use Rattle.wire.specs.Flow.{IsFresh};
 ghost use Rattle.wire.specs.DialerMemory.{planned_link};
 ghost use Rattle.wire.specs.declared.peer.Peer.{Peer as End};
-ghost use Rattle.world.specs.ListenerMemory.{first_arrival, accepted};
+ghost use Rattle.world.specs.Awaiting.{IfCame, IfNobodyYet, is_end, given_behind};
+ghost use Rattle.world.specs.ListenerMemory.{answer_behind, first_arrival, waited};
 
-use crate::Listener;
+use crate::{Awaited, Listener};
 use std::alloc::{AllocError, Global};
 use std::collections::VecDeque;
 use std::marker::Model;
@@ -59,14 +60,16 @@ impl Coming {
     }
 }
 
-/// A listener over connections in memory. Its calls are numbered from 0 on; those with the given numbers fail, and the others
-/// give the connections in order, and then the end.
+/// A listener over connections in memory. Its calls are numbered from 0 on; those with the given numbers fail. So many others
+/// find nobody yet as it was told, and the rest give the connections in order, and then the end.
 #[derive(Drop)]
 pub struct FailingListener {
     alloc: Global,
     coming: VecDeque<Coming>,
     accepts: Calls,
     ended: bool,
+    given: u64,
+    quiet: u64,
 }
 
 impl Model for FailingListener {
@@ -74,18 +77,26 @@ impl Model for FailingListener {
 
     ghost Value = { ListenerState };
 
-    ghost view = { λ l. record { coming = l.coming.items; accepts = l.accepts; ended = l.ended } };
+    ghost view = { λ l. record { coming = l.coming.items; accepts = l.accepts; ended = l.ended; given = l.given; quiet = l.quiet } };
 }
 
 impl FailingListener {
-    pub fn new(alloc: Global, coming: VecDeque<Coming>, failing: Vec<u64>) -> FailingListener
-        ensures { result ≡ record { coming = coming.items; accepts = uncalled failing.items; ended = false } }
+    /// A listener of which so many waits find nobody yet.
+    pub fn new(
+        alloc: Global,
+        coming: VecDeque<Coming>,
+        failing: Vec<u64>,
+        quiet: u64,
+    ) -> FailingListener
+        ensures { result ≡ record { coming = coming.items; accepts = uncalled failing.items; ended = false; given = 0; quiet = quiet } }
     {
         FailingListener {
             alloc,
             coming,
             accepts: Calls::new(failing),
             ended: false,
+            given: 0,
+            quiet,
         }
     }
 
@@ -101,6 +112,31 @@ impl FailingListener {
     {
         self.ended
     }
+
+    /// How many connections it gave.
+    pub fn given(&self) -> u64
+        ensures { result ≡ self.now.given }
+    {
+        self.given
+    }
+
+    // The next connection that is to come.
+    fn next(&mut self) -> Awaited<AcceptedLink>
+        ensures gives { result ≡ first_arrival self.old.coming }
+        ensures next { self.new ≡ record self.old { coming = drop 1 self.old.coming; ended = is_end result || self.old.ended; given = given_behind self.old.given result } }
+    {
+        match self.coming.pop_front() {
+            Some(coming) => {
+                self.given = self.given.saturating_add(1);
+                let (link, address) = coming.accepted(self.alloc);
+                Awaited::Came(link, address)
+            }
+            None => {
+                self.ended = true;
+                Awaited::End
+            }
+        }
+    }
 }
 
 impl Listener for FailingListener {
@@ -110,29 +146,33 @@ impl Listener for FailingListener {
 
     ghost ended = { λ l. l.ended };
 
-    fn accept(&mut self) -> Result<Option<(AcceptedLink, [u8; 4])>, Failed>
-        ensures fresh { IfOk result (λ found. IfSome found (λ one. IsFresh (Some one.0.flow))) }
-        ensures reads { IfOk result (λ found. IfSome found (λ one. one.0.reads.faults ≡ 0)) }
-        ensures writes { IfOk result (λ found. IfSome found (λ one. one.0.writes.faults ≡ 0)) }
-        ensures peer { IfOk result (λ found. IfSome found (λ one. one.0.peer ≡ End.Accepted one.1)) }
-        ensures end { IfOk result (λ found. self.new.ended ≡ (is_none found || self.old.ended)) }
+    ghost given = { λ l. l.given };
+
+    fn accept(&mut self) -> Result<Awaited<AcceptedLink>, Failed>
+        ensures fresh { IfOk result (λ found. IfCame found (λ link _. IsFresh (Some link.flow))) }
+        ensures reads { IfOk result (λ found. IfCame found (λ link _. link.reads.faults ≡ 0)) }
+        ensures writes { IfOk result (λ found. IfCame found (λ link _. link.writes.faults ≡ 0)) }
+        ensures peer { IfOk result (λ found. IfCame found (λ link address. link.peer ≡ End.Accepted address)) }
+        ensures is_open { IfOk result (λ found. IfCame found (λ link _. link.is_open ≡ true)) }
+        ensures quiet { IfOk result (λ found. IfNobodyYet found (self.new.accepts.faults ≡ self.old.accepts.faults)) }
+        ensures given { IfOk result (λ found. self.new.given ≡ given_behind self.old.given found) }
+        ensures gave_none { OnErr result (self.new.given ≡ self.old.given) }
+        ensures end { IfOk result (λ found. self.new.ended ≡ (is_end found || self.old.ended)) }
         ensures going { OnErr result (self.new.ended ≡ self.old.ended) }
         ensures cause { HasCause self.old.accepts.faults self.new.accepts.faults result }
         ensures fails { IsErr result ↔ Contains self.old.accepts.failing self.old.accepts.calls }
-        ensures gives { IfOk result (λ found. found ≡ first_arrival self.old.coming) }
-        ensures next { IfOk result (λ found. self.new ≡ accepted self.old) }
+        ensures gives { IfOk result (λ found. found ≡ answer_behind self.old.quiet self.old.coming) }
+        ensures next { IfOk result (λ found. self.new ≡ waited self.old.quiet self.old) }
         ensures err { OnErr result (self.new ≡ record self.old { accepts = failed self.old.accepts }) }
     {
         if self.accepts.call() {
             self.accepts.fault();
             return Err(Failed);
         }
-        match self.coming.pop_front() {
-            Some(coming) => Ok(Some(coming.accepted(self.alloc))),
-            None => {
-                self.ended = true;
-                Ok(None)
-            }
+        if self.quiet > 0 {
+            self.quiet -= 1;
+            return Ok(Awaited::NobodyYet);
         }
+        Ok(self.next())
     }
 }

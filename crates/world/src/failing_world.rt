@@ -1,44 +1,45 @@
 // A world in memory whose calls fail at chosen numbers.
-ghost use Rattle.std.specs.Prelude.{◌≡◌, ◌≤◌, ◌||◌, ◌++◌, ◌⊎◌, [], ◌∷◌, drop, find, false, Some, Contains, IsErr, IsErrOf, IfOk, OnErr, OnOk, MatchOption};
-ghost use Rattle.std.specs.Option.{option_copied};
-ghost use Rattle.wire.specs.Causes.{HasCause, Rose, next_count};
-ghost use Rattle.wire.specs.Calls.{called, failed, joined_count, missed, uncalled};
+ghost use Rattle.std.specs.Prelude.{◌≡◌, ◌≤◌, ◌||◌, ◌++◌, ◌⊎◌, [], ◌∷◌, drop, false, Some, Contains, IsErr, IfOk, OnErr, OnOk, MatchOption};
+ghost use Rattle.wire.specs.Causes.{HasCause, next_count};
+ghost use Rattle.wire.specs.Calls.{joined_count, missed, uncalled};
 ghost use Rattle.wire.specs.Kept.{items_at};
 ghost use Rattle.wire.specs.Talks.{Adds};
-ghost use Rattle.world.specs.Files.{IsShelved, has_name, text_named};
 ghost use Rattle.world.specs.Keeping.{IsNothingYet, IsUntold, MayAdd};
-ghost use Rattle.world.specs.WorldMemory.{first_kit, first_listener, forgotten, listened, refused, retired};
+ghost use Rattle.world.specs.WorldMemory.{first_kit, first_listener, forgotten, listened, refused, reshelved, retired};
 
 use crate::failing_listener::AcceptedLink;
 use crate::planned_kit::KitClock;
-use crate::{Coming, FailingListener, File, Kit, Listener, PlannedKit, ShelfError, World};
+use crate::{Coming, FailingListener, FailingShelf, File, Kit, Listener, PlannedKit, World};
 use std::alloc::{AllocError, Global};
 use std::collections::VecDeque;
 use std::marker::Model;
-use units::Text;
+use units::{Copied, Sequence};
 use wire::{Calls, Failed, FailingDialer, FailingLink, Kept, ScriptedClock, keep};
 
-/// A listener that a world is to give: what comes to it, and the numbers of its calls that fail.
+/// A listener that a world is to give: what comes to it, the numbers of its calls that fail, and how many waits find nobody yet.
 #[derive(Drop)]
 pub struct Listening {
     pub coming: VecDeque<Coming>,
     pub failing: Vec<u64>,
+    pub quiet: u64,
 }
 
-/// A world in memory, which tells all that it was handed back. Its calls of `listen` and of `shelf` are numbered from 0 on, each
-/// for itself; those with the given numbers fail, as does each `listen` behind the last planned listener and one for whose port
+/// A world in memory, which tells all that it was handed back. Its calls of `listen`, and those of each of its shelves, are numbered
+/// from 0 on; those with the given numbers fail, as does each `listen` behind the last planned listener and one for whose port
 /// memory is wanting. Behind the last planned kit memory is wanting for a further one.
 #[derive(Drop)]
 pub struct FailingWorld {
     alloc: Global,
     listening: VecDeque<Listening>,
     listens: Calls,
-    files: Vec<File>,
-    shelves: Calls,
+    files: Sequence<File>,
+    failing_reads: Vec<u64>,
+    read_faults: u64,
     planned: VecDeque<PlannedKit>,
     ports: Vec<u16>,
     links: Option<Box<Kept<FailingLink>>>,
     kept: u64,
+    given: u64,
     kits: Option<Box<Kept<Kit<FailingDialer, ScriptedClock>>>>,
     ended: bool,
 }
@@ -52,31 +53,17 @@ impl Model for FailingWorld {
     ghost view = { λ w. record {
       listening = w.listening.items;
       listens = w.listens;
-      files = w.files.items;
-      shelves = w.shelves;
+      files = w.files;
+      failing_reads = w.failing_reads.items;
+      read_faults = w.read_faults;
       planned = w.planned.items;
       ports = w.ports.items;
       links = items_of w.links;
       kept = w.kept;
+      given = w.given;
       kits = items_of w.kits;
       ended = w.ended;
     } };
-}
-
-fn file_of<'f>(files: &'f [File], name: &[u8]) -> Option<&'f File>
-    ensures { option_copied result ≡ find (has_name name.now) files.now }
-{
-    files.iter().find(|file| name == file.name.bytes())
-}
-
-// The text of the first file of that name.
-fn text_of(files: &[File], name: &[u8]) -> Result<Option<Text>, AllocError>
-    ensures { IfOk result (λ text. text ≡ text_named name.now files.now) }
-{
-    match file_of(files, name) {
-        Some(file) => Ok(Some(file.text.copy()?)),
-        None => Ok(None),
-    }
 }
 
 impl FailingWorld {
@@ -86,18 +73,20 @@ impl FailingWorld {
         listening: VecDeque<Listening>,
         failing_listens: Vec<u64>,
         files: Vec<File>,
-        failing_shelves: Vec<u64>,
+        failing_reads: Vec<u64>,
         planned: VecDeque<PlannedKit>,
     ) -> FailingWorld
         ensures { result ≡ record {
           listening = listening.items;
           listens = uncalled failing_listens.items;
           files = files.items;
-          shelves = uncalled failing_shelves.items;
+          failing_reads = failing_reads.items;
+          read_faults = 0;
           planned = planned.items;
           ports = [];
           links = [];
           kept = 0;
+          given = 0;
           kits = [];
           ended = false;
         } }
@@ -106,12 +95,14 @@ impl FailingWorld {
             alloc,
             listening,
             listens: Calls::new(failing_listens),
-            files,
-            shelves: Calls::new(failing_shelves),
+            files: Sequence::from_vec(files),
+            failing_reads,
+            read_faults: 0,
             planned,
             ports: Vec::new(alloc),
             links: None,
             kept: 0,
+            given: 0,
             kits: None,
             ended: false,
         }
@@ -174,6 +165,8 @@ impl World for FailingWorld {
 
     type Clock = KitClock;
 
+    type Shelf = FailingShelf;
+
     ghost use Rattle.std.specs.Prelude.{Some};
 
     ghost ports = { λ w. Some w.ports };
@@ -182,27 +175,31 @@ impl World for FailingWorld {
 
     ghost kept = { λ w. w.kept };
 
+    ghost given = { λ w. w.given };
+
     ghost kits = { λ w. Some w.kits };
 
     ghost files = { λ w. Some w.files };
 
     ghost listen_faults = { λ w. w.listens.faults };
 
-    ghost shelf_faults = { λ w. w.shelves.faults };
+    ghost shelf_faults = { λ w. w.read_faults };
 
     ghost ended = { λ w. w.ended };
 
     fn listen(&mut self, port: u16) -> Result<FailingListener, Failed>
         ensures none { IfOk result (λ listener. listener.accepts.faults ≡ 0) }
+        ensures given_none { IfOk result (λ listener. listener.given ≡ 0) }
         ensures going { IfOk result (λ listener. listener.ended ≡ false) }
         ensures cause { HasCause self.old.listens.faults self.new.listens.faults result }
         ensures port { OnOk result (Adds (Some self.old.ports) (Some self.new.ports) (port ∷ [])) }
         ensures asked { OnErr result (MayAdd (Some self.old.ports) (Some self.new.ports) port) }
         ensures links { Some self.new.links ≡ Some self.old.links }
         ensures kept { self.new.kept ≡ self.old.kept }
+        ensures given { self.new.given ≡ self.old.given }
         ensures kits { Some self.new.kits ≡ Some self.old.kits }
         ensures files { Some self.new.files ≡ Some self.old.files }
-        ensures shelves { self.new.shelves.faults ≡ self.old.shelves.faults }
+        ensures shelves { self.new.read_faults ≡ self.old.read_faults }
         ensures ended { self.new.ended ≡ self.old.ended }
         ensures fails { Contains self.old.listens.failing self.old.listens.calls → IsErr result }
         ensures gives { IfOk result (λ listener. Some listener ≡ first_listener self.old.listening) }
@@ -214,34 +211,34 @@ impl World for FailingWorld {
             return Err(self.refuse());
         }
         match self.listening.pop_front() {
-            Some(Listening { coming, failing }) => Ok(FailingListener::new(
-                self.alloc, coming, failing,
-            )),
+            Some(
+                Listening {
+                    coming,
+                    failing,
+                    quiet,
+                },
+            ) => Ok(FailingListener::new(self.alloc, coming, failing, quiet)),
             None => Err(self.refuse()),
         }
     }
 
-    fn shelf(&mut self, name: &Text) -> Result<Option<Text>, ShelfError>
-        ensures text { IfOk result (λ text. IsShelved (Some self.old.files) name.now text) }
-        ensures later { self.old.shelves.faults ≤ self.new.shelves.faults }
-        ensures failed { IsErrOf result ShelfError.Failed → Rose self.old.shelves.faults self.new.shelves.faults }
+    fn shelf(&mut self) -> Result<FailingShelf, AllocError>
+        ensures shelved { IfOk result (λ shelf. Some shelf.files ≡ Some self.old.files) }
+        ensures none { IfOk result (λ shelf. shelf.reads.faults ≡ 0) }
         ensures ports { Some self.new.ports ≡ Some self.old.ports }
         ensures links { Some self.new.links ≡ Some self.old.links }
         ensures kept { self.new.kept ≡ self.old.kept }
+        ensures given { self.new.given ≡ self.old.given }
         ensures kits { Some self.new.kits ≡ Some self.old.kits }
         ensures files { Some self.new.files ≡ Some self.old.files }
         ensures listens { self.new.listens.faults ≡ self.old.listens.faults }
+        ensures shelves { self.new.read_faults ≡ self.old.read_faults }
         ensures ended { self.new.ended ≡ self.old.ended }
-        ensures due { IsErrOf result ShelfError.Failed → Contains self.old.shelves.failing self.old.shelves.calls }
-        ensures fails { Contains self.old.shelves.failing self.old.shelves.calls → IsErrOf result ShelfError.Failed }
-        ensures next { ¬ (IsErrOf result ShelfError.Failed) → self.new ≡ record self.old { shelves = called self.old.shelves } }
-        ensures err { IsErrOf result ShelfError.Failed → self.new ≡ record self.old { shelves = failed self.old.shelves } }
+        ensures gives { IfOk result (λ shelf. shelf ≡ record { files = self.old.files; reads = uncalled self.old.failing_reads }) }
+        ensures same { self.new ≡ self.old }
     {
-        if self.shelves.call() {
-            self.shelves.fault();
-            return Err(ShelfError::Failed);
-        }
-        Ok(text_of(self.files.as_slice(), name.bytes())?)
+        let files = self.files.copied(self.alloc)?;
+        Ok(FailingShelf::new(files, self.failing_reads.clone()?))
     }
 
     fn kit(&mut self) -> Result<Kit<FailingDialer, KitClock>, AllocError>
@@ -254,10 +251,11 @@ impl World for FailingWorld {
         ensures ports { Some self.new.ports ≡ Some self.old.ports }
         ensures links { Some self.new.links ≡ Some self.old.links }
         ensures kept { self.new.kept ≡ self.old.kept }
+        ensures given { self.new.given ≡ self.old.given }
         ensures kits { Some self.new.kits ≡ Some self.old.kits }
         ensures files { Some self.new.files ≡ Some self.old.files }
         ensures listens { self.new.listens.faults ≡ self.old.listens.faults }
-        ensures shelves { self.new.shelves.faults ≡ self.old.shelves.faults }
+        ensures shelves { self.new.read_faults ≡ self.old.read_faults }
         ensures ended { self.new.ended ≡ self.old.ended }
         ensures gives { IfOk result (λ kit. Some kit ≡ first_kit self.old.planned) }
         ensures wanting { OnErr result (self.old.planned ≡ []) }
@@ -270,13 +268,15 @@ impl World for FailingWorld {
     }
 
     fn keep_link(&mut self, link: AcceptedLink)
+        requires closed { link.is_open ≡ false }
         ensures link { Adds (Some self.old.links) (Some self.new.links) (link ∷ []) }
         ensures kept { self.new.kept ≡ next_count self.old.kept }
+        ensures given { self.new.given ≡ self.old.given }
         ensures ports { Some self.new.ports ≡ Some self.old.ports }
         ensures kits { Some self.new.kits ≡ Some self.old.kits }
         ensures files { Some self.new.files ≡ Some self.old.files }
         ensures listens { self.new.listens.faults ≡ self.old.listens.faults }
-        ensures shelves { self.new.shelves.faults ≡ self.old.shelves.faults }
+        ensures shelves { self.new.read_faults ≡ self.old.read_faults }
         ensures ended { self.new.ended ≡ self.old.ended }
         ensures others { self.new ≡ record self.old { links = self.old.links ++ link ∷ []; kept = next_count self.old.kept } }
     {
@@ -290,9 +290,10 @@ impl World for FailingWorld {
         ensures ports { Some self.new.ports ≡ Some self.old.ports }
         ensures links { Some self.new.links ≡ Some self.old.links }
         ensures kept { self.new.kept ≡ self.old.kept }
+        ensures given { self.new.given ≡ self.old.given }
         ensures files { Some self.new.files ≡ Some self.old.files }
         ensures listens { self.new.listens.faults ≡ self.old.listens.faults }
-        ensures shelves { self.new.shelves.faults ≡ self.old.shelves.faults }
+        ensures shelves { self.new.read_faults ≡ self.old.read_faults }
         ensures ended { self.new.ended ≡ self.old.ended }
         ensures others { self.new ≡ record self.old { kits = self.old.kits ++ kit ∷ [] } }
     {
@@ -303,18 +304,38 @@ impl World for FailingWorld {
 
     fn retire(&mut self, listener: FailingListener)
         ensures listens { self.new.listens.faults ≡ joined_count self.old.listens.faults listener.accepts.faults }
+        ensures later { self.old.listens.faults ≤ self.new.listens.faults }
+        ensures given { self.new.given ≡ joined_count self.old.given listener.given }
+        ensures gave_none { listener.given ≡ 0 → self.new.given ≡ self.old.given }
         ensures ended { self.new.ended ≡ (listener.ended || self.old.ended) }
         ensures ports { Some self.new.ports ≡ Some self.old.ports }
         ensures links { Some self.new.links ≡ Some self.old.links }
         ensures kept { self.new.kept ≡ self.old.kept }
         ensures kits { Some self.new.kits ≡ Some self.old.kits }
         ensures files { Some self.new.files ≡ Some self.old.files }
-        ensures shelves { self.new.shelves.faults ≡ self.old.shelves.faults }
+        ensures shelves { self.new.read_faults ≡ self.old.read_faults }
         ensures others { self.new ≡ retired self.old listener }
     {
         self.listens.join(listener.faults());
+        self.given = self.given.saturating_add(listener.given());
         if listener.ended() {
             self.ended = true;
         }
+    }
+
+    fn retire_shelf(&mut self, shelf: FailingShelf)
+        ensures shelves { self.new.read_faults ≡ joined_count self.old.read_faults shelf.reads.faults }
+        ensures later { self.old.read_faults ≤ self.new.read_faults }
+        ensures ports { Some self.new.ports ≡ Some self.old.ports }
+        ensures links { Some self.new.links ≡ Some self.old.links }
+        ensures kept { self.new.kept ≡ self.old.kept }
+        ensures given { self.new.given ≡ self.old.given }
+        ensures kits { Some self.new.kits ≡ Some self.old.kits }
+        ensures files { Some self.new.files ≡ Some self.old.files }
+        ensures listens { self.new.listens.faults ≡ self.old.listens.faults }
+        ensures ended { self.new.ended ≡ self.old.ended }
+        ensures others { self.new ≡ reshelved self.old shelf }
+    {
+        self.read_faults = self.read_faults.saturating_add(shelf.faults());
     }
 }

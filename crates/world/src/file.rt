@@ -1,8 +1,8 @@
 // Files by name.
-use std::alloc::AllocError;
+use std::alloc::{AllocError, Global};
 use std::error::Error;
 use std::fmt::{self, Display, Formatter, Write};
-use units::Text;
+use units::{Copied, Text};
 
 /// A file of a world in memory.
 #[derive(Drop)]
@@ -11,10 +11,19 @@ pub struct File {
     pub text: Text,
 }
 
+impl Copied for File {
+    fn copied(&self, _alloc: Global) -> Result<File, AllocError> {
+        Ok(File {
+            name: self.name.copy()?,
+            text: self.text.copy()?,
+        })
+    }
+}
+
 /// Why a file wasn't read.
 #[derive(Clone, Copy, Debug, PartialEq, Eq)]
 pub enum ShelfError {
-    /// It couldn't be read, and the world's count of failed readings rose.
+    /// It couldn't be read, and the shelf's count of faults rose.
     Failed,
     NoMemory,
 }

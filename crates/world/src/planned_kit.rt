@@ -37,6 +37,15 @@ impl Clock for KitClock {
     fn word(&mut self) -> u64 {
         self.clock.word()
     }
+
+    /// No time passes.
+    fn rest(&mut self, millis: u64)
+        ensures readings { Some self.new.readings ≡ Some self.old.readings }
+        ensures words { Some self.new.words ≡ Some self.old.words }
+        ensures same { self.new ≡ self.old }
+    {
+        self.clock.rest(millis);
+    }
 }
 
 /// A kit that is to be given: the connections that its dialer gives and the numbers of the dials that fail, and what its clock

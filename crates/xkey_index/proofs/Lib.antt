@@ -1,2 +1,3 @@
 pub mod HandleLemmas
 pub mod MemberLemmas
+pub mod DropLemmas

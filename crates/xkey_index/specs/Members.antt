@@ -19,6 +19,14 @@ handles_with keys members = keys_of (filter (has_one_of keys) members)
 abbrev pub without : ℕ → List Member → List Member
 without handle members = filter (λ member. not (nat_eq handle member.0)) members
 
+-- the handle is one of these
+abbrev pub is_one_of : List ℕ → ℕ → Bool
+is_one_of handles own = list_any (λ handle. nat_eq handle own) handles
+
+-- the others than those of these handles
+abbrev pub without_all : List ℕ → List Member → List Member
+without_all handles members = filter (λ member. not (is_one_of handles member.0)) members
+
 -- the handle is below those of all members
 abbrev pub IsNewest : ℕ → List Member → Type 0
 IsNewest handle members = AllByRecursion (λ member. handle < member.0) members

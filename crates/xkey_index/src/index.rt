@@ -1,7 +1,7 @@
 // Members with their keys, found by key.
 ghost use Rattle.std.specs.Prelude.{◌≡◌, ◌∷◌, ◌↔◌, [], IsTrue, IfOk, OnOk, OnErr, nat_eq};
 ghost use Rattle.std.specs.Map.{lookup};
-ghost use Rattle.xkey_index.specs.Members.{IsNewest, handles_with, without};
+ghost use Rattle.xkey_index.specs.Members.{IsNewest, handles_with, without, without_all};
 
 use crate::handles::{add_all, find_all, remove_all};
 use indexmap::IndexMap;
@@ -85,6 +85,15 @@ impl XkeyIndex {
         let keys = self.keys.remove(&handle)?;
         remove_all(&mut self.handles, handle, keys.as_slice());
         Some(keys)
+    }
+
+    /// Takes the members of these handles out, as far as they are there. It takes no memory.
+    pub fn drop_all(&mut self, handles: &[u64])
+        ensures { self.new ≡ without_all handles.now self.old }
+    {
+        for handle in handles {
+            self.take(*handle);
+        }
     }
 
     /// The handles of the members that have at least one of the keys, the newest first.

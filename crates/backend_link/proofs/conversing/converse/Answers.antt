@@ -18,7 +18,7 @@ returns-clause-told g c =
     let body = c.args.request.now.body in
     conversed c.args.request.now (g.L.Link.flow c.args.link.now) (g.L.Link.flow c.send.new.link) (g.L.Link.flow c.receive.new.link) (c.in-Ok.text ++ body) c.receive.result
     c.answered.result c.answered.ensures (ap (λ (l : List ℕ). l ++ body) c.in-Ok.ensures.text) (c.send.ensures.whole c.if-not-send.false)
-    (rw c.asks_for_head.ensures at c.receive.ensures.told)
+    c.receive.ensures.told
 
 pub returns-clause-writes : goal.returns-clause-writes
 returns-clause-writes g c is = absurd (no_lower_fault c.receive.result 2 (lit< tt) (sym c.answered.ensures ∙ is))

@@ -11,6 +11,6 @@ returns-in-Ok-Some-clause-boot g c =
 pub returns-in-Ok-Some-clause-why : goal.returns-in-Ok-Some-clause-why
 returns-in-Ok-Some-clause-why g c =
     IfErr-weaker c.boot_of.result _ _
-    (why_file (g.W.World.files c.args.world.now) c.args.name.now c.in-Ok-Some.text c.args.vmods.now.stored (Rose (g.W.World.shelf_faults c.args.world.now) (g.W.World.shelf_faults c.shelf.new.self))
+    (why_file (g.W.World.files c.args.world.now) c.args.name.now c.in-Ok-Some.text c.args.vmods.now.stored (Rose (g.W.World.shelf_faults c.args.world.now) (g.W.World.shelf_faults c.read_file.new.world))
     (rw c.in-Ok-Some.field-0-is at c.in-Ok-Some.ensures.text))
     c.boot_of.ensures.refused

@@ -5,4 +5,4 @@ pub returns-clause-legal : goal.returns-clause-legal
 returns-clause-legal c = λ params less more entries alike legal. legal_alike params less more entries alike legal
 
 pub returns-clause-reached : goal.returns-clause-reached
-returns-clause-reached c = λ params less more entries alike legal. reached_alike params less more entries alike legal
+returns-clause-reached c = λ params less more entries alike follow. reached_alike params less more entries alike follow

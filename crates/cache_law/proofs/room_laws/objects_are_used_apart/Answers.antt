@@ -1,8 +1,9 @@
-use Rattle.cache_law.proofs.Uses.{used_apart_in_run, others_apart}
+use Rattle.cache_law.proofs.Sound.{sound_from}
+use Rattle.cache_law.proofs.Uses.{others_apart}
 use Rattle.cache_law.proofs.room_laws.objects_are_used_apart.Goals as goal
 
 pub returns-clause-all : goal.returns-clause-all
-returns-clause-all c = λ params boot entries. used_apart_in_run params boot entries
+returns-clause-all c = λ beginning entries sound. (sound_from beginning.params beginning.base entries sound).uses
 
 pub returns-clause-others : goal.returns-clause-others
-returns-clause-others c = λ params boot entries moment stale. others_apart moment stale _ (used_apart_in_run params boot entries)
+returns-clause-others c = λ beginning entries moment stale sound. others_apart moment stale _ (sound_from beginning.params beginning.base entries sound).uses

@@ -19,6 +19,7 @@ invariant-hiring g l = record {
   few : vec_len l.workers + l.number ≤ l.count;
   links : g.W.World.links l.world ≡ g.W.World.links l.fn.world;
   kept : g.W.World.kept l.world ≡ g.W.World.kept l.fn.world;
+  given : g.W.World.given l.world ≡ g.W.World.given l.fn.world;
   ports : g.W.World.ports l.world ≡ g.W.World.ports l.fn.world;
   kits : g.W.World.kits l.world ≡ g.W.World.kits l.fn.world;
   files : g.W.World.files l.world ≡ g.W.World.files l.fn.world;

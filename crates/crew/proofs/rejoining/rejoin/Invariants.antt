@@ -20,6 +20,7 @@ invariant-loop-shift g l = record {
   kits : Adds (g.W.World.kits l.fn.world) (g.W.World.kits l.world) (map g.H.Host.kit_of l.yielded);
   links : g.W.World.links l.world ≡ g.W.World.links l.fn.world;
   kept : g.W.World.kept l.world ≡ g.W.World.kept l.fn.world;
+  given : g.W.World.given l.world ≡ g.W.World.given l.fn.world;
   ports : g.W.World.ports l.world ≡ g.W.World.ports l.fn.world;
   files : g.W.World.files l.world ≡ g.W.World.files l.fn.world;
   listens : g.W.World.listen_faults l.world ≡ g.W.World.listen_faults l.fn.world;

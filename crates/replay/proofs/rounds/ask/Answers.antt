@@ -3,6 +3,7 @@ use Rattle.std.specs.Prelude.{IsErrOf}
 use Rattle.cache_law.specs.declared.cache.Told.{Told}
 use Rattle.cache_law.specs.declared.cache.StepError.{StepError}
 use Rattle.cache_law.specs.declared.cache.StepError.TheVariants.{HistoryFull, NoMemory}
+use Rattle.replay.specs.Plan.{plan_of}
 use Rattle.replay.specs.declared.policy.Want.TheVariants as wants
 use Rattle.replay.proofs.Asking.{others_as_told, own_as_told, asked, met, leads_on, can_on, due, too_much, told_answers, still_in_step}
 use Rattle.replay.proofs.Runs.{went-still}
@@ -16,11 +17,11 @@ is_full NoMemory is = absurd (cc)
 pub returns-in-Err-HistoryFull-clause-asked : goal.returns-in-Err-HistoryFull-clause-asked
 returns-in-Err-HistoryFull-clause-asked g c = λ kept scene at turn.
     let same = c.in-Err-HistoryFull.ensures.err in
-    went-still g.P.Policy.wants (g.C.CacheCore.beginning c.args.core.now) scene _ _ _ same
+    went-still (plan_of g.P.Policy.wants (g.C.CacheCore.beginning c.args.core.now)) scene _ _ _ same
     (too_much g.P.Policy.wants g.P.Policy.stands c.args.policy.now _ _ _ c.args.client c.args.moment c.args.call scene c.requires.in_step same (c.in-Err-HistoryFull.ensures.full (is_full c.in-Err-HistoryFull.field-0 c.in-Err-HistoryFull.field-0-is)) at turn, Takes-nil kept)
 
 pub returns-in-Err-NoMemory-clause-asked : goal.returns-in-Err-NoMemory-clause-asked
-returns-in-Err-NoMemory-clause-asked g c = λ kept scene at turn. went-still g.P.Policy.wants (g.C.CacheCore.beginning c.args.core.now) scene _ _ _ c.in-Err-NoMemory.ensures.err (Takes-nil kept)
+returns-in-Err-NoMemory-clause-asked g c = λ kept scene at turn. went-still (plan_of g.P.Policy.wants (g.C.CacheCore.beginning c.args.core.now)) scene _ _ _ c.in-Err-NoMemory.ensures.err (Takes-nil kept)
 
 pub resume-requires : goal.resume-requires
 resume-requires g c =

@@ -8,18 +8,18 @@ use Rattle.replay.proofs.rounds.rest.Goals as goal
 
 pub returns-in-Exchange-clause-went : goal.returns-in-Exchange-clause-went
 returns-in-Exchange-clause-went g c = λ scene stage turn.
-    exchange_rests g.P.Policy.wants g.P.Policy.stands _ c.args.client c.args.play.now.moment c.args.play.now.waiting.items c.args.play.now.parked.items scene _ _ _ _ _ _ _ _ _ _ c.begin_exchange.result refl c.asks_for_head-to_head.ensures c.in-Exchange.is
-    c.begin_exchange.ensures.told c.begin_exchange.ensures.waits (went-here g.P.Policy.wants _ scene _ _ (record { has_turn = turn; is_stage = stage; takes = Takes-nil _ })) (stage_of g.C.CacheCore.history c.args.play.now)
+    exchange_rests _ g.P.Policy.stands c.args.client c.args.play.now.moment c.args.play.now.waiting.items c.args.play.now.parked.items scene _ _ _ _ _ _ _ _ _ _ c.begin_exchange.result refl c.asks_for_head-to_head.ensures c.in-Exchange.is
+    c.begin_exchange.ensures.told c.begin_exchange.ensures.waits (went-here _ scene _ _ (record { has_turn = turn; is_stage = stage; takes = Takes-nil _ })) (stage_of g.C.CacheCore.history c.args.play.now)
 
 pub returns-in-Await-clause-went : goal.returns-in-Await-clause-went
 returns-in-Await-clause-went g c = λ scene stage turn.
-    park_rests g.P.Policy.wants g.P.Policy.stands _ c.args.client c.args.play.now.moment c.args.play.now.waiting.items c.args.play.now.parked.items scene _ _ _ _ _ _ _ c.park.result refl c.in-Await.is
-    c.park.ensures.parks c.park.ensures.only (went-here g.P.Policy.wants _ scene _ _ (record { has_turn = turn; is_stage = stage; takes = Takes-nil _ })) (stage_of g.C.CacheCore.history c.args.play.now)
+    park_rests _ g.P.Policy.stands c.args.client c.args.play.now.moment c.args.play.now.waiting.items c.args.play.now.parked.items scene _ _ _ _ _ _ _ c.park.result refl c.in-Await.is
+    c.park.ensures.parks c.park.ensures.only (went-here _ scene _ _ (record { has_turn = turn; is_stage = stage; takes = Takes-nil _ })) (stage_of g.C.CacheCore.history c.args.play.now)
 
 pub returns-in-Done-clause-went : goal.returns-in-Done-clause-went
 returns-in-Done-clause-went g c = λ scene stage turn.
-    done_rests g.P.Policy.wants g.P.Policy.stands _ c.args.client c.args.play.now.moment c.args.play.now.waiting.items c.args.play.now.parked.items scene _ _ _ _ _ _ c.in-Done.is
-    (went-here g.P.Policy.wants _ scene _ _ (record { has_turn = turn; is_stage = stage; takes = Takes-nil _ })) (stage_of g.C.CacheCore.history c.args.play.now)
+    done_rests _ g.P.Policy.stands c.args.client c.args.play.now.moment c.args.play.now.waiting.items c.args.play.now.parked.items scene _ _ _ _ _ _ c.in-Done.is
+    (went-here _ scene _ _ (record { has_turn = turn; is_stage = stage; takes = Takes-nil _ })) (stage_of g.C.CacheCore.history c.args.play.now)
 
 pub returns-in-Exchange-clause-settled : goal.returns-in-Exchange-clause-settled
 returns-in-Exchange-clause-settled g c =

@@ -1,4 +1,5 @@
 use Rattle.std.proofs.Common.{◌*◌, ◌+◌, ◌≤◌, [], cond}
+use Rattle.replay.specs.Plan.{plan_of}
 use Rattle.replay.specs.Policy.{is_response}
 use Rattle.replay.specs.Pieces.{pieces}
 use Rattle.replay.specs.Scene.{Scene}
@@ -14,9 +15,9 @@ invariant-wants g l =
     let policy = g.P.Policy in
     let sink = g.K.Sink in
     record {
-      went : (scene : Scene) → IsStage policy.wants policy.stands (cache.beginning l.fn.play.core) (stage_of cache.history l.fn.play) scene → HasTurn policy.wants policy.stands l.fn.policy l.fn.client l.fn.want scene
-          → Went policy.wants (cache.beginning l.fn.play.core) scene [] (cache.history l.fn.play.core) (cache.history l.play.core)
-          (SoFar policy.wants policy.stands (cache.beginning l.fn.play.core) l.fn.client (stage_of cache.history l.play) l.policy l.want (pieces (sink.held l.fn.sink) l.fn.play.unwritten.items) (pieces (sink.held l.sink) l.play.unwritten.items));
+      went : (scene : Scene) → IsStage (plan_of policy.wants (cache.beginning l.fn.play.core)) policy.stands (stage_of cache.history l.fn.play) scene → HasTurn policy.wants policy.stands l.fn.policy l.fn.client l.fn.want scene
+          → Went (plan_of policy.wants (cache.beginning l.fn.play.core)) scene [] (cache.history l.fn.play.core) (cache.history l.play.core)
+          (SoFar (plan_of policy.wants (cache.beginning l.fn.play.core)) policy.stands l.fn.client (stage_of cache.history l.play) l.policy l.want (pieces (sink.held l.fn.sink) l.fn.play.unwritten.items) (pieces (sink.held l.sink) l.play.unwritten.items));
       can : CanLead policy.wants policy.stands l.policy l.fn.client l.want;
       alone : RunsAlone (cache.beginning l.play.core) (stage_of cache.history l.play) l.fn.client l.want;
       core : KeepsCore cache.beginning cache.history l.fn.play.core l.play.core;

@@ -20,7 +20,7 @@ returns-in-None-clause-plays g c = λ scene stage rests.
 
 pub returns-in-Err-clause-plays : goal.returns-in-Err-clause-plays
 returns-in-Err-clause-plays g c = λ scene stage rests.
-    ([], events.Reply c.args.fetch c.args.heard ∷ [], refl, went-here g.P.Policy.wants _ scene _ _ (Takes-nil _))
+    ([], events.Reply c.args.fetch c.args.heard ∷ [], refl, went-here _ scene _ _ (Takes-nil _))
 
 pub resume-requires : goal.resume-requires
 resume-requires g c =
@@ -31,7 +31,7 @@ resume-requires g c =
 
 pub returns-in-Err-resume-clause-plays : goal.returns-in-Err-resume-clause-plays
 returns-in-Err-resume-clause-plays g c = λ scene stage rests.
-    ([], events.Reply c.args.fetch c.args.heard ∷ [], refl, went-here g.P.Policy.wants _ scene _ _ (Takes-nil _))
+    ([], events.Reply c.args.fetch c.args.heard ∷ [], refl, went-here _ scene _ _ (Takes-nil _))
 
 pub lead-requires : goal.lead-requires
 lead-requires g c =
@@ -54,7 +54,7 @@ pub returns-in-Ok-lead-clause-plays : goal.returns-in-Ok-lead-clause-plays
 returns-in-Ok-lead-clause-plays g c = λ scene stage rests.
     let at : position (λ (kept : Pending g.row.P.Denot). kept.number == c.args.fetch) c.args.play.now.waiting.items ≡ Some c.in-Some.place = cc in
     let it = found_waiting g.P.Policy.wants g.P.Policy.stands c.args.play.now.waiting.items scene.waiting c.args.fetch c.in-Some.place c.remove-client.result stage.waiting_are at c.remove-client.ensures.value in
-    reply_heard g.P.Policy.wants _ scene c.args.fetch c.args.heard c.in-Ok.exchange it.one _ _ _ rests it.is_first
+    reply_heard _ scene c.args.fetch c.args.heard c.in-Ok.exchange it.one _ _ _ rests it.is_first
     (subst (λ (b : Bool). IsHeardAs b c.args.heard c.in-Ok.exchange) it.is_same.to_head_is c.in-Ok.ensures)
     (c.in-Ok-lead.ensures.went (replied scene c.args.fetch c.in-Ok.exchange it.one)
     (reply_stage g.P.Policy.wants g.P.Policy.stands _ (stage_of g.C.CacheCore.history c.args.play.now) scene c.args.fetch c.in-Ok.exchange c.in-Some.place c.remove-client.result it _ c.remove-client.ensures.items stage)
@@ -67,7 +67,7 @@ returns-in-Err-lead-clause-plays g c = λ scene stage rests.
       events.Reply c.args.fetch c.args.heard ∷ [],
       [],
       refl,
-      reply_heard g.P.Policy.wants _ scene c.args.fetch c.args.heard c.in-Ok.exchange it.one _ _ _ rests it.is_first
+      reply_heard _ scene c.args.fetch c.args.heard c.in-Ok.exchange it.one _ _ _ rests it.is_first
           (subst (λ (b : Bool). IsHeardAs b c.args.heard c.in-Ok.exchange) it.is_same.to_head_is c.in-Ok.ensures)
           (c.in-Err-lead.ensures.went (replied scene c.args.fetch c.in-Ok.exchange it.one)
           (reply_stage g.P.Policy.wants g.P.Policy.stands _ (stage_of g.C.CacheCore.history c.args.play.now) scene c.args.fetch c.in-Ok.exchange c.in-Some.place c.remove-client.result it _ c.remove-client.ensures.items stage)

@@ -19,7 +19,7 @@ returns-then-is_busy-clause-plays g c = λ scene stage rests.
 
 pub returns-in-Err-clause-plays : goal.returns-in-Err-clause-plays
 returns-in-Err-clause-plays g c = λ scene stage rests.
-    ([], events.Request c.args.request ∷ [], refl, went-here g.P.Policy.wants _ scene _ _ (Takes-nil _))
+    ([], events.Request c.args.request ∷ [], refl, went-here _ scene _ _ (Takes-nil _))
 
 pub lead-requires : goal.lead-requires
 lead-requires g c =
@@ -31,7 +31,7 @@ lead-requires g c =
       alone = begins_alone _ (stage_of g.C.CacheCore.history c.args.play.now) c.requires.settled c.args.request.client _ free;
       turn = (
         scene,
-        stage_like g.P.Policy.wants _ g.P.Policy.stands (stage_of g.C.CacheCore.history c.args.play.now) set.scene scene set.is_stage refl refl refl refl,
+        stage_like _ g.P.Policy.stands (stage_of g.C.CacheCore.history c.args.play.now) set.scene scene set.is_stage refl refl refl refl,
         begins_at g.P.Policy.wants g.P.Policy.stands _ _ set.scene c.args.request c.args.play.now.moment set.is_stage.at.moment_is c.in-Ok.ensures.0 c.in-Ok.ensures.1,
       );
     }
@@ -41,8 +41,8 @@ returns-in-Ok-lead-clause-plays g c = λ scene stage rests.
     let same = under_way g.P.Policy.wants g.P.Policy.stands c.args.play.now.waiting.items c.args.play.now.parked.items scene c.args.request.client stage.waiting_are stage.parked_are in
     let free : is_under_way c.args.request.client scene ≡ false = cc in
     let next = with_running scene (begun scene.moment c.args.request) in
-    request_heard g.P.Policy.wants _ scene c.args.request _ _ _ rests free
-    (c.in-Ok-lead.ensures.went next (stage_like g.P.Policy.wants _ g.P.Policy.stands (stage_of g.C.CacheCore.history c.args.play.now) scene next stage refl refl refl refl)
+    request_heard _ scene c.args.request _ _ _ rests free
+    (c.in-Ok-lead.ensures.went next (stage_like _ g.P.Policy.stands (stage_of g.C.CacheCore.history c.args.play.now) scene next stage refl refl refl refl)
     (begins_at g.P.Policy.wants g.P.Policy.stands _ _ scene c.args.request c.args.play.now.moment stage.at.moment_is c.in-Ok.ensures.0 c.in-Ok.ensures.1))
 
 pub returns-in-Err-lead-clause-plays : goal.returns-in-Err-lead-clause-plays
@@ -53,7 +53,7 @@ returns-in-Err-lead-clause-plays g c = λ scene stage rests.
       events.Request c.args.request ∷ [],
       [],
       refl,
-      request_heard g.P.Policy.wants _ scene c.args.request _ _ _ rests free
-          (c.in-Err-lead.ensures.went next (stage_like g.P.Policy.wants _ g.P.Policy.stands (stage_of g.C.CacheCore.history c.args.play.now) scene next stage refl refl refl refl)
+      request_heard _ scene c.args.request _ _ _ rests free
+          (c.in-Err-lead.ensures.went next (stage_like _ g.P.Policy.stands (stage_of g.C.CacheCore.history c.args.play.now) scene next stage refl refl refl refl)
           (begins_at g.P.Policy.wants g.P.Policy.stands _ _ scene c.args.request c.args.play.now.moment stage.at.moment_is c.in-Ok.ensures.0 c.in-Ok.ensures.1)),
     )

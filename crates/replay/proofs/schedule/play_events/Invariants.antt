@@ -1,6 +1,8 @@
-use Rattle.std.proofs.Common.{◌≡◌, ◌≤◌, ◌++◌, Ok, length}
+use Rattle.std.proofs.Common.{◌≡◌, ◌≤◌, ◌++◌, Ok, length, sum_by}
 use Rattle.std.specs.Vec.Iter.{into_iter_items, into_iter_len}
+use Rattle.replay.specs.Plan.{plan_of}
 use Rattle.replay.specs.Scene.{AtRest, opening_scene}
+use Rattle.replay.specs.Swept.{lurks}
 use Rattle.replay.specs.Waits.{IsSettled}
 use Rattle.replay.specs.Went.{Went, ComesTo, KeepsCore, IsInStep, change_of, events_in, stage_of}
 use Rattle.replay.proofs.schedule.play_events.Given as goal
@@ -14,8 +16,9 @@ invariant-loop-numbered g l =
     record {
       taken : l.yielded ++ into_iter_items l.numbered-iterator ≡ into_iter_items l.initial.numbered-iterator;
       counted : into_iter_len l.numbered-iterator ≡ length (into_iter_items l.numbered-iterator);
-      plays : Went policy.wants (cache.beginning l.fn.play.core) (opening_scene (cache.beginning l.fn.play.core)) (events_in l.yielded) (cache.history l.fn.play.core) (cache.history l.play.core)
-          (ComesTo policy.wants policy.stands (cache.beginning l.fn.play.core) AtRest (change_of cache.history sink.held l.fn.play l.play l.fn.sink l.sink) (Ok tt));
+      plays : Went (plan_of policy.wants (cache.beginning l.fn.play.core)) (opening_scene (plan_of policy.wants (cache.beginning l.fn.play.core))) (events_in l.yielded) (cache.history l.fn.play.core) (cache.history l.play.core)
+          (ComesTo (plan_of policy.wants (cache.beginning l.fn.play.core)) policy.stands AtRest (change_of cache.history sink.held l.fn.play l.play l.fn.sink l.sink) (Ok tt));
+      heard : length l.swept.items ≡ sum_by lurks l.yielded;
       settled : IsSettled (cache.beginning l.play.core) (stage_of cache.history l.play);
       core : KeepsCore cache.beginning cache.history l.fn.play.core l.play.core;
       in_step : IsInStep (cache.beginning l.play.core) (cache.history l.play.core) l.play.moment;

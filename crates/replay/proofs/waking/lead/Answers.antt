@@ -1,3 +1,4 @@
+use Rattle.replay.specs.Plan.{plan_of}
 use Rattle.replay.specs.Pieces.{pieces}
 use Rattle.replay.specs.Scene.{AtRest}
 use Rattle.replay.specs.Went.{stage_of}
@@ -17,5 +18,5 @@ returns-in-Ok-clause-went g c = λ scene stage turn.
     let none = pieces (g.K.Sink.held c.args.sink.now) c.args.play.now.unwritten.items in
     let some = pieces (g.K.Sink.held c.run_round.new.sink) c.run_round.new.play.unwritten.items in
     let more = pieces (g.K.Sink.held c.settle.new.sink) c.settle.new.play.unwritten.items in
-    comes_then policy.wants first policy.stands AtRest scene start.history middle.history after.history start middle after none some more c.settle.result (c.in-Ok.ensures.went scene stage turn)
+    comes_then (plan_of policy.wants first) policy.stands AtRest scene start.history middle.history after.history start middle after none some more c.settle.result (c.in-Ok.ensures.went scene stage turn)
     (comes_at policy.wants policy.stands AtRest first now middle (changed middle after some more) middle.history after.history c.settle.result c.in-Ok.ensures.keeps.core.same c.settle.ensures.went)

@@ -3,6 +3,7 @@ use Rattle.std.specs.Prelude.{position}
 use Rattle.cache_law.specs.Beginning.{Beginning}
 use Rattle.cache_law.specs.History.{reached}
 use Rattle.cache_law.specs.State.{is_closed}
+use Rattle.replay.specs.Plan.{plan_of}
 use Rattle.replay.specs.declared.rounds.Kept.{Kept}
 use Rattle.replay.specs.Pieces.{pieces}
 use Rattle.replay.specs.Scene.{AtRest}
@@ -17,7 +18,7 @@ use Rattle.replay.proofs.waking.settle.Goals as goal
 pub wakes-init : goal.wakes-init
 wakes-init g c =
     record {
-      went = λ scene stage rests. went-here g.P.Policy.wants _ scene _ _ (rests, stage, Takes-nil _);
+      went = λ scene stage rests. went-here _ scene _ _ (rests, stage, Takes-nil _);
       set = c.requires.set;
       settled = c.requires.settled;
       core = KeepsCore-none g.C.CacheCore.beginning g.C.CacheCore.history _;
@@ -40,7 +41,7 @@ wakes-preserved g c =
     let still = set_still policy.wants policy.stands now before c.wakes.invariant.set in
     record {
       went = λ scene stage rests.
-          comes_then policy.wants first policy.stands NobodyRuns scene start.history before.history after.history start before after none some more (Ok tt) (c.wakes.invariant.went scene stage rests)
+          comes_then (plan_of policy.wants first) policy.stands NobodyRuns scene start.history before.history after.history start before after none some more (Ok tt) (c.wakes.invariant.went scene stage rests)
           (comes_at policy.wants policy.stands NobodyRuns first now before (changed before after some more) before.history after.history (Ok tt) c.wakes.invariant.core.same c.in-Ok.ensures.went);
       set = set_on policy.wants policy.stands NobodyRuns now (cache.beginning c.wake.new.play.core) still.0 [] (changed before after some more) before.history after.history c.in-Ok.ensures.keeps.core.same (c.in-Ok.ensures.went still.0 still.1 still.2);
       settled = c.in-Ok.ensures.settled;
@@ -61,7 +62,7 @@ returns-in-Err-clause-went g c = λ scene stage rests.
     let none = pieces (g.K.Sink.held c.args.sink.now) c.args.play.now.unwritten.items in
     let some = pieces (g.K.Sink.held c.wakes.sink) c.wakes.play.unwritten.items in
     let more = pieces (g.K.Sink.held c.wake.new.sink) c.wake.new.play.unwritten.items in
-    comes_then policy.wants first policy.stands AtRest scene start.history before.history after.history start before after none some more (Err c.in-Err.broken) (c.wakes.invariant.went scene stage rests)
+    comes_then (plan_of policy.wants first) policy.stands AtRest scene start.history before.history after.history start before after none some more (Err c.in-Err.broken) (c.wakes.invariant.went scene stage rests)
     (comes_at policy.wants policy.stands NobodyRuns first now before (changed before after some more) before.history after.history (Err c.in-Err.broken) c.wakes.invariant.core.same c.in-Err.ensures.went)
 
 pub returns-clause-went : goal.returns-clause-went
@@ -75,4 +76,4 @@ returns-clause-went g c = λ scene stage rests.
     ap (λ (kept : List (Kept g.row.P.Denot)). position (λ (k : Kept g.row.P.Denot). is_closed (reached now before.history).fetches k.token) kept) (sym c.as_slice.ensures.value) ∙ sym c.first_free.ensures ∙ c.in_default.is in
     let none : position (λ (k : Kept g.row.P.Denot). is_closed (reached first before.history).fetches k.token) c.wakes.play.parked.items ≡ None =
     subst (λ (b : Beginning). position (λ (k : Kept g.row.P.Denot). is_closed (reached b before.history).fetches k.token) c.wakes.play.parked.items ≡ None) c.wakes.invariant.core.same nobody in
-    went-map policy.wants first scene [] _ _ _ _ (λ next text f. (rests_now policy.wants policy.stands first before next f.1 f.0 none, f.1, f.2)) (c.wakes.invariant.went scene stage rests)
+    went-map (plan_of policy.wants first) scene [] _ _ _ _ (λ next text f. (rests_now policy.wants policy.stands first before next f.1 f.0 none, f.1, f.2)) (c.wakes.invariant.went scene stage rests)

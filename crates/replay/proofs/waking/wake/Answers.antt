@@ -34,7 +34,7 @@ ask-asked-requires-clause-can g c =
     c.in-Ok-Ask.ensures.stands (rw c.in-Ok-Ask.field-0-is at c.in-Ok-Ask.ensures.wanted)
 
 pub returns-in-Err-clause-went : goal.returns-in-Err-clause-went
-returns-in-Err-clause-went g c = λ scene stage rests. went-still g.P.Policy.wants _ scene _ _ _ refl (Takes-nil _)
+returns-in-Err-clause-went g c = λ scene stage rests. went-still _ scene _ _ _ refl (Takes-nil _)
 
 pub returns-in-Ok-asked-clause-went : goal.returns-in-Ok-asked-clause-went
 returns-in-Ok-asked-clause-went g c = λ scene stage rests.
@@ -47,8 +47,8 @@ returns-in-Ok-asked-clause-went g c = λ scene stage rests.
     let middle : Stage g.row.P.Denot = record { moment = c.args.play.now.moment; waiting = c.args.play.now.waiting.items; parked = c.remove-client.new.self.items; history = cache.history c.ask-asked.new.core } in
     let after = stage_of cache.history c.run_round.new.play in
     let written = pieces (g.K.Sink.held c.run_round.new.sink) c.run_round.new.play.unwritten.items in
-    round_wakes g.P.Policy.wants _ scene it.one _ _ _ rests it.is_first
-    (asked_and_led g.P.Policy.wants _ g.P.Policy.stands (woken scene it.one) (cache.history c.args.play.now.core) (cache.history c.ask-asked.new.core) after.history c.args.play.now.moment c.ask-asked.new.policy c.remove-client.result.client c.in-Ok-asked.want middle.waiting middle.parked before after kept written c.run_round.result
+    round_wakes _ scene it.one _ _ _ rests it.is_first
+    (asked_and_led _ g.P.Policy.stands (woken scene it.one) (cache.history c.args.play.now.core) (cache.history c.ask-asked.new.core) after.history c.args.play.now.moment c.ask-asked.new.policy c.remove-client.result.client c.in-Ok-asked.want middle.waiting middle.parked before after kept written c.run_round.result
     set.waiting_are set.parked_are (c.in-Ok-asked.ensures.asked kept (woken scene it.one) set.at turn)
     (led_at g.P.Policy.wants g.P.Policy.stands NobodyRuns (cache.beginning c.args.play.now.core) (cache.beginning c.ask-asked.new.core) middle (changed middle after kept written) middle.history after.history c.ask-asked.new.policy c.remove-client.result.client c.in-Ok-asked.want c.run_round.result c.in-Ok-asked.ensures.kept.same c.run_round.ensures.went))
 
@@ -57,7 +57,7 @@ returns-in-Err-asked-clause-went g c = λ scene stage rests.
     let it = found_by_history g.P.Policy.wants g.P.Policy.stands _ (stage_of g.C.CacheCore.history c.args.play.now) scene c.args.place c.remove-client.result stage c.requires.free c.remove-client.ensures.value in
     let set = woken_stage g.P.Policy.wants g.P.Policy.stands _ (stage_of g.C.CacheCore.history c.args.play.now) scene c.args.place c.remove-client.result it _ c.remove-client.ensures.items stage in
     let turn = woken_turn g.P.Policy.wants g.P.Policy.stands scene c.args.play.now.parked.items c.args.place c.remove-client.result it c.resume.new.self (wants.Ask c.in-Ok-Ask.call) c.in-Ok-Ask.ensures.stands (rw c.in-Ok-Ask.field-0-is at c.in-Ok-Ask.ensures.wanted) in
-    round_wakes g.P.Policy.wants _ scene it.one _ _ _ rests it.is_first
+    round_wakes _ scene it.one _ _ _ rests it.is_first
     (c.in-Err-asked.ensures.asked (pieces (g.K.Sink.held c.args.sink.now) c.args.play.now.unwritten.items) (woken scene it.one) set.at turn)
 
 pub ask-asked-requires-clause-waited : goal.ask-asked-requires-clause-waited

@@ -1,5 +1,5 @@
 -- The programs of workers may cross threads, and what they do is what the trees of their texts mean.
-use Rattle.std.proofs.Common.{◌≡◌, ◌∙◌, inl, inr}
+use Rattle.std.proofs.Common.{◌≡◌, ◌∙◌, ap, length, inl, inr}
 use Rattle.std.proofs.Crossing.{crosses}
 use denote.Param.Send.{sendable}
 use Rattle.vcl_library.specs.Functions.{std_functions}
@@ -7,6 +7,7 @@ use Rattle.vcl_library.proofs.Tables.{all_four}
 use Rattle.varn_serve.proofs.Carried.{by_vcl}
 use Rattle.varn_serve.proofs.Crossing.{compiled_send, compiled_sync, kept_send, kept_sync, library_send, library_sync}
 use Rattle.varn_serve.proofs.Ends.{idle_halted, idle_unbooted, unbooted_so}
+use Rattle.varn_serve.specs.declared.ending.Served.{Served}
 use Rattle.varn_serve.proofs.functions.try_serve.Goals as goal
 
 ruleset crossing = (crosses, sendable, compiled_send, compiled_sync, kept_send, kept_sync, library_send, library_sync)
@@ -56,3 +57,14 @@ returns-in-Err-serve_stocked-clause-came g c =
     let nobody = c.in-Err-serve_stocked.ensures.nobody in
     inl (idle_halted _ _ c.stopped.result (nobody.0 ∙ c.stocked_boot.ensures.links) (nobody.1 ∙ c.stocked_boot.ensures.kept) (nobody.2 ∙ c.stocked_boot.ensures.kits) c.in-Err-serve_stocked.status _
     c.stopped.ensures _ c.in-Err-serve_stocked.ensures.halted)
+
+pub returns-in-Ok-serve_stocked-clause-given : goal.returns-in-Ok-serve_stocked-clause-given
+returns-in-Ok-serve_stocked-clause-given g c = inl (rw (c.finished.ensures.count, ← c.stocked_boot.ensures.given) c.in-Ok-serve_stocked.ensures.given)
+
+pub returns-in-Err-clause-given : goal.returns-in-Err-clause-given
+returns-in-Err-clause-given g c = inr (ap (λ (s : Served). length s.transcripts) c.unbooted.ensures, c.stocked_boot.ensures.given)
+
+pub returns-in-Err-serve_stocked-clause-given : goal.returns-in-Err-serve_stocked-clause-given
+returns-in-Err-serve_stocked-clause-given g c =
+    let nobody = c.in-Err-serve_stocked.ensures.nobody in
+    inr (ap (λ (s : Served). length s.transcripts) c.stopped.ensures, nobody.3 ∙ c.stocked_boot.ensures.given)

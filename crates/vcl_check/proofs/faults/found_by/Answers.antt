@@ -1,6 +1,7 @@
-use Rattle.std.proofs.Common.{◌≡◌, ℕ, List, length, None, ap, sym, ◌∙◌}
-use Rattle.vcl_check.specs.Declarations.{declarations, known_of, names_of, twice_said}
-use Rattle.vcl_check.specs.Folded.{numbered}
+use Rattle.std.proofs.Common.{◌≡◌, List, [], length, ap, sym, ◌∙◌}
+use Rattle.acl_match.specs.declared.entry.AclEntry.{AclEntry as Network}
+use Rattle.vcl_check.specs.Acls.{with_acls}
+use Rattle.vcl_check.specs.Declarations.{declarations, known_of, names_of}
 use Rattle.vcl_check.specs.Mentions.{Said}
 use Rattle.vcl_check.specs.Reaching.{AreReached, numbered_names}
 use Rattle.vcl_check.specs.Texts.{AreRefused, pattern_texts}
@@ -19,16 +20,20 @@ returns-clause-first c =
     let numbers : names.numbers ≡ numbered_names (names_of declared) = rw c.as_slice-declared.ensures.value c.requires.numbers in
     let thirteen : length rows ≡ 13 = rw c.as_slice-rows.ensures.value c.in-Ok.ensures.thirteen in
     let reached : AreReached c.in_ok-graph.graph.calls 0 rows = rw c.as_slice-rows.ensures.value c.in-Ok.ensures.reached in
-    let tried : AreRefused said places = rw c.as_slice.ensures.value c.in_ok-tried.ensures.refused in
-    let twice : c.twice_among-twice.result ≡ numbered (twice_said names.tables.names) 0 None declared =
-    c.twice_among-twice.ensures ∙ ap (λ (indexed : List (List ℕ)). numbered (twice_said indexed) 0 None declared) c.names.ensures in
+    let tried : AreRefused said places = rw c.as_slice.ensures.value c.in-Ok-try_patterns.ensures.refused in
     rw (c.first_of-fault.ensures, c.fault_at-circle.ensures)
     (first-text c.args.items.now c.args.stored.now said declared names.tables names.numbers c.in_ok-graph.graph.calls rows places
-    c.in-Ok-first_on_circle.on_circle c.unknown_among-unknown.result c.twice_among-twice.result c.in-Ok-among_items.inside c.among_refused-refused.result
+    c.in-Ok-first_on_circle.on_circle c.unknown_among-unknown.result c.twice_declared-twice.result c.in-Ok-among_items.inside c.among_refused-refused.result
     (c.as_slice-said.ensures.value ∙ c.requires.said) listed known numbers c.in_ok-graph.ensures.calls thirteen reached tried
-    c.in-Ok-first_on_circle.ensures c.unknown_among-unknown.ensures twice c.in-Ok-among_items.ensures c.among_refused-refused.ensures)
+    c.in-Ok-first_on_circle.ensures c.unknown_among-unknown.ensures c.twice_declared-twice.ensures c.in-Ok-among_items.ensures.told c.among_refused-refused.ensures)
 
 pub returns-clause-patterns : goal.returns-clause-patterns
 returns-clause-patterns c = λ e.
-    c.in_ok-tried.ensures.built (sym c.as_slice.ensures.value ∙ refused-none c.as_slice.result.now (sym c.among_refused-refused.ensures ∙ told-none c.unknown_among-unknown.result c.twice_among-twice.result c.in-Ok-among_items.inside c.fault_at-circle.result c.among_refused-refused.result (sym c.first_of-fault.ensures ∙ e)))
+    c.in-Ok-try_patterns.ensures.built (sym c.as_slice.ensures.value ∙ refused-none c.as_slice.result.now (sym c.among_refused-refused.ensures ∙ (told-none c.unknown_among-unknown.result c.twice_declared-twice.result c.in-Ok-among_items.inside c.fault_at-circle.result c.among_refused-refused.result (sym c.first_of-fault.ensures ∙ e)).1))
     ∙ ap (λ (s : List Said). pattern_texts s) (c.as_slice-said.ensures.value ∙ c.requires.said)
+
+pub returns-clause-acls : goal.returns-clause-acls
+returns-clause-acls c = λ e.
+    let none : c.new-acls.result.items ≡ [] = cc in
+    c.in-Ok-among_items.ensures.acls (told-none c.unknown_among-unknown.result c.twice_declared-twice.result c.in-Ok-among_items.inside c.fault_at-circle.result c.among_refused-refused.result (sym c.first_of-fault.ensures ∙ e)).0
+    ∙ ap (λ (before : List (List Network)). with_acls before c.args.items.now) none

@@ -1,17 +1,21 @@
 -- Nobody is taken down at first, and then one worker after another.
-use Rattle.std.proofs.Common.{◌≡◌, ◌∷◌, refl, sym, ◌∙◌, rules, arith, append-nil}
+use Rattle.std.proofs.Common.{◌≡◌, false, ◌∷◌, refl, sym, ◌∙◌, rules, arith, append-nil}
+use Rattle.std.specs.Prelude.{All}
 use Rattle.std.proofs.lemmas.Grind.{common_steps}
 use Rattle.std.proofs.lemmas.List.Elements.{All-head, All-tail}
 use Rattle.entrance.proofs.Adding.{adds_none}
 use Rattle.workers.specs.Working.{IsCounted}
+use Rattle.workers.specs.declared.worker.Worker.{Worker}
 use Rattle.workers.proofs.Joins.{joins_lists, joins_items, joins_counts, joins_links, joins_kept}
 use Rattle.workers.proofs.joining.disband.Goals as goal
 
 pub loop-worker-init : goal.loop-worker-init
 loop-worker-init g c = record {
   rest = first_of (search rules, grind (arith, common_steps));
+  closed = first_of (search rules, grind (arith, common_steps));
   links = adds_none _;
   kept = refl;
+  given = refl;
   ports = refl;
   kits = refl;
   files = refl;
@@ -34,6 +38,13 @@ join_one-requires-clause-counted g c =
     let counted = All-head IsCounted c.in-Some.worker c.next.new.self.rest.items (rw is at c.loop-worker.invariant.rest) in
     λ κs h. counted
 
+pub join_one-requires-clause-closed : goal.join_one-requires-clause-closed
+join_one-requires-clause-closed g c =
+    let is : c.loop-worker.worker-iterator.rest.items ≡ c.in-Some.worker ∷ c.next.new.self.rest.items = first_of (search rules, grind (arith, common_steps)) in
+    let closed = All-head (λ (worker : Worker g.row.H.Denot g.row.W-Listener-Link.Denot g.row.T.Denot g.row.A.Denot g.row.B.Denot). All (λ (link : g.row.W-Listener-Link.Denot). g.W.Listener.Link.Link.is_open link ≡ false) worker.links.items) c.in-Some.worker c.next.new.self.rest.items
+    (rw is at c.loop-worker.invariant.closed) in
+    λ κs h. closed
+
 pub join_one-requires-clause-seats : goal.join_one-requires-clause-seats
 join_one-requires-clause-seats g c =
     let is : c.loop-worker.worker-iterator.rest.items ≡ c.in-Some.worker ∷ c.next.new.self.rest.items = first_of (search rules, grind (arith, common_steps)) in
@@ -45,9 +56,11 @@ loop-worker-preserved g c =
     let is : c.loop-worker.worker-iterator.rest.items ≡ c.in-Some.worker ∷ c.next.new.self.rest.items = first_of (search rules, grind (arith, common_steps)) in
     let seats = rw is at c.loop-worker.invariant.seats in record {
       rest = All-tail IsCounted c.in-Some.worker c.next.new.self.rest.items (rw is at c.loop-worker.invariant.rest);
+      closed = All-tail (λ (worker : Worker g.row.H.Denot g.row.W-Listener-Link.Denot g.row.T.Denot g.row.A.Denot g.row.B.Denot). All (λ (link : g.row.W-Listener-Link.Denot). g.W.Listener.Link.Link.is_open link ≡ false) worker.links.items) c.in-Some.worker c.next.new.self.rest.items (rw is at c.loop-worker.invariant.closed);
       links = joins_links c.loop-worker.yielded c.in-Some.worker (λ worker. worker.links.items) (g.W.World.links c.args.world.now) (g.W.World.links c.loop-worker.world)
           (g.W.World.links c.join_one.new.world) c.loop-worker.invariant.links c.join_one.ensures.links;
       kept = joins_kept c.loop-worker.yielded c.in-Some.worker (λ worker. worker.links.items) _ _ _ c.loop-worker.invariant.kept c.join_one.ensures.kept;
+      given = c.join_one.ensures.given ∙ c.loop-worker.invariant.given;
       ports = c.join_one.ensures.ports ∙ c.loop-worker.invariant.ports;
       kits = c.join_one.ensures.kits ∙ c.loop-worker.invariant.kits;
       files = c.join_one.ensures.files ∙ c.loop-worker.invariant.files;

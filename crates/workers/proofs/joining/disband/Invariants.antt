@@ -1,5 +1,5 @@
 -- What the workers that were taken down so far have left, and that there is room for what the others leave.
-use Rattle.std.proofs.Common.{◌≡◌, ◌+◌, ◌≤◌, ◌++◌, map, Some, length}
+use Rattle.std.proofs.Common.{◌≡◌, false, ◌+◌, ◌≤◌, ◌++◌, map, Some, length}
 use Rattle.std.specs.Prelude.{All, sum_by, vec_len, vec_capacity}
 use Rattle.std.specs.List.{flat_map}
 use Rattle.wire.specs.Talks.{Adds}
@@ -10,8 +10,10 @@ use Rattle.workers.proofs.joining.disband.Given as goal
 abbrev pub invariant-loop-worker : goal.invariant-loop-worker
 invariant-loop-worker g l = record {
   rest : All IsCounted l.worker-iterator.rest.items;
+  closed : All (λ worker. All (λ link. g.W.Listener.Link.Link.is_open link ≡ false) worker.links.items) l.worker-iterator.rest.items;
   links : Adds (g.W.World.links l.fn.world) (g.W.World.links l.world) (flat_map (λ worker. worker.links.items) l.yielded);
   kept : g.W.World.kept l.world ≡ kept_after (g.W.World.kept l.fn.world) (flat_map (λ worker. worker.links.items) l.yielded);
+  given : g.W.World.given l.world ≡ g.W.World.given l.fn.world;
   ports : g.W.World.ports l.world ≡ g.W.World.ports l.fn.world;
   kits : g.W.World.kits l.world ≡ g.W.World.kits l.fn.world;
   files : g.W.World.files l.world ≡ g.W.World.files l.fn.world;

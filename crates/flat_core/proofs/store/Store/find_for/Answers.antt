@@ -8,4 +8,4 @@ returns-then-not-has_round c = rw (← c.self.view_is) (finds_not (the_view c.se
 
 pub returns : goal.returns
 returns c =
-    rw (← c.self.view_is, c.in_ok-found.ensures) (finds (the_view c.self.inside) c.self.inside.bans.items c.self.inside.objects.items c.args.moment c.args.caller c.args.query.now (search rules))
+    rw (← c.self.view_is, c.in_ok-found.ensures) (finds (the_view c.self.inside) c.self.inside.issued c.self.inside.bans.items c.self.inside.objects.items c.args.moment c.args.caller c.args.query.now c.self.invariant.falling (search rules))

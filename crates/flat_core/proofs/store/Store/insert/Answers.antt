@@ -9,18 +9,21 @@ use Rattle.flat_core.proofs.Tested.{filter_tested, first_tested}
 use Rattle.flat_core.proofs.store.Store.insert.Goals as goal
 
 pub invariant_of-self-in_default : goal.invariant_of-self-in_default
-invariant_of-self-in_default c = rw (c.keep_in_time.ensures) (filter_tested _ _ _ c.self.invariant)
+invariant_of-self-in_default c = rw (c.keep_in_time.ensures) (record { falling = c.self.invariant.falling; tested = filter_tested _ _ _ c.self.invariant.tested })
 
 pub invariant_of-self-then-is_err : goal.invariant_of-self-then-is_err
 invariant_of-self-then-is_err c =
     let same : c.put_first-put.new.objects.items ≡ c.keep_in_time.new.objects.items = search rules in
-    rw (same, c.keep_in_time.ensures) (filter_tested _ _ _ c.self.invariant)
+    rw (same, c.keep_in_time.ensures) (record { falling = c.self.invariant.falling; tested = filter_tested _ _ _ c.self.invariant.tested })
 
 pub invariant_of-self-2 : goal.invariant_of-self-2
 invariant_of-self-2 c =
-    let count : c.len-count.result ≡ length c.self.inside.bans.items = omega (arith, c.len-count.ensures, c.self.inside.bans.ok) in
-    let first : c.put_first-put.new.objects.items ≡ first_of c.self.inside.entries c.args.token c.args.object.now c.args.stale c.len-count.result c.keep_in_time.new.objects.items ∷ filter (stays_from c.args.stale c.in-Some.bound) c.keep_in_time.new.objects.items = search rules in
-    rw (first, count, c.keep_in_time.ensures) (first_tested c.self.inside.bans.items c.self.inside.entries c.args.token c.args.object.now c.args.stale c.in-Some.bound (filter (λ (kept : StoredObject). in_time c.args.moment kept.view.object) c.self.inside.objects.items) (filter_tested c.self.inside.bans.items (λ (kept : StoredObject). in_time c.args.moment kept.view.object) c.self.inside.objects.items c.self.invariant))
+    let first : c.put_first-put.new.objects.items ≡ first_of c.self.inside.entries c.args.token c.args.object.now c.args.stale c.self.inside.issued c.keep_in_time.new.objects.items ∷ filter (stays_from c.args.stale c.in-Some.bound) c.keep_in_time.new.objects.items = search rules in
+    rw (first, c.keep_in_time.ensures)
+    (record {
+      falling = c.self.invariant.falling;
+      tested = first_tested c.self.inside.issued c.self.inside.entries c.args.token c.args.object.now c.args.stale c.in-Some.bound (filter (λ (kept : StoredObject). in_time c.args.moment kept.view.object) c.self.inside.objects.items) (filter_tested c.self.inside.issued _ _ c.self.invariant.tested);
+    })
 
 pub returns-then-not-has_fetch : goal.returns-then-not-has_fetch
 returns-then-not-has_fetch c = rw (← c.self.view_is) (inserts_not _ _ _ _ _ _ _ _ (search rules) refl refl)
@@ -45,6 +48,7 @@ returns-in_default c =
       object = c.args.object.now;
       stale = c.args.stale;
       fetches = c.close_fetch.new.fetches.items;
+      falling = c.self.invariant.falling;
       kept = refl;
       opened = search rules;
       here = search rules;
@@ -66,6 +70,7 @@ returns-then-is_err c =
       object = c.args.object.now;
       stale = c.args.stale;
       fetches = c.close_fetch.new.fetches.items;
+      falling = c.self.invariant.falling;
       kept = refl;
       opened = search rules;
       here = search rules;
@@ -88,6 +93,7 @@ returns c =
       object = c.args.object.now;
       stale = c.args.stale;
       fetches = c.close_fetch.new.fetches.items;
+      falling = c.self.invariant.falling;
       kept = refl;
       opened = search rules;
       here = search rules;

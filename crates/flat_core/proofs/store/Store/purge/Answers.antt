@@ -6,7 +6,7 @@ use Rattle.flat_core.proofs.Tested.{filter_tested}
 use Rattle.flat_core.proofs.store.Store.purge.Goals as goal
 
 pub invariant_of-self : goal.invariant_of-self
-invariant_of-self c = rw (c.drop_key.ensures) (filter_tested _ _ _ c.self.invariant)
+invariant_of-self c = rw (c.drop_key.ensures) (record { falling = c.self.invariant.falling; tested = filter_tested _ _ _ c.self.invariant.tested })
 
 pub returns : goal.returns
 returns c = rw (← c.self.view_is) (purges (the_view c.self.inside) c.self.inside.objects.items _ (has_key c.args.key.now) _ _ _ _ _ refl refl refl (search rules) (search rules) refl refl)

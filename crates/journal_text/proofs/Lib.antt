@@ -1,0 +1,4 @@
+pub mod Behind
+pub mod Spelling
+pub mod Back
+pub mod Unique
