@@ -12,6 +12,7 @@ use Rattle.wire.proofs.failing_link.FailingLink.TheSendSync as failing_link
 use Rattle.wire.proofs.peer.Peer.TheSendSync as peer
 use Rattle.wire.proofs.scripted_clock.Script.TheSendSync as script
 use Rattle.wire.proofs.scripted_clock.ScriptedClock.TheSendSync as scripted_clock
+use Rattle.units.proofs.sequence.Sequence.TheSendSync as sequence
 use Rattle.world.proofs.file.File.TheSendSync as file
 use Rattle.world.proofs.kit.Kit.TheSendSync as kit
 use Rattle.world.specs.contracts.planned_kit.KitClock as clock
@@ -19,10 +20,10 @@ use Rattle.world.specs.contracts.planned_kit.KitClock.TheInside as inside_clock
 use Rattle.world.specs.contracts.failing_world.FailingWorld as world
 use Rattle.world.specs.contracts.failing_world.FailingWorld.TheInside as inside
 
-ruleset parts = (crosses, kept.crosses, sendable, calls.the_send, failing_sink.the_send, dial.the_field_send, dial.the_send, plan.the_field_send, plan.the_send, direction.the_send, failing_link.the_send, peer.the_field_send, peer.the_send, script.the_send, scripted_clock.the_send, file.the_field_send, file.the_send, kit.the_field_send, kit.the_send)
+ruleset parts = (crosses, kept.crosses, sendable, sequence.the_send, calls.the_send, failing_sink.the_send, dial.the_field_send, dial.the_send, plan.the_field_send, plan.the_send, direction.the_send, failing_link.the_send, peer.the_field_send, peer.the_send, script.the_send, scripted_clock.the_send, file.the_field_send, file.the_send, kit.the_field_send, kit.the_send)
 
 fields_send : IsSend inside.the_field.row
-fields_send = struct_send (Declared.shape inside.the_type) (search parts depth 60 fits 20000, (search parts depth 60 fits 20000, (search parts depth 60 fits 20000, (search parts depth 60 fits 20000, (search parts depth 60 fits 20000, (search parts depth 60 fits 20000, (search parts depth 60 fits 20000, (search parts depth 60 fits 20000, (search parts depth 60 fits 20000, (search parts depth 60 fits 20000, (search parts depth 60 fits 20000, tt)))))))))))
+fields_send = struct_send (Declared.shape inside.the_type) (search parts depth 60 fits 20000, (search parts depth 60 fits 20000, (search parts depth 60 fits 20000, (search parts depth 60 fits 20000, (search parts depth 60 fits 20000, (search parts depth 60 fits 20000, (search parts depth 60 fits 20000, (search parts depth 60 fits 20000, (search parts depth 60 fits 20000, (search parts depth 60 fits 20000, (search parts depth 60 fits 20000, (search parts depth 60 fits 20000, (search parts depth 60 fits 20000, tt)))))))))))))
 
 pub world_send : IsSend world.the_row
 world_send = search (fields_send, sendable) depth 60 fits 20000
