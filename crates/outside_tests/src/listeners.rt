@@ -1,4 +1,6 @@
 // Listeners in memory.
+ghost use Rattle.std.specs.Prelude.{◌≡◌, IfOk};
+
 use row_settings::{number, numbers};
 use std::alloc::{AllocError, Global};
 use std::collections::VecDeque;
@@ -27,7 +29,9 @@ fn arrivals(alloc: Global, coming: u64) -> Result<VecDeque<Coming>, AllocError> 
 
 /// A listener to which so many connections come as the setting `coming` says, numbered by their addresses from 0 on, whose calls with
 /// the numbers of `failing` fail, and of which as many others as `quiet` says find nobody yet.
-pub fn listener_of(alloc: Global, row: &str) -> Result<FailingListener, AllocError> {
+pub fn listener_of(alloc: Global, row: &str) -> Result<FailingListener, AllocError>
+    ensures unused { IfOk result (λ listener. listener.given ≡ 0) }
+{
     let coming = arrivals(alloc, number(row, "coming", 0))?;
     let failing = numbers(alloc, row, "failing")?;
     let quiet = number(row, "quiet", 0);

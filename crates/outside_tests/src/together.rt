@@ -45,6 +45,7 @@ fn ask_together<R: Threads + Wait + Sync, A: Quota + Send, B: Ledger + Send>(
     accepted: Blank,
     left: Blank,
 ) -> Result<Vec<u8>, AllocError>
+    requires unused { listener.given ≡ 0 }
     requires most { most ≡ A.most }
     requires accepted { (accepted.name ≡ A.name) × (accepted.parts ≡ A.parts) }
     requires left { (left.name ≡ B.name) × (left.parts ≡ B.parts) }

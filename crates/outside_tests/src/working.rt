@@ -29,6 +29,7 @@ fn serve<R: Wait, A: Quota, B: Ledger>(
     accepted: Blank,
     left: Blank,
 ) -> Result<String, AllocError>
+    requires unused { listener.given ≡ 0 }
     requires most { most ≡ A.most }
     requires accepted { (accepted.name ≡ A.name) × (accepted.parts ≡ A.parts) }
     requires left { (left.name ≡ B.name) × (left.parts ≡ B.parts) }
