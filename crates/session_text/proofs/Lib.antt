@@ -3,3 +3,5 @@ pub mod Words
 pub mod Meanings
 pub mod Going
 pub mod Commanded
+pub mod Generating
+pub mod Shortness

@@ -1,6 +1,7 @@
 pub mod Commands
 pub mod Errors
 pub mod Faults
+pub mod Generated
 pub mod Keywords
 pub mod Lines
 pub mod Readings

@@ -51,6 +51,7 @@ fn said(alloc: Global, row: &str) -> Result<String, AllocError> {
         "line" => sessions::line_shown(alloc, rest),
         "session" => sessions::session_shown(alloc, rest),
         "meaning" => sessions::meaning_shown(alloc, rest),
+        "generated" => sessions::generated_shown(alloc, rest),
         "options" => options::options_shown(alloc, rest),
         "help" | "serve" | "replay" | "replay-" | "vcl" | "session_fault" => {
             telling::told(alloc, word, rest)?.replace(alloc, '\n', "\\n")

@@ -1,6 +1,8 @@
 // Texts of sessions.
 use crate::texts::bytes_of;
-use session_text::{Line, NumberedLine, Session, SessionError, one_meaning, read};
+use session_text::{
+    Line, NumberedLine, Session, SessionError, generate, generated_is_short, one_meaning, read,
+};
 use std::alloc::{AllocError, Global};
 
 /// How the session is read whose second line of three this is.
@@ -33,8 +35,21 @@ fn size_shown(alloc: Global, text: &[u8]) -> Result<String, AllocError> {
 /// What each line of the session says.
 pub fn meaning_shown(alloc: Global, row: &str) -> Result<String, AllocError> {
     let text = bytes_of(alloc, row)?;
+    lines_shown(alloc, text.as_slice())
+}
+
+/// What each line says of the session that is made of a number, with so many steps.
+pub fn generated_shown(alloc: Global, row: &str) -> Result<String, AllocError> {
+    let (seed, steps) = row.split_once(' ').unwrap_or((row, ""));
+    let seed = seed.parse::<u32>().unwrap_or(0);
+    let text = generate(alloc, seed, steps.parse::<u32>().unwrap_or(0))?;
+    generated_is_short();
+    lines_shown(alloc, text.bytes())
+}
+
+fn lines_shown(alloc: Global, text: &[u8]) -> Result<String, AllocError> {
     let mut out = String::new(alloc);
-    if let Ok(session) = read(alloc, text.as_slice()) {
+    if let Ok(session) = read(alloc, text) {
         for line in session.lines.as_slice() {
             push_line(&mut out, line)?;
         }
