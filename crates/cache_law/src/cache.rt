@@ -1,5 +1,5 @@
 // A cache as the layers above know it.
-ghost use Rattle.std.specs.Prelude.{◌≡◌, [], List, IfErr, IfOk, OnErr, true, IsErrOf};
+ghost use Rattle.std.specs.Prelude.{◌≡◌, ◌↔◌, [], List, IfErr, IfOk, OnErr, true, IsErrOf};
 ghost use Rattle.cache_law.specs.declared.call.Entry.{Entry as HistoryEntry};
 ghost use Rattle.cache_law.specs.Beginning.{Beginning, beginning_of};
 ghost use Rattle.cache_law.specs.Core.{Entered, FitsBehind, moment_of, is_kept, is_segment_full};
@@ -19,9 +19,12 @@ pub struct Told {
     pub reply: Reply,
 }
 
-/// Why a call made no entry.
+/// Why a call made no entry. `SegmentFull` is told before `HistoryFull`.
 #[derive(Clone, Copy, Debug)]
 pub enum StepError {
+    /// The history takes half of its limit or more, and the call would open something: a segment ends before it. It comes only
+    /// where histories are kept in segments.
+    SegmentFull,
     /// The call doesn't fit the history's limit.
     HistoryFull,
     NoMemory,
@@ -58,6 +61,8 @@ pub trait CacheCore: Sized {
     ) -> Result<Told, StepError>
         requires waited { HasWaited (reached (beginning self.old) (history self.old)) caller call }
         ensures told { IfOk result (Entered (beginning self.old) (history self.old) (history self.new) caller reading call) }
+        ensures segment { IsErrOf result StepError.SegmentFull
+            ↔ (is_segment_full (beginning self.old).params (reached (beginning self.old) (history self.old)) (history self.old) caller call ≡ true) }
         ensures full { IsErrOf result StepError.HistoryFull
             → ¬ FitsBehind (beginning self.old) (history self.old) caller (moment_of (beginning self.old) (history self.old) reading) call }
         ensures kept { is_kept (reached (beginning self.old) (history self.old)) caller call ≡ true → IsErrOf result StepError.NoMemory → ⊥ }
@@ -77,11 +82,6 @@ pub trait CacheCore: Sized {
     /// takes no memory.
     fn awaits(&self, caller: u32) -> Option<u64>
         ensures { result ≡ awaits (reached (beginning self.now) (history self.now)) caller };
-
-    /// Whether the history takes half of its limit or more, and the call of the caller would open something new. Where
-    /// histories are kept in segments, a segment ends before such a call. It takes no memory.
-    fn is_segment_full(&self, caller: u32, call: &Call) -> bool
-        ensures { result ≡ is_segment_full (beginning self.now).params (reached (beginning self.now) (history self.now)) (history self.now) caller call.now };
 
     /// Gives the history, and the cache with an empty one, which begins in a base that is alike to the state that was
     /// reached. It is called where no round and no fetch is open.

@@ -177,7 +177,7 @@ kept_too beginning entries room used state sound caller call kept = ap (λ (s : 
 -- what an answer leaves reserves no more than the law's answer
 pub answer_reserves : (room : ℕ) (old new : State) (caller moment : ℕ) (call : Call) (answer : Answer) → Answers old new moment call (answered room (at_moment moment old) caller call) answer → reserve new ≤ reserve (answered room (at_moment moment old) caller call).state
 answer_reserves room old new caller moment call answer answers =
-    let params : Params = record { room = room; history = 0 } in
+    let params : Params = record { room = room; history = 0; segments = false } in
     let least = reserve-after params old caller moment call answer.told answers.allows in
     omega (arith, least, ap reserve answers.leaves)
 
