@@ -34,3 +34,4 @@ pub mod Struck
 pub mod Drawing
 pub mod Waiting
 pub mod Tested
+pub mod Segmenting

@@ -54,11 +54,11 @@ abbrev pub is_none : List Entry → Bool
 is_none [] = true
 is_none (entry ∷ entries) = false
 
--- The history is full as a segment: it takes half of its limit or more, rounded down. It ends before a call of a caller
--- that has no round, unless that closes something.
+-- The history is full as a segment: it is kept in segments, and takes half of its limit or more, rounded down. It ends
+-- before a call of a caller that has no round, unless that closes something.
 abbrev pub is_segment_full : Params → State → List Entry → ℕ → Call → Bool
 is_segment_full params state entries caller call =
-    not (has_round state.rounds caller) && not (is_closing call) && not (is_none entries) && nat_le (params.history / 2) (bytes_of_all entries)
+    params.segments && not (has_round state.rounds caller) && not (is_closing call) && not (is_none entries) && nat_le (params.history / 2) (bytes_of_all entries)
 
 -- the object may answer the lookup at the moment: it is in time, matches the request, and is fresh for it
 pub record Serves (moment : ℕ) (query : Query) (object : Object) : Type 0 where

@@ -1,8 +1,8 @@
 // A cache as the layers above know it.
-ghost use Rattle.std.specs.Prelude.{◌≡◌, [], List, IfErr, IfOk, OnErr, true, IsErrOf};
+ghost use Rattle.std.specs.Prelude.{◌≡◌, ◌↔◌, [], List, IfErr, IfOk, OnErr, true, false, IsErrOf};
 ghost use Rattle.cache_law.specs.declared.call.Entry.{Entry as HistoryEntry};
 ghost use Rattle.cache_law.specs.Beginning.{Beginning, beginning_of};
-ghost use Rattle.cache_law.specs.Core.{Entered, FitsBehind, moment_of, is_kept, is_segment_full};
+ghost use Rattle.cache_law.specs.Core.{Entered, FitsBehind, moment_of, is_kept, is_lookup, is_segment_full};
 ghost use Rattle.cache_law.specs.Bases.{AreAlike, IsBase, IsClosed};
 ghost use Rattle.cache_law.specs.History.{HasWaited, Legal, bytes_of_all, reached};
 ghost use Rattle.cache_law.specs.State.{awaits, is_closed};
@@ -19,9 +19,12 @@ pub struct Told {
     pub reply: Reply,
 }
 
-/// Why a call made no entry.
+/// Why a call made no entry. `SegmentFull` is told before `HistoryFull`.
 #[derive(Clone, Copy, Debug)]
 pub enum StepError {
+    /// The history takes half of its limit or more, and the call would open something: a segment ends before it. It comes only
+    /// where histories are kept in segments.
+    SegmentFull,
     /// The call doesn't fit the history's limit.
     HistoryFull,
     NoMemory,
@@ -47,8 +50,9 @@ pub trait CacheCore: Sized {
         ensures history { IfOk result (λ core. history core ≡ []) };
 
     /// Answers one call of the caller, at the reading of the clock in milliseconds since 1970 or at the
-    /// moment of the entry before, where that is greater. After an error all is as before. A caller that was told to
-    /// wait for a fetch looks up again once that is closed.
+    /// moment of the entry before, where that is greater. After an error all is as before. That a call doesn't fit is told
+    /// before want of memory, but for a lookup: what that takes is known once it has been looked for. A caller that was
+    /// told to wait for a fetch looks up again once that is closed.
     fn step(
         &mut self,
         alloc: Global,
@@ -58,8 +62,12 @@ pub trait CacheCore: Sized {
     ) -> Result<Told, StepError>
         requires waited { HasWaited (reached (beginning self.old) (history self.old)) caller call }
         ensures told { IfOk result (Entered (beginning self.old) (history self.old) (history self.new) caller reading call) }
+        ensures segment { IsErrOf result StepError.SegmentFull
+            ↔ (is_segment_full (beginning self.old).params (reached (beginning self.old) (history self.old)) (history self.old) caller call ≡ true) }
         ensures full { IsErrOf result StepError.HistoryFull
             → ¬ FitsBehind (beginning self.old) (history self.old) caller (moment_of (beginning self.old) (history self.old) reading) call }
+        ensures wanting { is_lookup call ≡ false → IsErrOf result StepError.NoMemory
+            → FitsBehind (beginning self.old) (history self.old) caller (moment_of (beginning self.old) (history self.old) reading) call }
         ensures kept { is_kept (reached (beginning self.old) (history self.old)) caller call ≡ true → IsErrOf result StepError.NoMemory → ⊥ }
         ensures err { OnErr result (history self.new ≡ history self.old) }
         ensures legal { Legal (beginning self.old) (history self.old) → Legal (beginning self.new) (history self.new) }
@@ -77,11 +85,6 @@ pub trait CacheCore: Sized {
     /// takes no memory.
     fn awaits(&self, caller: u32) -> Option<u64>
         ensures { result ≡ awaits (reached (beginning self.now) (history self.now)) caller };
-
-    /// Whether the history takes half of its limit or more, and the call of the caller would open something new. Where
-    /// histories are kept in segments, a segment ends before such a call. It takes no memory.
-    fn is_segment_full(&self, caller: u32, call: &Call) -> bool
-        ensures { result ≡ is_segment_full (beginning self.now).params (reached (beginning self.now) (history self.now)) (history self.now) caller call.now };
 
     /// Gives the history, and the cache with an empty one, which begins in a base that is alike to the state that was
     /// reached. It is called where no round and no fetch is open.

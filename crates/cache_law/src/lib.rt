@@ -29,7 +29,10 @@ pub use ban_laws::{
     equal_bans_match_alike, given_objects_were_spared, given_objects_were_tested,
     no_request_matters, only_issued_bans_wait,
 };
-pub use base_laws::{alike_is_legal, reopened_is_legal, segments_go_on, states_stay_sound};
+pub use base_laws::{
+    alike_is_legal, reopened_is_legal, segments_go_on, states_stay_sound,
+    whole_histories_are_not_full,
+};
 pub use bytes::{entry_bytes, object_size};
 pub use cache::{CacheCore, Kept, StepError, Told};
 pub use call::{Call, Entry, Options, Query, Reply, RequestView};

@@ -62,6 +62,7 @@ fn step_shown(
     let awaits = core.awaits(caller);
     match &answer {
         Some(Ok(told)) => told_shown(alloc, told, awaits),
+        Some(Err(StepError::SegmentFull)) => format!(in alloc; "segment full"),
         Some(Err(StepError::HistoryFull)) => format!(in alloc; "history full"),
         Some(Err(StepError::NoMemory)) => format!(in alloc; "no memory"),
         None => format!(in alloc; "waits"),

@@ -15,7 +15,12 @@ pub fn core_of<C: CacheCore>(alloc: Global, room: u64, history: u64) -> Result<C
         text,
         backends: Sequence::new(alloc),
     };
-    C::make(alloc, &Params { room, history }, boot)
+    let params = Params {
+        room,
+        history,
+        segments: false,
+    };
+    C::make(alloc, &params, boot)
 }
 
 // The token that the caller waits for where it makes this call.

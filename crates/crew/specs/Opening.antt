@@ -1,14 +1,15 @@
 -- Where a run begins.
-use Rattle.std.specs.Prelude.{◌≡◌, [], Some}
+use Rattle.std.specs.Prelude.{◌≡◌, [], Some, false}
 use Rattle.cache_law.specs.Beginning.{Beginning}
 use Rattle.cache_law.specs.History.{Legal}
 use Rattle.turnstile.specs.Knowledge.{opened}
 use Rattle.shared_cache.specs.Sharing.{CallerKnows}
 
--- The empty history is legal from there, and no round is open.
+-- The empty history is legal from there, no round is open, and no segments are kept.
 pub record CanBegin (beginning : Beginning) : Type 0 where
   pub legal : Legal beginning []
   pub idle : beginning.base.rounds ≡ []
+  pub unsegmented : beginning.params.segments ≡ false
 
 -- It has seen no entry yet of a cache that may begin so.
 pub record IsStart (k : CallerKnows) : Type 0 where

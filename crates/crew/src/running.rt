@@ -6,7 +6,7 @@ ghost use Rattle.cache_law.specs.History.{Legal};
 ghost use Rattle.turnstile.specs.Handles.{known};
 ghost use Rattle.turnstile.specs.Knowledge.{Meets, opened};
 ghost use Rattle.shared_cache.specs.Passes.{IsPassOf};
-ghost use Rattle.shared_cache.specs.Sharing.{caller_of};
+ghost use Rattle.shared_cache.specs.Sharing.{IsKeptWhole, caller_of};
 ghost use Rattle.wire.specs.Calls.{joined_count};
 ghost use Rattle.entrance.specs.Arriving.{told_by};
 ghost use Rattle.crew.specs.Opening.{CanBegin, IsFirst};
@@ -159,7 +159,7 @@ fn open_all<C: CacheCore + Drop, S: Drop, L: Drop, T: Drop, A: Quota, B: Ledger>
     connections: usize,
 ) -> Option<(SharedCache<C>, CachePass, Room<S, L, T, A, B>)>
     requires empty { C.history core ≡ [] }
-    requires legal { Legal (C.beginning core) [] }
+    requires whole { IsKeptWhole (C.beginning core) [] }
     ensures pass { IfSome result (λ all. IsPassOf all.0 all.1) }
     ensures first { IfSome result (λ all. known all.1 ≡ opened 0 (C.beginning core)) }
     ensures none { IfSome result (λ all. (all.2.workers.items ≡ []) × (all.2.shifts.items ≡ []) × (all.2.transcripts.items ≡ [])) }

@@ -70,6 +70,12 @@ same_entries made = ap (λ (s : State). s.entries) made.sound.reaches
 pub fits_behind : (made : Made) → is_numbered (step_of made.beginning.params made.old made.caller made.moment made.call).reply ≡ true → made.used + bytes_of made.call + 64 * made.opens ≤ made.beginning.params.history → made.old.entries + 1 + made.opens ≤ most_entries → FitsBehind made.beginning made.entries made.caller made.moment made.call
 fits_behind made number h few = record { counted = omega (arith, few, made.reserves, same_reserve made, same_entries made); number = ap (λ (s : State). is_numbered (answered made.beginning.params.room s made.caller made.call).reply) (sym (same_state made)) ∙ number; within = omega (arith, h, made.sound.counts, made.reserves, same_reserve made) }
 
+-- the same at the moment of the reading
+pub fits_at : (made : Made) → is_numbered (step_of made.beginning.params made.old made.caller made.moment made.call).reply ≡ true → made.used + bytes_of made.call + 64 * made.opens ≤ made.beginning.params.history → made.old.entries + 1 + made.opens ≤ most_entries → FitsBehind made.beginning made.entries made.caller (moment_of made.beginning made.entries made.reading) made.call
+fits_at made number h few =
+    let at_ : moment_of made.beginning made.entries made.reading ≡ made.moment = ap (λ (m : ℕ). max m made.reading) (sym (same_moment made)) ∙ sym made.at_ in
+    subst (λ (m : ℕ). FitsBehind made.beginning made.entries made.caller m made.call) (sym at_) (fits_behind made number h few)
+
 pub within_limit : (made : Made) → FitsBehind made.beginning made.entries made.caller (moment_of made.beginning made.entries made.reading) made.call → made.used + bytes_of made.call + 64 * made.opens ≤ made.beginning.params.history
 within_limit made fits =
     let at_ : moment_of made.beginning made.entries made.reading ≡ made.moment = ap (λ (m : ℕ). max m made.reading) (sym (same_moment made)) ∙ sym made.at_ in
@@ -177,7 +183,7 @@ kept_too beginning entries room used state sound caller call kept = ap (λ (s : 
 -- what an answer leaves reserves no more than the law's answer
 pub answer_reserves : (room : ℕ) (old new : State) (caller moment : ℕ) (call : Call) (answer : Answer) → Answers old new moment call (answered room (at_moment moment old) caller call) answer → reserve new ≤ reserve (answered room (at_moment moment old) caller call).state
 answer_reserves room old new caller moment call answer answers =
-    let params : Params = record { room = room; history = 0 } in
+    let params : Params = record { room = room; history = 0; segments = false } in
     let least = reserve-after params old caller moment call answer.told answers.allows in
     omega (arith, least, ap reserve answers.leaves)
 

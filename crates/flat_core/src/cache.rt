@@ -4,8 +4,8 @@ ghost use Rattle.std.specs.Vec.{vec_capacity};
 ghost use Rattle.cache_law.specs.State.{at_moment, reserve};
 ghost use Rattle.cache_law.specs.Law.{answered};
 ghost use Rattle.cache_law.specs.Bases.{IsBase};
-ghost use Rattle.cache_law.specs.Core.{is_closing as closes_only, is_kept};
-ghost use Rattle.cache_law.specs.History.{bytes_of, is_numbered, most_entries};
+ghost use Rattle.cache_law.specs.Core.{is_closing as closes_only, is_kept, is_segment_full as is_full_for};
+ghost use Rattle.cache_law.specs.History.{bytes_of, is_numbered, most_entries, reached};
 ghost use Rattle.flat_core.specs.Found.{FindsFor};
 ghost use Rattle.flat_core.specs.Step.{Answers};
 
@@ -62,6 +62,9 @@ impl CacheCore for FlatCore {
         reading: u64,
         call: Call,
     ) -> Result<Told, StepError> {
+        if self.is_segment_full(caller, &call) {
+            return Err(given_up(call, StepError::SegmentFull));
+        }
         let moment = self.store.moment().max(reading);
         let found = match self.store.find(alloc, caller, moment, &call) {
             Ok(found) => found,
@@ -123,13 +126,6 @@ impl CacheCore for FlatCore {
         self.store.closed(token)
     }
 
-    fn is_segment_full(&self, caller: u32, call: &Call) -> bool {
-        !self.store.has_round(caller)
-            && !is_closing(call)
-            && !self.entries.is_empty()
-            && self.params.history / 2 <= self.used
-    }
-
     fn reopen(self, alloc: Global) -> Result<(Sequence<Entry>, FlatCore), Kept<FlatCore>> {
         let FlatCore {
             params,
@@ -145,6 +141,19 @@ impl CacheCore for FlatCore {
 
     fn into_history(self) -> Sequence<Entry> {
         Sequence::from_vec(self.entries)
+    }
+}
+
+impl FlatCore {
+    /// Whether a segment ends before the call of the caller.
+    fn is_segment_full(&self, caller: u32, call: &Call) -> bool
+        ensures { result ≡ is_full_for self.now.beginning.params (reached self.now.beginning self.now.entries) self.now.entries caller call.now }
+    {
+        self.params.segments
+            && !self.store.has_round(caller)
+            && !is_closing(call)
+            && !self.entries.is_empty()
+            && self.params.history / 2 <= self.used
     }
 }
 

@@ -22,6 +22,7 @@ fn journal(alloc: Global) -> Result<Vec<u8>, AllocError> {
     let params = Params {
         room: 1_000_000,
         history: 640,
+        segments: true,
     };
     let boot = Boot {
         text: text(alloc, "vcl 4.1; backend default { .host = \"127.0.0.1\"; }")?,

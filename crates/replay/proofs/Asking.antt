@@ -75,7 +75,7 @@ module _ (beginning : Beginning) (old new : List Entry) (client moment : ℕ) (c
   pub still_in_step : (after : Beginning) → after ≡ beginning → IsInStep after new moment
   still_in_step after same =
       let e : (reached beginning new).moment ≡ told.moment = ap (λ (s : State). s.moment) reached_new ∙ entered_moment beginning (reached beginning old) (entry_of client call told) in
-      subst (λ (b : Beginning). IsInStep b new moment) (sym same) (record { no_later = omega (arith, e, told_moment) })
+      subst (λ (b : Beginning). IsInStep b new moment) (sym same) (record { no_later = omega (arith, e, told_moment); unsegmented = in_step.unsegmented })
 
   -- an entry takes 64 bytes at least, and is within the limit
   pub grown : bytes_of_all new ≡ bytes_of_all old + bytes_of call

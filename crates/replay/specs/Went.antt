@@ -1,5 +1,5 @@
 -- How far a part of a session has come, as the functions that play it tell.
-use Rattle.std.specs.Prelude.{◌≡◌, ℕ, Option, None, Some, List, [], ◌∷◌, ◌++◌, ◌≤◌, ◌-◌, map, Result, Ok, Err}
+use Rattle.std.specs.Prelude.{◌≡◌, ℕ, false, Option, None, Some, List, [], ◌∷◌, ◌++◌, ◌≤◌, ◌-◌, map, Result, Ok, Err}
 use Rattle.http_heads.specs.declared.exchange.BackendRequest.{BackendRequest}
 use Rattle.cache_law.specs.declared.call.Entry.{Entry}
 use Rattle.cache_law.specs.Beginning.{Beginning}
@@ -113,9 +113,10 @@ pub record IsSet {P : Type 0} (plan : Plan) (stands : P → Request → List Giv
   pub scene : Scene
   pub is_stage : IsStage plan stands stage scene
 
--- no entry is later than this moment
+-- no entry is later than this moment, and no segments are kept
 pub record IsInStep (beginning : Beginning) (history : List Entry) (moment : ℕ) : Type 0 where
   pub no_later : (reached beginning history).moment ≤ moment
+  pub unsegmented : beginning.params.segments ≡ false
 
 -- what a part of a session leaves of its cache as it was, and keeps of it
 pub record KeepsCore {C : Type 0} (beginning : C → Beginning) (history : C → List Entry) (old new : C) : Type 0 where

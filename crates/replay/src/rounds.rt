@@ -84,6 +84,7 @@ pub(crate) fn ask<C: CacheCore, P: Policy>(
 {
     let told = match core.step(alloc, client, moment, call) {
         Ok(told) => told,
+        Err(StepError::SegmentFull) => unreachable!(),
         Err(StepError::HistoryFull) => return Err(Break::HistoryFull),
         Err(StepError::NoMemory) => return Err(Break::NoMemory),
     };

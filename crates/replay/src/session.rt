@@ -125,8 +125,8 @@ fn unplayed(alloc: Global) -> Replayed
     }
 }
 
-/// Plays a session over a cache of this kind, its rounds led by this policy, and writes its transcript. Each event is gone
-/// once it is played.
+/// Plays a session over a cache of this kind that keeps no segments, its rounds led by this policy, and writes its transcript.
+/// Each event is gone once it is played.
 pub fn play_session<C: LurkCore + Drop, P: Policy, K: Sink>(
     alloc: Global,
     script: Script,
@@ -135,6 +135,7 @@ pub fn play_session<C: LurkCore + Drop, P: Policy, K: Sink>(
     context: &mut P::Context,
     sink: &mut K,
 ) -> Replayed
+    requires unsegmented { params.now.segments ≡ false }
     ensures replayed { IsReplayed (plan_of P.wants (beginning_of params.now boot)) script (K.held sink.old) (K.held sink.new) result }
     ensures swept { IsSwept number_of lurks script.events (length result.played.swept) result.refusal }
     ensures later { K.faults sink.old ≤ K.faults sink.new }
@@ -167,7 +168,7 @@ pub fn play_session<C: LurkCore + Drop, P: Policy, K: Sink>(
     }
 }
 
-/// Plays a session over a cache of this kind. Its rounds are led by the programs of the library, and its lines of the console
+/// Plays a session over a cache of this kind that keeps no segments. Its rounds are led by the programs of the library, and its lines of the console
 /// read with the stored functions of a table. Its clients have numbers from 1 to 250, as those of a session that is read.
 pub fn run_session<C: LurkCore + Drop, M: Runner, L: Programs<M>, K: Sink>(
     alloc: Global,
@@ -180,7 +181,8 @@ pub fn run_session<C: LurkCore + Drop, M: Runner, L: Programs<M>, K: Sink>(
 ) -> Replayed
 where
     M::Program: Drop,
-    requires { HasClients session }
+    requires clients { HasClients session }
+    requires unsegmented { params.now.segments ≡ false }
     ensures replayed { SessionEnds vmods.now.stored (plan_of (Wants (language_of L.of_text M.turns M.targets M.default_of L.backends)) (beginning_of params.now boot)) session result.played.history (K.held sink.old) (K.held sink.new) result.refusal }
     ensures swept { IsSweptBy session (length result.played.swept) result.refusal }
     ensures later { K.faults sink.old ≤ K.faults sink.new }

@@ -1,10 +1,13 @@
 -- A call that made no entry.
-use Rattle.std.proofs.Common.{◌≡◌, ℕ, Option, ap, ◌∙◌, subst}
+use Rattle.std.proofs.Common.{◌≡◌, ℕ, Option, ap, sym, ◌∙◌, subst}
+use Rattle.std.proofs.lemmas.Bool.{false≢true}
 use Rattle.wire.specs.Tapes.{Tape, Tells}
 use Rattle.cache_law.specs.declared.call.Call.{Call}
 use Rattle.cache_law.specs.declared.cache.StepError.{StepError}
-use Rattle.cache_law.specs.declared.cache.StepError.TheVariants.{HistoryFull, NoMemory}
+use Rattle.cache_law.specs.declared.cache.StepError.TheVariants.{HistoryFull, NoMemory, SegmentFull}
 use Rattle.cache_law.specs.Core.{FitsBehind, moment_of}
+use Rattle.cache_law.specs.History.{reached}
+use Rattle.cache_law.proofs.Segmenting.{never_full}
 use Rattle.turnstile.specs.Knowledge.{saw}
 use Rattle.shared_cache.specs.Sharing.{CallerKnows, Declined}
 use Rattle.round_lead.specs.declared.keeping.Progress.{Progress}
@@ -24,6 +27,7 @@ why_declined k after reads reads' reading call HistoryFull told knows made =
       full = λ fits. made.cause (subst (λ (n : ℕ). FitsBehind made.beginning after.seen n (moment_of made.beginning after.seen reading) call) number fits);
     }
 why_declined k after reads reads' reading call NoMemory told knows made = tt
+why_declined k after reads reads' reading call SegmentFull told knows made = absurd (false≢true (sym (never_full made.beginning.params (reached made.beginning after.seen) after.seen k.number call made.unsegmented) ∙ made.cause))
 
 pub declines : (k after : CallerKnows) (reads reads' : Option Tape) (p p' : Progress) (reading : ℕ) (call : Call) (error : StepError) → Tells reads reads' reading → after ≡ saw k after.seen
     → Declined k after reading call error → p'.numbers.items ≡ p.numbers.items → SameRest p p' → Declines k after reads reads' p p' call error

@@ -89,6 +89,7 @@ module _ {L : Type 0} (flow : L → Option Flow) (backends : List ℕ → Backen
       inl (record { extra = []; part = []; did = did_decline flow backends over talks k k' reads reads' words words' p p' call step.HistoryFull undrawn made; so = (call, refl, refl, refl, made.why) })
   call_fails over talks k k' reads reads' words words' p p' call step.NoMemory undrawn made =
       inl (record { extra = []; part = []; did = did_decline flow backends over talks k k' reads reads' words words' p p' call step.NoMemory undrawn made; so = (refl, tt) })
+  call_fails over talks k k' reads reads' words words' p p' call step.SegmentFull undrawn made = absurd made.why
 
   pub exchange_gives : (k : CallerKnows) (over : Option Flow) (reads reads' words words' : Option Tape) (talks talks' : Option (List (Talk L))) (p p' : Progress) (number : ℕ) (name : List ℕ)
       (request : BackendRequest) (got : Got) → words' ≡ words → got.exchange ≢ exchange.NoMemory → Exchanges flow (backends name) request reads reads' talks talks' p p' got

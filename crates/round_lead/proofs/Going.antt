@@ -108,3 +108,4 @@ module _ {L : Type 0} (flow : L → Option Flow) (over : Option Flow) (talks : O
       by : (error : StepError) → RefusedFor error k' reads reads' Begin → BeginRefused flow (at k over reads words talks p) (at k' over reads' words' talks p') (cut_by error)
       by step.HistoryFull why = why
       by step.NoMemory why = tt
+      by step.SegmentFull why = absurd why

@@ -2,7 +2,7 @@
 use Rattle.std.proofs.Common.{◌≡◌, ℕ, Bool, true, false, not, cond, List, [], ◌∷◌, ◌++◌, ◌||◌, ◌&&◌, ◌==◌, Option, Some, Result, Ok, Err, refl, sym, ap, ◌∙◌, subst}
 use Rattle.std.specs.Option.{option_map_or}
 use Rattle.std.specs.Result.{IsOk, OnOk, OnErr, MatchResult}
-use Rattle.std.proofs.lemmas.Bool.{true≢false, eq-eqb, ne_eqb, eqb-true}
+use Rattle.std.proofs.lemmas.Bool.{true≢false, false≢true, eq-eqb, ne_eqb, eqb-true}
 use Rattle.std.proofs.lemmas.List.Elements.{All-head, All-tail}
 use Rattle.cache_law.specs.declared.call.Call.{Call}
 use Rattle.cache_law.specs.declared.call.Call.TheVariants.{Begin, Draw, Lookup, Pick, Insert, Ban, BanList, Purge, Xkey, SetHealth, Load, Switch, Discard, VclList, Drop, End}
@@ -10,10 +10,11 @@ use Rattle.cache_law.specs.declared.call.Reply.{Reply}
 use Rattle.cache_law.specs.declared.call.Entry.{Entry}
 use Rattle.cache_law.specs.declared.cache.Told.{Told}
 use Rattle.cache_law.specs.declared.cache.StepError.{StepError}
-use Rattle.cache_law.specs.declared.cache.StepError.TheVariants.{HistoryFull, NoMemory}
+use Rattle.cache_law.specs.declared.cache.StepError.TheVariants.{HistoryFull, NoMemory, SegmentFull}
 use Rattle.cache_law.specs.declared.state.OpenRound.{OpenRound}
 use Rattle.cache_law.specs.Beginning.{Beginning}
 use Rattle.cache_law.specs.Core.{entry_of}
+use Rattle.cache_law.proofs.Segmenting.{never_full}
 use Rattle.cache_law.specs.History.{Follows, Legal, next_state, reached_from, reached}
 use Rattle.cache_law.specs.Law.{Step, answered, begun, ended, refused, behind}
 use Rattle.cache_law.specs.State.{State, at_moment, has_round, has_fetch, remembering, with_wait, without_round_of}
@@ -226,19 +227,20 @@ declined_opens k after reading call error knows made =
 
 -- the End of an open round isn't declined
 end_fits : (k after : CallerKnows) (reading : ℕ) (error : StepError) → after ≡ saw k after.seen → SeesLegal after → has_open k ≡ true → (b : Beginning) → k.setting ≡ Some b
-    → Grown caller_of k after.seen → Cause b after.seen k.number reading End error → ⊥
-end_fits k after reading HistoryFull knows legal opened b begins grown cause =
+    → b.params.segments ≡ false → Grown caller_of k after.seen → Cause b after.seen k.number reading End error → ⊥
+end_fits k after reading HistoryFull knows legal opened b begins whole grown cause =
     let same : Some b ≡ Some legal.beginning = sym (setting_same k after b knows begins) ∙ legal.begins in
     let is : b ≡ legal.beginning = cc in
     cause (ending_fits b after.seen k.number _ (subst (λ (z : Beginning). Legal z after.seen) (sym is) legal.legal) (grown_opens k after b knows begins grown ∙ opened))
-end_fits k after reading NoMemory knows legal opened b begins grown cause = cause (grown_opens k after b knows begins grown ∙ opened)
+end_fits k after reading NoMemory knows legal opened b begins whole grown cause = cause (grown_opens k after b knows begins grown ∙ opened)
+end_fits k after reading SegmentFull knows legal opened b begins whole grown cause = absurd (false≢true (sym (never_full b.params (reached b after.seen) after.seen k.number End whole) ∙ cause))
 
 pub end_made : (result : Result Told StepError) (k after : CallerKnows) (reading : ℕ) (call : Call) → call ≡ End → after ≡ saw k after.seen → SeesLegal after → has_open k ≡ true
     → MatchResult result (Called k after reading call) (Declined k after reading call) → IsOk result
 end_made (Ok told) k after reading call is knows legal opened answer = refl
 end_made (Err error) k after reading call is knows legal opened answer =
     let made = subst (λ (c : Call). Declined k after reading c error) is answer in
-    absurd (end_fits k after reading error knows legal opened made.beginning made.begins made.grown made.cause)
+    absurd (end_fits k after reading error knows legal opened made.beginning made.begins made.unsegmented made.grown made.cause)
 
 pub opened_so : (result : Result Told StepError) (k after : CallerKnows) (reading : ℕ) (call : Call) → after ≡ saw k after.seen
     → MatchResult result (Called k after reading call) (Declined k after reading call) → OnOk result (has_open after ≡ opened_by call true (has_open k))

@@ -12,9 +12,11 @@ answered_of NoMemory = answered.NoMemory
 answered_of HistoryFull = answered.HistoryFull
 answered_of WriteFault = answered.WriteFault
 
+-- how a call that made no entry cuts a round short: no segment ends before a call, since none are kept
 abbrev pub cut_by : StepError → Cut
 cut_by step.HistoryFull = HistoryFull
 cut_by step.NoMemory = NoMemory
+cut_by step.SegmentFull = HistoryFull
 
 -- of a round that was led to its End, or was cut short; and whether its response says that the connection closes
 abbrev pub answered_so : {T : Type 0} → Result T Cut → Bool → Answered

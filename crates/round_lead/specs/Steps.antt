@@ -104,6 +104,7 @@ pub record Refused (k' : CallerKnows) (reads reads' : Option Tape) (call : Call)
 abbrev pub RefusedFor : StepError → CallerKnows → Option Tape → Option Tape → Call → Type 0
 RefusedFor step.HistoryFull k' reads reads' call = Refused k' reads reads' call
 RefusedFor step.NoMemory k' reads reads' call = Unit {0}
+RefusedFor step.SegmentFull k' reads reads' call = ⊥
 
 -- No call was made, or it was declined.
 pub record Declines (k k' : CallerKnows) (reads reads' : Option Tape) (p p' : Progress) (call : Call) (error : StepError) : Type 0 where

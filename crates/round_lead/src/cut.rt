@@ -25,12 +25,12 @@ pub(crate) fn ended_by(cut: Cut) -> Answered
     }
 }
 
-/// How a round is cut short by a call that made no entry.
+/// How a round is cut short by a call that made no entry. No segment ends before a call, since none are kept.
 pub(crate) fn cut_at(error: StepError) -> Cut
     ensures { result ≡ cut_by error }
 {
     match error {
-        StepError::HistoryFull => Cut::HistoryFull,
+        StepError::HistoryFull | StepError::SegmentFull => Cut::HistoryFull,
         StepError::NoMemory => Cut::NoMemory,
     }
 }

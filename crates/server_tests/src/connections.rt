@@ -3,10 +3,9 @@
 // those of its reads and writes that fail, `replies` (`backends.rt`) and `route` for how `vcl_recv` ends (it looks up,
 // or passes).
 ghost use Rattle.std.specs.Prelude.{◌≡◌, [], false, IfOk};
-ghost use Rattle.cache_law.specs.History.{Legal};
 ghost use Rattle.turnstile.specs.Handles.{known};
 ghost use Rattle.shared_cache.specs.Passes.{IsPassOf};
-ghost use Rattle.shared_cache.specs.Sharing.{SeesLegal};
+ghost use Rattle.shared_cache.specs.Sharing.{IsKeptWhole, SeesLegal};
 ghost use Rattle.round_lead.specs.Seen.{has_open};
 
 use crate::backends::dialer_of;
@@ -37,12 +36,13 @@ fn boot(alloc: Global, row: &str) -> Result<Boot, AllocError> {
 
 // A cache whose history has the row's limit.
 fn core(alloc: Global, row: &str) -> Result<FlatCore, AllocError>
-    ensures { IfOk result (λ core. (⟦<FlatCore as CacheCore>⟧.history core ≡ []) × Legal (⟦<FlatCore as CacheCore>⟧.beginning core) []
+    ensures { IfOk result (λ core. (⟦<FlatCore as CacheCore>⟧.history core ≡ []) × IsKeptWhole (⟦<FlatCore as CacheCore>⟧.beginning core) []
         × ((⟦<FlatCore as CacheCore>⟧.beginning core).base.rounds ≡ [])) }
 {
     let params = Params {
         room: Params::DEFAULT_ROOM,
         history: number(row, "history", HISTORY),
+        segments: false,
     };
     FlatCore::make(alloc, &params, boot(alloc, row)?)
 }

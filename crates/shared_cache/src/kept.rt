@@ -1,7 +1,8 @@
 // The cache as the value of a turn lock.
 ghost use Rattle.std.specs.Prelude.{◌≡◌, IfNone, IfSome, Some};
-ghost use Rattle.cache_law.specs.History.{HasWaited, Legal, reached};
+ghost use Rattle.cache_law.specs.History.{HasWaited, reached};
 ghost use Rattle.cache_law.specs.State.{awaits, is_closed};
+ghost use Rattle.shared_cache.specs.Sharing.{IsKeptWhole};
 
 use cache_law::{Boot, CacheCore, Call, Entry, Params};
 use std::marker::Model;
@@ -22,7 +23,7 @@ impl Model for Origin {
     ghost view = { λ o. beginning_of o.params o.boot };
 }
 
-/// The cache in the lock. Between turns its history is legal.
+/// The cache in the lock. Between turns its history is legal. It isn't kept in segments.
 #[derive(Drop)]
 pub(crate) struct Kept<C> {
     pub core: C,
@@ -39,7 +40,7 @@ impl<C: CacheCore> Chronicle for Kept<C> {
 
     ghost setting = { λ kept. C.beginning kept.core };
 
-    ghost Sound = { λ kept. Legal (C.beginning kept.core) (C.history kept.core) };
+    ghost Sound = { λ kept. IsKeptWhole (C.beginning kept.core) (C.history kept.core) };
 
     ghost closed = { λ beginning token entries. is_closed (reached beginning entries).fetches token };
 

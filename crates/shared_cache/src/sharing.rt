@@ -1,6 +1,6 @@
 // The shared cache and its calls.
 ghost use Rattle.std.specs.Prelude.{◌≡◌, ◌<◌, [], IfOk, IfErr, IfSome, MatchResult, ℕ, Some, true};
-ghost use Rattle.cache_law.specs.History.{HasWaited, Legal, reached};
+ghost use Rattle.cache_law.specs.History.{HasWaited, reached};
 ghost use Rattle.wire.specs.Tapes.{Tells};
 
 use crate::kept::{Kept, Origin};
@@ -25,9 +25,9 @@ impl<C: CacheCore> SharedCache<C> {
     ghost use Rattle.cache_law.specs.State.{is_closed};
     ghost use Rattle.turnstile.specs.Handles.{known, held_known, number_of, IsHeldOf};
     ghost use Rattle.shared_cache.specs.Passes.{IsPassOf};
-    ghost use Rattle.shared_cache.specs.Sharing.{caller_of, SeesLegal, Called, Declined};
+    ghost use Rattle.shared_cache.specs.Sharing.{caller_of, IsKeptWhole, SeesLegal, Called, Declined};
 
-    /// Shares a cache, which has no entry yet, and gives the first pass, under the number `first`, with every number above
+    /// Shares a cache, which has no entry yet and keeps no segments, and gives the first pass, under the number `first`, with every number above
     /// it to give. For want of memory the cache comes back.
     pub fn open(
         alloc: Global,
@@ -35,7 +35,7 @@ impl<C: CacheCore> SharedCache<C> {
         first: u32,
     ) -> Result<(SharedCache<C>, CachePass), Returned<C>>
         requires empty { C.history core ≡ [] }
-        requires legal { Legal (C.beginning core) [] }
+        requires whole { IsKeptWhole (C.beginning core) [] }
         ensures pass { IfOk result (λ r. IsPassOf r.0 r.1 × (known r.1 ≡ opened first (C.beginning core))) }
         ensures err { IfErr result (λ r. r.value ≡ core) }
     {
@@ -103,7 +103,7 @@ impl<C: CacheCore> SharedCache<C> {
         ensures held { IsHeldOf self.now.lock result × (held_known result ≡ saw (known pass.old) (C.history result.value.core)) }
         ensures history { Meets caller_of (known pass.old) (C.history result.value.core) }
         ensures setting { (known pass.old).setting ≡ Some (C.beginning result.value.core) }
-        ensures legal { Legal (C.beginning result.value.core) (C.history result.value.core) }
+        ensures whole { IsKeptWhole (C.beginning result.value.core) (C.history result.value.core) }
         ensures waited { HasWaited (reached (C.beginning result.value.core) (C.history result.value.core)) (number_of pass.old) call.now }
     {
         let number = pass.number();
@@ -126,7 +126,7 @@ impl<C: CacheCore> SharedCache<C> {
         ensures held { IsHeldOf self.now.lock result × (held_known result ≡ saw (known pass.old) (C.history result.value.core)) }
         ensures history { Meets caller_of (known pass.old) (C.history result.value.core) }
         ensures setting { (known pass.old).setting ≡ Some (C.beginning result.value.core) }
-        ensures legal { Legal (C.beginning result.value.core) (C.history result.value.core) }
+        ensures whole { IsKeptWhole (C.beginning result.value.core) (C.history result.value.core) }
         ensures closed { IfSome token (λ t. is_closed (reached (C.beginning result.value.core) (C.history result.value.core)).fetches t ≡ true) }
     {
         match token {

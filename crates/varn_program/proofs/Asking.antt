@@ -1,5 +1,5 @@
 -- Words ask for one replay at most.
-use Rattle.std.proofs.Common.{◌≡◌, ◌<◌, ◌≤◌, get_or, inl, inr, ℕ, List, [], ◌∷◌, length, sym, ◌∙◌, ap, arith}
+use Rattle.std.proofs.Common.{◌≡◌, Bool, false, ◌<◌, ◌≤◌, get_or, inl, inr, ℕ, List, [], ◌∷◌, length, sym, ◌∙◌, ap, arith}
 use Rattle.std.specs.Prelude.{codes}
 use Rattle.std.proofs.lemmas.Fmt.{decimal_injective}
 use Rattle.units.specs.Numbers.{IsNumber}
@@ -42,8 +42,15 @@ pub one_replay : (words : List (List ℕ)) (one other : Params) → AsksReplay w
 one_replay [] one other p q = absurd p
 one_replay (word ∷ options) one other p q =
     let same = same_limits options one.room one.history other.room other.history p.1 q.1 in
-    let limits : ℕ → ℕ → Params = λ room history. record { room = room; history = history } in
-    ap (λ room. limits room other.history) (sym same.0) ∙ ap (λ history. limits one.room history) (sym same.1)
+    let limits : ℕ → ℕ → Bool → Params = λ room history segments. record { room = room; history = history; segments = segments } in
+    ap (λ room. limits room other.history other.segments) (sym same.0)
+    ∙ ap (λ history. limits one.room history other.segments) (sym same.1)
+    ∙ ap (λ segments. limits one.room one.history segments) (q.2 ∙ sym p.2)
+
+-- a replay keeps no segments
+pub unsegmented_of : (words : List (List ℕ)) (params : Params) → AsksReplay words params → params.segments ≡ false
+unsegmented_of [] params asks = absurd asks
+unsegmented_of (word ∷ options) params asks = asks.2
 
 -- the words of a list of two
 pub two_words : (words : List (List ℕ)) (first second : List ℕ) → 2 ≤ length words → length words < 3 → first ≡ get_or words 0 first → second ≡ get_or words 1 second → first ∷ second ∷ [] ≡ words

@@ -179,19 +179,19 @@ pub read_all : (words : List Text) (a b : Option Text) (params : Params) → Are
 read_all [] a b params t = absurd t
 read_all (word ∷ []) a b params t = let here = none word in (here.0 ∙ sym t.0.0, here.1 ∙ sym t.0.1)
 read_all (word ∷ name ∷ []) a b params t = absurd t.0
-read_all (word ∷ name ∷ value ∷ []) a b params (inl x, p, q) =
+read_all (word ∷ name ∷ value ∷ []) a b params (inl x, p, q, whole) =
     renamed word (name ∷ value ∷ []) (codes "--room" ∷ value ∷ []) a b (ap (λ (n : Text). n ∷ value ∷ []) x.0.0)
     (walked_to word (codes "--room" ∷ value ∷ []) (given (codes "room") [] value) (Some value) None a b (after_room word value (plain_value a value params.room x.0.1 p)) (of_room value) x.0.1 x.1)
-read_all (word ∷ name ∷ value ∷ []) a b params (inr x, p, q) =
+read_all (word ∷ name ∷ value ∷ []) a b params (inr x, p, q, whole) =
     renamed word (name ∷ value ∷ []) (codes "--history" ∷ value ∷ []) a b (ap (λ (n : Text). n ∷ value ∷ []) x.0.0)
     (walked_to word (codes "--history" ∷ value ∷ []) (given (codes "history") [] value) None (Some value) a b (after_history word value (plain_value b value params.history x.0.1 q)) (of_history value) x.1 x.0.1)
 read_all (word ∷ name ∷ value ∷ other ∷ []) a b params t = absurd t.0
-read_all (word ∷ name ∷ value ∷ other ∷ text ∷ []) a b params (inl x, p, q) =
+read_all (word ∷ name ∷ value ∷ other ∷ text ∷ []) a b params (inl x, p, q, whole) =
     renamed word (name ∷ value ∷ other ∷ text ∷ []) (codes "--room" ∷ value ∷ codes "--history" ∷ text ∷ []) a b
     (ap (λ (n : Text). n ∷ value ∷ other ∷ text ∷ []) x.0.0 ∙ ap (λ (n : Text). codes "--room" ∷ value ∷ n ∷ text ∷ []) x.1.0)
     (walked_to word (codes "--room" ∷ value ∷ codes "--history" ∷ text ∷ []) (given (codes "history") (row_of_room value) text) (Some value) (Some text) a b
     (after_both value text (plain_value a value params.room x.0.1 p) (plain_value b text params.history x.1.1 q)) (of_both value text) x.0.1 x.1.1)
-read_all (word ∷ name ∷ value ∷ other ∷ text ∷ []) a b params (inr x, p, q) =
+read_all (word ∷ name ∷ value ∷ other ∷ text ∷ []) a b params (inr x, p, q, whole) =
     renamed word (name ∷ value ∷ other ∷ text ∷ []) (codes "--history" ∷ value ∷ codes "--room" ∷ text ∷ []) a b
     (ap (λ (n : Text). n ∷ value ∷ other ∷ text ∷ []) x.0.0 ∙ ap (λ (n : Text). codes "--history" ∷ value ∷ n ∷ text ∷ []) x.1.0)
     (walked_to word (codes "--history" ∷ value ∷ codes "--room" ∷ text ∷ []) (given (codes "room") (row_of_history value) text) (Some text) (Some value) a b

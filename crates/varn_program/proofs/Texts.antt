@@ -1,5 +1,5 @@
 -- The words of a replay as texts.
-use Rattle.std.proofs.Common.{◌≡◌, inl, inr, ℕ, List, [], ◌∷◌, Option, Some, None, codes, refl, sym, ◌∙◌, subst, All, IsUtf8, rules}
+use Rattle.std.proofs.Common.{◌≡◌, false, inl, inr, ℕ, List, [], ◌∷◌, Option, Some, None, codes, refl, sym, ◌∙◌, subst, All, IsUtf8, rules}
 use Rattle.std.proofs.lemmas.Fmt.{IsAscii-decimal, decimal_injective}
 use Rattle.std.proofs.lemmas.Str.{IsUtf8-from_ascii}
 use Rattle.std.proofs.lemmas.List.Elements.{All-cons, All-nil}
@@ -18,15 +18,15 @@ value_of wanted name value n option = (option.value_is, option.within)
 
 pub texts_of : (words : List (List ℕ)) (params : Params) → AsksReplay words params → Texts words params
 texts_of [] params asks = absurd asks
-texts_of (word ∷ []) params asks = (None, None, ((refl, refl), asks.1.0, asks.1.1))
+texts_of (word ∷ []) params asks = (None, None, ((refl, refl), asks.1.0, asks.1.1, asks.2))
 texts_of (word ∷ name ∷ []) params asks = absurd asks.1
-texts_of (word ∷ name ∷ value ∷ []) params (is, inl x) = (Some value, None, (inl ((x.0.name_is, refl), refl), value_of _ name value params.room x.0, x.1))
-texts_of (word ∷ name ∷ value ∷ []) params (is, inr x) = (None, Some value, (inr ((x.0.name_is, refl), refl), x.1, value_of _ name value params.history x.0))
+texts_of (word ∷ name ∷ value ∷ []) params (is, inl x, whole) = (Some value, None, (inl ((x.0.name_is, refl), refl), value_of _ name value params.room x.0, x.1, whole))
+texts_of (word ∷ name ∷ value ∷ []) params (is, inr x, whole) = (None, Some value, (inr ((x.0.name_is, refl), refl), x.1, value_of _ name value params.history x.0, whole))
 texts_of (word ∷ name ∷ value ∷ other ∷ []) params asks = absurd asks.1
-texts_of (word ∷ name ∷ value ∷ other ∷ text ∷ []) params (is, inl x) =
-    (Some value, Some text, (inl ((x.0.name_is, refl), (x.1.name_is, refl)), value_of _ name value params.room x.0, value_of _ other text params.history x.1))
-texts_of (word ∷ name ∷ value ∷ other ∷ text ∷ []) params (is, inr x) =
-    (Some text, Some value, (inr ((x.0.name_is, refl), (x.1.name_is, refl)), value_of _ other text params.room x.1, value_of _ name value params.history x.0))
+texts_of (word ∷ name ∷ value ∷ other ∷ text ∷ []) params (is, inl x, whole) =
+    (Some value, Some text, (inl ((x.0.name_is, refl), (x.1.name_is, refl)), value_of _ name value params.room x.0, value_of _ other text params.history x.1, whole))
+texts_of (word ∷ name ∷ value ∷ other ∷ text ∷ []) params (is, inr x, whole) =
+    (Some text, Some value, (inr ((x.0.name_is, refl), (x.1.name_is, refl)), value_of _ other text params.room x.1, value_of _ name value params.history x.0, whole))
 texts_of (word ∷ name ∷ value ∷ other ∷ text ∷ more ∷ words) params asks = absurd asks.1
 
 -- ---- UTF-8
@@ -72,7 +72,7 @@ all_utf8 (word ∷ options) params asks =
 pub same_number : (text : List ℕ) (m n : ℕ) → IsNumber text m → IsNumber text n → m ≡ n
 same_number text m n x y = decimal_injective m n x.0 y.0 (sym x.1 ∙ y.1)
 
--- the numbers of the texts
-pub values_of : (words : List (List ℕ)) (a b : Option (List ℕ)) (params : Params) → AreTexts words a b params → IsValue a params.room × IsValue b params.history
+-- the numbers of the texts, and no segments
+pub values_of : (words : List (List ℕ)) (a b : Option (List ℕ)) (params : Params) → AreTexts words a b params → IsValue a params.room × IsValue b params.history × (params.segments ≡ false)
 values_of [] a b params t = absurd t
-values_of (word ∷ options) a b params t = (t.1, t.2)
+values_of (word ∷ options) a b params t = (t.1, t.2, t.3)

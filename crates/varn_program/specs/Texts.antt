@@ -1,5 +1,5 @@
 -- The texts of the options of a replay, and the numbers that they write.
-use Rattle.std.specs.Prelude.{◌≡◌, ◌⊎◌, ◌≤◌, ℕ, List, [], ◌∷◌, codes, Option, Some, None}
+use Rattle.std.specs.Prelude.{◌≡◌, false, ◌⊎◌, ◌≤◌, ℕ, List, [], ◌∷◌, codes, Option, Some, None}
 use Rattle.units.specs.Numbers.{IsNumber}
 use Rattle.cache_law.specs.declared.setting.Params.{Params}
 use Rattle.varn_program.specs.Words.{most, usual}
@@ -24,7 +24,8 @@ HasTexts (name ∷ []) room history = ⊥
 HasTexts (name ∷ value ∷ other ∷ []) room history = ⊥
 HasTexts (name ∷ value ∷ other ∷ number ∷ word ∷ words) room history = ⊥
 
--- the words are one behind which options with these texts stand, and the texts are the numbers of these limits
+-- the words are one behind which options with these texts stand, the texts are the numbers of these limits, and no segments are
+-- kept
 abbrev pub AreTexts : List (List ℕ) → Option (List ℕ) → Option (List ℕ) → Params → Type 0
 AreTexts [] room history params = ⊥
-AreTexts (word ∷ options) room history params = HasTexts options room history × IsValue room params.room × IsValue history params.history
+AreTexts (word ∷ options) room history params = HasTexts options room history × IsValue room params.room × IsValue history params.history × (params.segments ≡ false)

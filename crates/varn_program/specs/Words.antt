@@ -1,5 +1,5 @@
 -- The words that ask for a replay.
-use Rattle.std.specs.Prelude.{◌≡◌, ◌⊎◌, ◌≤◌, ℕ, List, [], ◌∷◌, codes}
+use Rattle.std.specs.Prelude.{◌≡◌, false, ◌⊎◌, ◌≤◌, ℕ, List, [], ◌∷◌, codes}
 use Rattle.units.specs.Numbers.{IsNumber}
 use Rattle.cache_law.specs.declared.setting.Params.{Params}
 
@@ -34,7 +34,7 @@ Gives (name ∷ []) room history = ⊥
 Gives (name ∷ value ∷ other ∷ []) room history = ⊥
 Gives (name ∷ value ∷ other ∷ number ∷ word ∷ words) room history = ⊥
 
--- the words are `replay`, and behind it the options of these limits
+-- the words are `replay`, and behind it the options of these limits; a replay keeps no segments
 abbrev pub AsksReplay : List (List ℕ) → Params → Type 0
 AsksReplay [] params = ⊥
-AsksReplay (word ∷ options) params = (word ≡ codes "replay") × Gives options params.room params.history
+AsksReplay (word ∷ options) params = (word ≡ codes "replay") × Gives options params.room params.history × (params.segments ≡ false)

@@ -1,5 +1,5 @@
 // The top call.
-ghost use Rattle.std.specs.Prelude.{◌≡◌, ◌⊎◌, [], IfOk, Some, None};
+ghost use Rattle.std.specs.Prelude.{◌≡◌, ◌⊎◌, false, [], IfOk, Some, None};
 ghost use Rattle.cache_law.specs.declared.setting.Params.{Params as Limits};
 ghost use Rattle.vcl_library.specs.Functions.{std_functions};
 ghost use Rattle.varn_program.specs.Run.{Ends, EndsReplay, IsComplete, opening_boot, outcome_of};
@@ -78,7 +78,8 @@ pub fn replay<C: LurkCore + Drop, S: Source, K: Sink>(
     source: &mut S,
     sink: &mut K,
 ) -> Outcome
-    requires { vmods.now.stored ≡ std_functions }
+    requires functions { vmods.now.stored ≡ std_functions }
+    requires unsegmented { params.now.segments ≡ false }
     ensures ends { EndsReplay vmods.now.stored params.now (S.left source.old) (S.left source.new) (K.held sink.old) (K.held sink.new) result }
     ensures complete { IsComplete vmods.now.stored params.now (S.left source.old) (K.held sink.old) (K.held sink.new) (Rose (S.faults source.old) (S.faults source.new) ⊎ Rose (K.faults sink.old) (K.faults sink.new)) result }
     ensures read_fault { result.status ≡ Status.ReadFault → Rose (S.faults source.old) (S.faults source.new) }

@@ -1,5 +1,5 @@
 // A replay with the stored functions that the program has.
-ghost use Rattle.std.specs.Prelude.{◌≡◌, ◌⊎◌, IfOk, OnErr};
+ghost use Rattle.std.specs.Prelude.{◌≡◌, ◌⊎◌, false, IfOk, OnErr};
 ghost use Rattle.vcl_library.specs.Functions.{std_functions, std_signature};
 ghost use Rattle.varn_program.specs.Run.{EndsReplay, IsComplete};
 ghost use Rattle.wire.specs.Causes.{Rose};
@@ -37,6 +37,7 @@ fn try_replay<C: LurkCore + Drop, S: Source, K: Sink>(
     source: &mut S,
     sink: &mut K,
 ) -> Result<Outcome, AllocError>
+    requires { params.now.segments ≡ false }
     ensures ends { IfOk result (λ outcome. EndsReplay std_functions params.now (S.left source.old) (S.left source.new) (K.held sink.old) (K.held sink.new) outcome) }
     ensures complete { IfOk result (λ outcome. IsComplete std_functions params.now (S.left source.old) (K.held sink.old) (K.held sink.new) (Rose (S.faults source.old) (S.faults source.new) ⊎ Rose (K.faults sink.old) (K.faults sink.new)) outcome) }
     ensures read_fault { IfOk result (λ outcome. outcome.status ≡ Status.ReadFault → Rose (S.faults source.old) (S.faults source.new)) }
@@ -93,6 +94,7 @@ pub fn replay_with_std<C: LurkCore + Drop, S: Source, K: Sink>(
     source: &mut S,
     sink: &mut K,
 ) -> Outcome
+    requires { params.now.segments ≡ false }
     ensures ends { EndsReplay std_functions params.now (S.left source.old) (S.left source.new) (K.held sink.old) (K.held sink.new) result }
     ensures complete { IsComplete std_functions params.now (S.left source.old) (K.held sink.old) (K.held sink.new) (Rose (S.faults source.old) (S.faults source.new) ⊎ Rose (K.faults sink.old) (K.faults sink.new)) result }
     ensures read_fault { result.status ≡ Status.ReadFault → Rose (S.faults source.old) (S.faults source.new) }

@@ -49,6 +49,7 @@ fn read_texts<'a>(alloc: Global, words: &'a [&'a str]) -> Result<Params, AllocEr
         Ok(matches) => Ok(Params {
             room: number_or(matches.get_str("room"), Params::DEFAULT_ROOM),
             history: number_or(matches.get_str("history"), Params::DEFAULT_HISTORY),
+            segments: false,
         }),
         Err(_) => Err(AllocError),
     }

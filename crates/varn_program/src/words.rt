@@ -1,5 +1,5 @@
 // What the words of the command line ask for.
-ghost use Rattle.std.specs.Prelude.{◌≡◌, ◌↔◌, ◌∷◌, [], ℕ, IsTrue, IfOk, OnErr, MatchOption};
+ghost use Rattle.std.specs.Prelude.{◌≡◌, ◌↔◌, false, ◌∷◌, [], ℕ, IsTrue, IfOk, OnErr, MatchOption};
 ghost use Rattle.cache_law.specs.declared.setting.Params.{Params as Limits};
 ghost use Rattle.varn_program.specs.Words.{AsksReplay, Gives, IsHistory, IsOption, IsRoom};
 
@@ -37,18 +37,20 @@ fn number_of(wanted: &[u8], name: &Text, value: &Text) -> Option<u64>
 
 // The limits by one option.
 fn limits_by_one(name: &Text, value: &Text) -> Option<Params>
-    ensures { MatchOption result ((room history : ℕ) → Gives (name.now ∷ value.now ∷ []) room history → ⊥) (λ params. Gives (name.now ∷ value.now ∷ []) params.room params.history) }
+    ensures { MatchOption result ((room history : ℕ) → Gives (name.now ∷ value.now ∷ []) room history → ⊥) (λ params. Gives (name.now ∷ value.now ∷ []) params.room params.history × (params.segments ≡ false)) }
 {
     if let Some(room) = number_of(ROOM, name, value) {
         return Some(Params {
             room,
             history: Params::DEFAULT_HISTORY,
+            segments: false,
         });
     }
     let history = number_of(HISTORY, name, value)?;
     Some(Params {
         room: Params::DEFAULT_ROOM,
         history,
+        segments: false,
     })
 }
 
@@ -56,24 +58,26 @@ fn limits_by_one(name: &Text, value: &Text) -> Option<Params>
 fn limits_by_both(room: (&Text, &Text), history: (&Text, &Text)) -> Option<Params>
     ensures { MatchOption result
         ((most held : ℕ) → IsRoom room.entry.0.now room.entry.1.now most → IsHistory history.entry.0.now history.entry.1.now held → ⊥)
-        (λ params. IsRoom room.entry.0.now room.entry.1.now params.room × IsHistory history.entry.0.now history.entry.1.now params.history) }
+        (λ params. IsRoom room.entry.0.now room.entry.1.now params.room × IsHistory history.entry.0.now history.entry.1.now params.history × (params.segments ≡ false)) }
 {
     let most = number_of(ROOM, room.0, room.1)?;
     let held = number_of(HISTORY, history.0, history.1)?;
     Some(Params {
         room: most,
         history: held,
+        segments: false,
     })
 }
 
 // The limits that the options give.
 fn limits_by(options: &[Text]) -> Option<Params>
-    ensures { MatchOption result ((room history : ℕ) → Gives options.now room history → ⊥) (λ params. Gives options.now params.room params.history) }
+    ensures { MatchOption result ((room history : ℕ) → Gives options.now room history → ⊥) (λ params. Gives options.now params.room params.history × (params.segments ≡ false)) }
 {
     match options {
         [] => Some(Params {
             room: Params::DEFAULT_ROOM,
             history: Params::DEFAULT_HISTORY,
+            segments: false,
         }),
         [name, value] => limits_by_one(name, value),
         [name, value, other, number] => match limits_by_both((name, value), (other, number)) {

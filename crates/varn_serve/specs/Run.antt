@@ -33,7 +33,7 @@ use Rattle.varn_serve.specs.declared.ending.VclNote.{VclNote}
 use Rattle.varn_serve.specs.Endings.{rounds_in, rounds_line}
 
 abbrev pub limits_of : ServeOptions → Params
-limits_of order = record { room = order.room; history = order.history }
+limits_of order = record { room = order.room; history = order.history; segments = false }
 
 -- ---- the history
 

@@ -117,6 +117,7 @@ where
     let params = Params {
         room: order.room,
         history: order.history,
+        segments: false,
     };
     let Ok(core) = FlatCore::make(alloc, &params, boot) else {
         return Err(Status::NoMemory);

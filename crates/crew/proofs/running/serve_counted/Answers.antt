@@ -5,8 +5,8 @@ use Rattle.shared_cache.specs.Sharing.{CallerKnows}
 use Rattle.crew.specs.Opening.{IsFirst}
 use Rattle.crew.proofs.running.serve_counted.Goals as goal
 
-pub open_all-requires-clause-legal : goal.open_all-requires-clause-legal
-open_all-requires-clause-legal g c = c.requires.can_begin.legal
+pub open_all-requires-clause-whole : goal.open_all-requires-clause-whole
+open_all-requires-clause-whole g c = record { legal = c.requires.can_begin.legal; unsegmented = c.requires.can_begin.unsegmented }
 
 pub run_all-requires-clause-first : goal.run_all-requires-clause-first
 run_all-requires-clause-first g c =

@@ -1,8 +1,12 @@
-use Rattle.std.proofs.Common.{◌≡◌, Err, refl}
+use Rattle.std.proofs.Common.{◌≡◌, Err, List, refl}
 use Rattle.std.specs.Prelude.{IsErrOf}
+use Rattle.cache_law.specs.declared.call.Entry.{Entry}
 use Rattle.cache_law.specs.declared.cache.Told.{Told}
 use Rattle.cache_law.specs.declared.cache.StepError.{StepError}
-use Rattle.cache_law.specs.declared.cache.StepError.TheVariants.{HistoryFull, NoMemory}
+use Rattle.cache_law.specs.declared.cache.StepError.TheVariants.{HistoryFull, NoMemory, SegmentFull}
+use Rattle.cache_law.specs.Beginning.{Beginning}
+use Rattle.cache_law.specs.History.{reached}
+use Rattle.cache_law.proofs.Segmenting.{never_told}
 use Rattle.replay.specs.Plan.{plan_of}
 use Rattle.replay.specs.declared.policy.Want.TheVariants as wants
 use Rattle.replay.proofs.Asking.{others_as_told, own_as_told, asked, met, leads_on, can_on, due, too_much, told_answers, still_in_step}
@@ -13,6 +17,13 @@ use Rattle.replay.proofs.rounds.ask.Goals as goal
 is_full : (error : StepError) → error ≡ HistoryFull → IsErrOf {T = Told} {E = StepError} (Err error) HistoryFull
 is_full HistoryFull is = refl
 is_full NoMemory is = absurd (cc)
+is_full SegmentFull is = absurd (cc)
+
+pub unreachable-requires : goal.unreachable-requires
+unreachable-requires g c =
+    let beginning : Beginning = g.C.CacheCore.beginning c.args.core.now in
+    let entries : List Entry = g.C.CacheCore.history c.args.core.now in
+    never_told beginning.params (reached beginning entries) entries c.args.client c.args.call c.in-Err-SegmentFull.field-0 c.requires.in_step.unsegmented c.in-Err-SegmentFull.ensures.segment.0 c.in-Err-SegmentFull.field-0-is
 
 pub returns-in-Err-HistoryFull-clause-asked : goal.returns-in-Err-HistoryFull-clause-asked
 returns-in-Err-HistoryFull-clause-asked g c = λ kept scene at turn.

@@ -6,8 +6,8 @@ use Rattle.varn_program.proofs.Outcomes.{replay_ends, complete_at, not_refused, 
 use Rattle.varn_program.proofs.Sessions.{session-vcl}
 use Rattle.varn_program.proofs.command.replay.Goals as goal
 
-pub run_session-replayed-requires : goal.run_session-replayed-requires
-run_session-replayed-requires g c = has_clients c.in-Ok.text.items c.in-Ok-read.session (subst (λ (bytes : List ℕ). IsSession bytes c.in-Ok-read.session) c.as_slice.ensures.value c.in-Ok-read.ensures.session)
+pub run_session-replayed-requires-clause-clients : goal.run_session-replayed-requires-clause-clients
+run_session-replayed-requires-clause-clients g c = has_clients c.in-Ok.text.items c.in-Ok-read.session (subst (λ (bytes : List ℕ). IsSession bytes c.in-Ok-read.session) c.as_slice.ensures.value c.in-Ok-read.ensures.session)
 
 pub returns-clause-ends : goal.returns-clause-ends
 returns-clause-ends g c =

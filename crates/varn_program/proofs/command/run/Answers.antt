@@ -3,8 +3,11 @@ use Rattle.wire.specs.Causes.{Rose}
 use Rattle.cache_law.specs.declared.setting.Params.{Params}
 use Rattle.vcl_library.specs.Functions.{std_functions}
 use Rattle.varn_program.specs.Run.{IsComplete}
-use Rattle.varn_program.proofs.Asking.{one_replay}
+use Rattle.varn_program.proofs.Asking.{one_replay, unsegmented_of}
 use Rattle.varn_program.proofs.command.run.Goals as goal
+
+pub replay_with_std-requires : goal.replay_with_std-requires
+replay_with_std-requires g c = unsegmented_of c.args.words.now c.in-Ok-Some.params (rw c.in-Ok-Some.field-0-is at c.in-Ok-Some.ensures.asked)
 
 pub returns-in-Ok-Some-clause-complete : goal.returns-in-Ok-Some-clause-complete
 returns-in-Ok-Some-clause-complete g c = λ params asks.

@@ -1,5 +1,5 @@
 -- What clap gives for each option.
-use Rattle.std.proofs.Common.{rules, ap, ap₂, ◌≡◌, ◌∙◌, sym, subst, List, Option, map, option_map, codes}
+use Rattle.std.proofs.Common.{false, rules, ap, ap₂, ◌≡◌, ◌∙◌, sym, subst, List, Option, map, option_map, codes}
 use Rattle.clap.proofs.WalkLemmas.{first_value-rows}
 use Rattle.clap.specs.Walk.{Row, Text, rule_of, first_of}
 use Rattle.clap.specs.Simple.{app_of, is_simple, with_rule, matches_of}
@@ -25,4 +25,5 @@ returns-in-Ok c = λ a b params texts.
     let values = values_of words a b params texts in
     let room_read = c.number_or.ensures params.room (subst (λ (t : Option Text). IsValue t params.room) (sym of_room) values.0) in
     let history_read = c.number_or-in-Ok.ensures params.history (subst (λ (t : Option Text). IsValue t params.history) (sym of_history) values.1) in
-    λ i. record { room = room_read i; history = history_read i }
+    let whole : false ≡ params.segments = sym values.2 in
+    λ i. record { room = room_read i; history = history_read i; segments = whole i }

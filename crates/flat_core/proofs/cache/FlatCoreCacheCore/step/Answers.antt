@@ -1,9 +1,10 @@
-use Rattle.std.proofs.Common.{rules, ap, ℕ, ◌≡◌, ◌+◌, ◌*◌, ◌≤◌, ◌++◌, ◌∷◌, [], arith, length, refl, sym, ◌∙◌}
+use Rattle.std.proofs.Common.{true, rules, ap, ℕ, ◌≡◌, ◌+◌, ◌*◌, ◌≤◌, ◌++◌, ◌∷◌, [], arith, length, refl, sym, ◌∙◌}
 use Rattle.std.specs.Prelude.{IsTrue}
 use Rattle.std.proofs.lemmas.Bool.{false≢true}
 use Rattle.std.specs.Vec.{vec_capacity}
-use Rattle.cache_law.specs.History.{bytes_of, most_entries}
-use Rattle.flat_core.proofs.Steps.{Made, Answered, counted, within_limit, few_behind, numbered_behind, kept_too, sound_behind, entered, legal_behind}
+use Rattle.cache_law.specs.Law.{step_of}
+use Rattle.cache_law.specs.History.{bytes_of, is_numbered, most_entries}
+use Rattle.flat_core.proofs.Steps.{Made, Answered, counted, fits_at, within_limit, few_behind, numbered_behind, kept_too, sound_behind, entered, legal_behind}
 use Rattle.flat_core.proofs.cache.FlatCoreCacheCore.step.Goals as goal
 
 pub returns-then-not-is_numbered-clause-full : goal.returns-then-not-is_numbered-clause-full
@@ -73,6 +74,32 @@ returns-in-Err-clause-kept c =
 pub returns-in-Err-answered-clause-kept : goal.returns-in-Err-answered-clause-kept
 returns-in-Err-answered-clause-kept c =
     rw (← c.self.view_is) (λ kept no_memory. absurd (false≢true (c.in-Err-answered.ensures.kept (kept_too _ _ _ _ _ c.self.invariant c.args.caller c.args.call kept))))
+
+pub returns-in-Err-clause-wanting : goal.returns-in-Err-clause-wanting
+returns-in-Err-clause-wanting c = rw (← c.self.view_is) (λ other no_memory. absurd (false≢true (c.in-Err.ensures.other other)))
+
+pub returns-in-Err-answered-clause-wanting : goal.returns-in-Err-answered-clause-wanting
+returns-in-Err-answered-clause-wanting c =
+    let made : Made = record {
+      beginning = record { params = c.self.inside.params; base = c.self.inside.base.value };
+      entries = c.self.inside.entries.items;
+      room = vec_capacity c.self.inside.entries;
+      used = c.self.inside.used;
+      old = c.self.inside.store;
+      caller = c.args.caller;
+      reading = c.args.reading;
+      moment = c.max-moment.result;
+      call = c.args.call;
+      opens = c.open_after-open.result;
+      sound = c.self.invariant;
+      waited = rw (← c.self.view_is) at c.requires.waited;
+      at_ = search rules;
+      reserves = c.open_after-open.ensures.reserve c.self.inside.params.room;
+    } in
+    let within : made.used + bytes_of made.call + 64 * made.opens ≤ made.beginning.params.history = search rules in
+    let few : made.old.entries + 1 + made.opens ≤ most_entries = search rules in
+    let number : is_numbered (step_of made.beginning.params made.old made.caller made.moment made.call).reply ≡ true = sym (c.is_numbered.ensures c.self.inside.params.room c.args.caller c.max-moment.result) ∙ c.if-not-is_numbered.false in
+    rw (← c.self.view_is) (λ other no_memory. fits_at made number within few)
 
 pub invariant_of-self-2 : goal.invariant_of-self-2
 invariant_of-self-2 c =
