@@ -65,11 +65,16 @@ fields_len fields = sum_by (λ field. length field.name + length field.value) fi
 abbrev pub vary_len : List VaryItem → ℕ
 vary_len vary = sum_by (λ item. length item.name + texts_len item.values) vary
 
+-- a response that was chosen by more than the fields of a request has one name more, `*`
+abbrev pub star_len : Bool → ℕ
+star_len true = 1
+star_len false = 0
+
 -- all texts of an object
 abbrev pub object_len : Object → ℕ
 object_len (Ordinary response) =
     let content = response.content in
-    texts_len content.key + vary_len content.vary + length content.reason + fields_len content.fields + length content.body + texts_len content.xkeys
+    texts_len content.key + star_len content.varies_always + vary_len content.vary + length content.reason + fields_len content.fields + length content.body + texts_len content.xkeys
 object_len (HitForMiss marker) = texts_len marker.key + vary_len marker.vary
 object_len (HitForPass marker) = texts_len marker.key + vary_len marker.vary
 

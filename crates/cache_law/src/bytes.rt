@@ -1,6 +1,6 @@
 // What an object takes of the room, and an entry of the history.
 ghost use Rattle.std.specs.Prelude.{◌≡◌, ◌+◌, ◌*◌, ◌-◌, ◌^◌, length, min};
-ghost use Rattle.cache_law.specs.Object.{fields_len, object_len, size_of, texts_len, vary_len};
+ghost use Rattle.cache_law.specs.Object.{fields_len, object_len, size_of, star_len, texts_len, vary_len};
 ghost use Rattle.cache_law.specs.History.{bytes_of, members_len};
 
 use crate::{Call, Content, Marker, Object, Query, VaryItem, VclSource};
@@ -68,11 +68,19 @@ pub fn object_size(object: &Object) -> u128
     }
 }
 
+/// The name `*`, by which a response was chosen that varies by more than fields.
+fn star_bytes(varies_always: bool) -> usize
+    ensures { result ≡ star_len varies_always }
+{
+    if varies_always { 1 } else { 0 }
+}
+
 fn content_bytes(content: &Content) -> u128
-    ensures { result ≡ min (64 + (texts_len content.now.key + vary_len content.now.vary + length content.now.reason + fields_len content.now.fields + length content.now.body + texts_len content.now.xkeys)) (2 ^ 128 - 1) }
+    ensures { result ≡ min (64 + (texts_len content.now.key + star_len content.now.varies_always + vary_len content.now.vary + length content.now.reason + fields_len content.now.fields + length content.now.body + texts_len content.now.xkeys)) (2 ^ 128 - 1) }
 {
     let key = texts_bytes(64, content.key.as_slice());
-    let vary = vary_bytes(key, content.vary.as_slice());
+    let star = plus(key, star_bytes(content.varies_always));
+    let vary = vary_bytes(star, content.vary.as_slice());
     let reason = plus(vary, content.reason.bytes().len());
     let fields = fields_bytes(reason, content.fields.as_slice());
     let body = plus(fields, content.body.bytes().len());
