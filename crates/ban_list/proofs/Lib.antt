@@ -4,3 +4,4 @@ pub mod CountLemmas
 pub mod IssueLemmas
 pub mod CutLemmas
 pub mod NeededLemmas
+pub mod StandLemmas

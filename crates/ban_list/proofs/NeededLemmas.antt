@@ -28,7 +28,7 @@ split_last (x ∷ y ∷ items) (suc n) long =
     record { others = x ∷ rest.others; last = rest.last; is = ap (λ more. x ∷ more) rest.is; long = ap suc rest.long }
 
 -- ---- lines that are left
-length_needed : (lines : List BanLine) (placed marked : List ℕ) → length (are_needed lines placed marked) ≡ length lines
+pub length_needed : (lines : List BanLine) (placed marked : List ℕ) → length (are_needed lines placed marked) ≡ length lines
 length_needed [] placed marked = refl
 length_needed (line ∷ lines) placed marked = ap suc (length_needed lines (drop 1 placed) (drop 1 marked))
 
@@ -89,7 +89,7 @@ some_before true count counts = omega arith
 some_before false count [] = omega arith
 some_before false count (older ∷ counts) = omega arith
 
-some_left : (stays : List Bool) (counts : List ℕ) → 0 < length counts → 0 < length (counts_left stays counts)
+pub some_left : (stays : List Bool) (counts : List ℕ) → 0 < length counts → 0 < length (counts_left stays counts)
 some_left [] counts some = some
 some_left (one ∷ stays) [] some = some
 some_left (one ∷ stays) (count ∷ counts) some = some_before one count (counts_left stays counts)

@@ -1,3 +1,4 @@
 pub mod Bans
 pub mod Keys
 pub mod Kept
+pub mod Stands

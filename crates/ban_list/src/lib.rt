@@ -8,8 +8,10 @@
 
 mod counts;
 mod keys;
+mod laws;
 mod line;
 mod list;
 
+pub use laws::counts_are_of_objects;
 pub use line::Line;
 pub use list::{BanList, Stand};

@@ -77,9 +77,10 @@ impl BanList {
         })
     }
 
-    /// How many bans were issued, which is the number of the newest.
+    /// How many bans were issued, which is the number of the newest. Along the lines the numbers fall.
     pub fn issued(&self) -> u64
-        ensures { result ≡ self.now.issued }
+        ensures count { result ≡ self.now.issued }
+        ensures in_order { AreFalling (self.now.issued + 1) self.now.lines }
     {
         self.issued
     }

@@ -1,8 +1,9 @@
 // Steps on a list of bans and the objects among them: `ban MOMENT WORDS`, `put NUMBER WORDS`, `enter PLACE MARK`,
-// `depart PLACE MARK`, `cut`, `lines`, `newer NUMBER` and `at NUMBER`.
+// `depart PLACE MARK`, `cut`, `keep`, `lines`, `newer NUMBER`, `at NUMBER`, `line AT`, `shown` and `test AT STATUS URL`.
+use crate::ban_lines::{say_line_at, say_lines, say_shown, say_test};
 use crate::words::{first_word, number};
 use ban_expr::read;
-use ban_list::{BanList, Line, Stand};
+use ban_list::{BanList, Stand};
 use cache_law::Ban;
 use cli_words::split;
 use std::alloc::{AllocError, Global};
@@ -36,12 +37,31 @@ fn say_step(
             bans.cut();
             write!(out, "{} left", bans.len())
         }
-        "lines" => say_lines(bans, out),
+        "keep" => {
+            bans.keep_needed();
+            write!(out, "{} left", bans.len())
+        }
         "newer" => write!(out, "{}", bans.count_newer(number(rest))),
         "at" => {
             let at = number(rest);
             write!(out, "{} {}", bans.placed_at(at), bans.marked_at(at))
         }
+        _ => say(alloc, bans, word, rest, out),
+    }
+}
+
+fn say(
+    alloc: Global,
+    bans: &BanList,
+    word: &str,
+    rest: &str,
+    out: &mut String,
+) -> Result<(), AllocError> {
+    match word {
+        "lines" => say_lines(bans, out),
+        "line" => say_line_at(bans, rest, out),
+        "shown" => say_shown(alloc, bans, out),
+        "test" => say_test(alloc, bans, rest, out),
         _ => out.push_str("no such step"),
     }
 }
@@ -104,25 +124,4 @@ fn depart(bans: &mut BanList, stand: Stand, out: &mut String) -> Result<(), Allo
     }
     bans.depart(stand);
     write!(out, "{} objects", bans.objects())
-}
-
-// The numbers of the lines, the newest first, each with C where it is completed.
-fn say_lines(bans: &BanList, out: &mut String) -> Result<(), AllocError> {
-    if bans.len() == 0 {
-        return out.push_str("none");
-    }
-    for at in 0..bans.len() {
-        if at > 0 {
-            out.push(' ')?;
-        }
-        if let Some(line) = bans.line(at) {
-            say_line(line, out)?;
-        }
-    }
-    Ok(())
-}
-
-fn say_line(line: &Line, out: &mut String) -> Result<(), AllocError> {
-    let mark = if line.is_completed() { "C" } else { "" };
-    write!(out, "{}{mark}", line.number())
 }

@@ -1,14 +1,15 @@
-// Steps on objects with their handles: `put HANDLE NUMBER PAYLOAD KEY`, `take HANDLE`, `get HANDLE`, `find KEY`,
-// `number NUMBER`, `from HANDLE`, `pay HANDLE PAYLOAD`, `hit HANDLE` and `age HANDLE LIFETIME`. An object is a marker, and
-// an item is said as its number, its key, its lifetime, its hits and its payload.
+// Steps on objects with their handles: `put HANDLE NUMBER PAYLOAD KEY`, `take HANDLE`, `drop HANDLES`, `get HANDLE`,
+// `find KEY`, `number NUMBER`, `from HANDLE`, `pay HANDLE PAYLOAD`, `hit HANDLE` and `age HANDLE LIFETIME`. An object is a
+// marker, and an item is said as its number, its key, its lifetime, its hits and its payload.
 ghost use Rattle.std.specs.Prelude.{◌≡◌, IfOk};
 ghost use Rattle.cache_law.specs.Object.{key_of};
 
-use crate::words::{first_word, number, say_numbers, say_texts, texts};
-use cache_law::{Marker, Object, ObjectView};
+use crate::markers::marker;
+use crate::words::{first_word, number, numbers, say_numbers, say_texts, texts};
+use cache_law::{Object, ObjectView};
 use object_heads::{Heads, Item};
 use std::alloc::{AllocError, Global};
-use units::{Sequence, Shared, Text};
+use units::{Sequence, Shared};
 
 pub fn said(alloc: Global, steps: &str) -> Result<String, AllocError> {
     let mut heads = Heads::new(alloc);
@@ -39,6 +40,10 @@ fn say_step(
             Some(item) => say_item(out, item),
             None => out.push_str("none"),
         },
+        "drop" => {
+            heads.drop_all(numbers(alloc, rest)?.as_slice());
+            out.push_str("dropped")
+        }
         "find" => {
             let found = heads.find(alloc, texts(alloc, rest)?.as_slice())?;
             say_numbers(out, found.as_slice())
@@ -89,7 +94,7 @@ fn aged(alloc: Global, object: &Object, lifetime: i64) -> Result<Shared<Object>,
     for text in object.key() {
         key.push(text.copy()?)?;
     }
-    marker(alloc, Sequence::from_vec(key), lifetime)
+    marker(alloc, Sequence::from_vec(key), 200, lifetime)
 }
 
 fn put(
@@ -113,25 +118,12 @@ fn put(
         view: ObjectView {
             number: own,
             hits: 0,
-            object: marker(alloc, texts(alloc, key)?, 0)?,
+            object: marker(alloc, texts(alloc, key)?, 200, 0)?,
         },
         payload: number(payload),
     };
     heads.put_first(alloc, handle, item)?;
     out.push_str("put")
-}
-
-fn marker(alloc: Global, key: Sequence<Text>, lifetime: i64) -> Result<Shared<Object>, AllocError>
-    ensures { IfOk result (λ object. key_of object ≡ key) }
-{
-    let marker = Marker {
-        key,
-        vary: Sequence::new(alloc),
-        status: 200,
-        origin: 0,
-        ttl: lifetime,
-    };
-    Shared::new(alloc, Object::HitForPass(marker))
 }
 
 fn say_handle(out: &mut String, handle: Option<u64>) -> Result<(), AllocError> {

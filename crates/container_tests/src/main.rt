@@ -3,8 +3,10 @@
 //! rows that go otherwise, and how many rows there are.
 #![tactic(auto)]
 
+mod ban_lines;
 mod bans;
 mod heads;
+mod markers;
 mod room;
 mod words;
 mod xkeys;

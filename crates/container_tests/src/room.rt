@@ -1,6 +1,6 @@
-// Steps on members by their last use: `put USED HANDLE SIZE END`, `take USED`, `use USED LATER`, `end USED END`, `total`,
-// `expired MOMENT` and `out ROOM SIZE` or `out ROOM SIZE BUT`.
-use crate::words::{first_word, number, say_numbers};
+// Steps on members by their last use: `put USED HANDLE SIZE END`, `take USED`, `drop USES`, `get USED`, `use USED LATER`,
+// `end USED END`, `total`, `expired MOMENT` and `out ROOM SIZE` or `out ROOM SIZE BUT`.
+use crate::words::{first_word, number, numbers, say_numbers};
 use room_lru::{Member, RoomLru};
 use std::alloc::{AllocError, Global};
 
@@ -25,7 +25,12 @@ fn say_step(
     let (word, rest) = first_word(step);
     match word {
         "put" => put(room, rest, out),
-        "take" => take(room, number(rest), out),
+        "take" => say_member(room.take(number(rest)), out),
+        "get" => say_member(room.get(number(rest)), out),
+        "drop" => {
+            room.drop_all(numbers(alloc, rest)?.as_slice());
+            out.push_str("dropped")
+        }
         "use" => move_use(room, rest, out),
         "end" => move_end(room, rest, out),
         "total" => write!(out, "{}", room.total()),
@@ -61,8 +66,8 @@ fn put(room: &mut RoomLru, rest: &str, out: &mut String) -> Result<(), AllocErro
     out.push_str("put")
 }
 
-fn take(room: &mut RoomLru, used: u64, out: &mut String) -> Result<(), AllocError> {
-    match room.take(used) {
+fn say_member(member: Option<Member>, out: &mut String) -> Result<(), AllocError> {
+    match member {
         Some(member) => write!(out, "{} {} {}", member.handle, member.size, member.end),
         None => out.push_str("none"),
     }

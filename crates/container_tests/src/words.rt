@@ -12,6 +12,17 @@ pub fn number(word: &str) -> u64 {
     word.parse().unwrap_or(0)
 }
 
+/// The numbers that the words write, with `,` between them.
+pub fn numbers(alloc: Global, words: &str) -> Result<Vec<u64>, AllocError> {
+    let mut numbers = Vec::new(alloc);
+    for word in words.split(',') {
+        if !word.is_empty() {
+            numbers.push(number(word))?;
+        }
+    }
+    Ok(numbers)
+}
+
 /// The texts of the words, with `,` between them.
 pub fn texts(alloc: Global, words: &str) -> Result<Sequence<Text>, AllocError> {
     let mut texts = Vec::new(alloc);

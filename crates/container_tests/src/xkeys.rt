@@ -1,5 +1,5 @@
-// Steps on an index from xkeys to members: `put HANDLE KEYS`, `take HANDLE` and `find KEYS`.
-use crate::words::{first_word, number, say_numbers, say_texts, texts};
+// Steps on an index from xkeys to members: `put HANDLE KEYS`, `take HANDLE`, `drop HANDLES` and `find KEYS`.
+use crate::words::{first_word, number, numbers, say_numbers, say_texts, texts};
 use std::alloc::{AllocError, Global};
 use xkey_index::XkeyIndex;
 
@@ -32,6 +32,10 @@ fn say_step(
             }
             None => out.push_str("none"),
         },
+        "drop" => {
+            index.drop_all(numbers(alloc, rest)?.as_slice());
+            out.push_str("dropped")
+        }
         "find" => {
             let found = index.find(alloc, texts(alloc, rest)?.as_slice())?;
             say_numbers(out, found.as_slice())

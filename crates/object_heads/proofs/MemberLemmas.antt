@@ -172,7 +172,7 @@ module _ {P : Type 0} where
   shown_test test None = refl
   shown_test test (Some kept) = refl
 
-  sorted_shown : (entries : List (ℕ × Kept P)) → IsStrictlySortedBy nat_cmp (keys_of entries) → IsStrictlySortedBy nat_cmp (keys_of (map member_of entries))
+  pub sorted_shown : (entries : List (ℕ × Kept P)) → IsStrictlySortedBy nat_cmp (keys_of entries) → IsStrictlySortedBy nat_cmp (keys_of (map member_of entries))
   sorted_shown entries s = subst (IsStrictlySortedBy nat_cmp) (sym (keys_of-map_values (λ (kept : Kept P). kept.item) entries)) s
 
   -- what an index has of a handle, and whether the handle is that of a member which passes the test

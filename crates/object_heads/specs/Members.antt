@@ -1,7 +1,9 @@
 -- Objects of a cache with their handles, the newest first: each member is its handle and its item, and an item is an
 -- object with a payload. The newer a member, the lower its handle.
 use Rattle.std.specs.Prelude.{ℕ, ◌<◌, Bool, not, nat_eq, nat_le, List, Option, filter, map, slice_get, if◌then◌else◌}
+use Rattle.std.specs.Ordering.{nat_cmp}
 use Rattle.std.specs.List.{list_any, AllByRecursion}
+use Rattle.std.specs.List.Sorted.{IsStrictlySortedBy}
 use Rattle.std.specs.Map.{keys_of}
 use Rattle.cache_law.specs.declared.object.Object.{Object}
 use Rattle.cache_law.specs.Object.{key_of, same_texts}
@@ -61,3 +63,7 @@ module _ {X : Type 0} where
   -- the handle is below those of all members
   abbrev pub IsNewest : ℕ → List (ℕ × X) → Type 0
   IsNewest handle members = AllByRecursion (λ member. handle < member.0) members
+
+  -- each has a lower handle than those behind it
+  abbrev pub AreInOrder : List (ℕ × X) → Type 0
+  AreInOrder members = IsStrictlySortedBy nat_cmp (keys_of members)

@@ -5,7 +5,7 @@ ghost use Rattle.std.specs.Ordering.{nat_cmp};
 ghost use Rattle.std.specs.BTreeSet.{IsOrdered};
 ghost use Rattle.std.specs.Map.{lookup};
 ghost use Rattle.cache_law.specs.Object.{key_of};
-ghost use Rattle.object_heads.specs.Members.{IsNewest, changed, first_from, handle_at, handles_where, has_key, with_hit, with_object, with_payload, without, without_all};
+ghost use Rattle.object_heads.specs.Members.{AreInOrder, IsNewest, changed, first_from, handle_at, handles_where, has_key, with_hit, with_object, with_payload, without, without_all};
 
 use crate::item::Item;
 use crate::name::Name;
@@ -58,9 +58,10 @@ impl<P: Drop> Heads<P> {
         }
     }
 
-    /// Whether the handle is below those of all members.
+    /// Whether the handle is below those of all members. From each member to the next older one the handles rise.
     pub fn is_newest(&self, handle: u64) -> bool
-        ensures { IsTrue result ↔ IsNewest handle self.now }
+        ensures newest { IsTrue result ↔ IsNewest handle self.now }
+        ensures in_order { AreInOrder self.now }
     {
         match self.items.first_key_value() {
             Some((newest, _)) => handle < *newest,

@@ -1,8 +1,8 @@
 -- The list of members, as the map by handle has it.
-use Rattle.std.proofs.Common.{◌≡◌, ◌<◌, ℕ, Bool, true, false, not, ◌&&◌, ◌||◌, cond, List, [], ◌∷◌, filter, Option, None, Some, refl, sym, ◌∙◌, ap, arith}
+use Rattle.std.proofs.Common.{◌≡◌, ◌<◌, ℕ, Bool, true, false, ◌||◌, cond, List, [], ◌∷◌, filter, Option, None, Some, refl, sym, ◌∙◌, ap, arith}
 use Rattle.std.specs.Prelude.{nat_eq, nat_lt, slice_get, IsTrue, ◌↔◌}
 use Rattle.std.proofs.Common.{Less}
-use Rattle.std.specs.Ordering.{is_eq, eq_by_cmp, nat_cmp}
+use Rattle.std.specs.Ordering.{is_eq, nat_cmp}
 use Rattle.std.specs.Option.{is_some}
 use Rattle.std.specs.List.{list_any, AllByRecursion}
 use Rattle.std.specs.List.Sorted.{IsStrictlySortedBy}

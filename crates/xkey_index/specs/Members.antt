@@ -1,6 +1,8 @@
 -- Members with their keys, the newest first: each is its handle and its keys. The newer a member, the lower its handle.
 use Rattle.std.specs.Prelude.{ℕ, ◌<◌, Bool, not, nat_eq, List, filter}
+use Rattle.std.specs.Ordering.{nat_cmp}
 use Rattle.std.specs.List.{list_any, AllByRecursion}
+use Rattle.std.specs.List.Sorted.{IsStrictlySortedBy}
 use Rattle.std.specs.Map.{keys_of}
 use Rattle.std.specs.Str.{bytes_eq}
 
@@ -30,3 +32,7 @@ without_all handles members = filter (λ member. not (is_one_of handles member.0
 -- the handle is below those of all members
 abbrev pub IsNewest : ℕ → List Member → Type 0
 IsNewest handle members = AllByRecursion (λ member. handle < member.0) members
+
+-- each has a lower handle than those behind it
+abbrev pub AreInOrder : List Member → Type 0
+AreInOrder members = IsStrictlySortedBy nat_cmp (keys_of members)

@@ -1,7 +1,7 @@
 // Members with their keys, found by key.
 ghost use Rattle.std.specs.Prelude.{◌≡◌, ◌∷◌, ◌↔◌, [], IsTrue, IfOk, OnOk, OnErr, nat_eq};
 ghost use Rattle.std.specs.Map.{lookup};
-ghost use Rattle.xkey_index.specs.Members.{IsNewest, handles_with, without, without_all};
+ghost use Rattle.xkey_index.specs.Members.{AreInOrder, IsNewest, handles_with, without, without_all};
 
 use crate::handles::{add_all, find_all, remove_all};
 use indexmap::IndexMap;
@@ -44,9 +44,10 @@ impl XkeyIndex {
         }
     }
 
-    /// Whether the handle is below those of all members.
+    /// Whether the handle is below those of all members. From each member to the next older one the handles rise.
     pub fn is_newest(&self, handle: u64) -> bool
-        ensures { IsTrue result ↔ IsNewest handle self.now }
+        ensures newest { IsTrue result ↔ IsNewest handle self.now }
+        ensures in_order { AreInOrder self.now }
     {
         match self.keys.first_key_value() {
             Some((newest, _)) => handle < *newest,
