@@ -10,7 +10,9 @@ cd "$(dirname "$0")/.."
 case ${1:-} in
   --all)
     cd edits
-    set -- *
+    # Those of rows/ are refused by tests: tools/try_rows.sh.
+    mapfile -t crates < <(ls | grep -vx rows)
+    set -- "${crates[@]}"
     cd ..
     ;;
   '' | -*) sed -n '/^#  /s/^# *//p' "$0" >&2; exit 2 ;;

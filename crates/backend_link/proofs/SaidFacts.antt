@@ -21,7 +21,7 @@ use Rattle.message_reader.specs.declared.stop.Stop.{Stop}
 use Rattle.message_reader.specs.declared.stop.Stop.TheVariants.{Read, Early, BadHead, BadBody, TooLarge, NoMemory}
 use Rattle.message_reader.proofs.LongerBodies.{body_longer, broken_longer}
 use Rattle.wire.specs.Flow.{Flow, IsOver}
-use Rattle.wire.specs.declared.peer.Talk.{Talk}
+use Rattle.wire.specs.Telling.{LinkTold, DialerTold}
 use Rattle.backend_link.specs.Exchanges.{exchange_of, answer_of, asks_head, HasReply, Answers, Conversed, Exchanged}
 use Rattle.backend_link.specs.Replies.{body_limit, interim_limit, is_interim, is_passed, Behind, HasFinal, IsRefused, HasFramed, ReplyAt}
 use Rattle.backend_link.specs.Said.{Outcome, NeverHasHead, SaysBody, SaysBehind, SaysAt, Says, SaidBy, IsSaid}
@@ -135,13 +135,13 @@ said request (Some before) (Some after) answer c writes reads memory =
     (o.0, o.1, subst (λ (t : List ℕ). Says (asks_head request) t o.0) (sym c.moves.1) (said_whole request (Some after) o.0 c.read after.left (λ over. over) o.2 o.3))
 
 -- a whole exchange
-pub exchange_said : {L : Type 0} → (flow : L → Option Flow) (backend : Backend) (request : BackendRequest) (before after : Option (List (Talk L))) (answer : Exchange)
-    → Exchanged flow backend request before after answer → answer ≢ answers.Fault 1 → answer ≢ answers.Fault 2 → answer ≢ answers.Fault 3 → answer ≢ answers.NoMemory
-    → IsSaid flow backend request before after answer
-exchange_said flow backend request before after answer (inl has) dials writes reads memory =
-    record { has = has; said = said request has.start (flow has.link) answer has.conversed writes reads memory }
-exchange_said flow backend request before after answer (inr (inl none)) dials writes reads memory = absurd (dials none.is)
-exchange_said flow backend request before after answer (inr (inr none)) dials writes reads memory = absurd (memory none.0)
+pub exchange_said : {L : Type 0} → (heard : L → LinkTold) (backend : Backend) (request : BackendRequest) (before after : DialerTold L) (answer : Exchange)
+    → Exchanged heard backend request before after answer → answer ≢ answers.Fault 1 → answer ≢ answers.Fault 2 → answer ≢ answers.Fault 3 → answer ≢ answers.NoMemory
+    → IsSaid heard backend request before after answer
+exchange_said heard backend request before after answer (inl has) dials writes reads memory =
+    record { has = has; said = said request has.start (heard has.link).flow answer has.conversed writes reads memory }
+exchange_said heard backend request before after answer (inr (inl none)) dials writes reads memory = absurd (dials none.is)
+exchange_said heard backend request before after answer (inr (inr none)) dials writes reads memory = absurd (memory none.0)
 
 -- ---- one answer
 

@@ -10,9 +10,8 @@ use Rattle.http_heads.specs.declared.message.ResponseHead.{ResponseHead}
 use Rattle.message_reader.specs.declared.stop.Stop.{Stop}
 use Rattle.message_reader.specs.declared.stop.Stop.TheVariants as stops
 use Rattle.wire.specs.Flow.{Flow, Moves, IsFresh}
-use Rattle.wire.specs.Talks.{Adds}
+use Rattle.wire.specs.Telling.{LinkTold, DialerTold, Gains}
 use Rattle.wire.specs.declared.peer.Peer.TheVariants.{Dialed}
-use Rattle.wire.specs.declared.peer.Talk.{Talk}
 use Rattle.backend_link.specs.Replies.{BehindInterim, ReplyAt}
 
 -- the request as it is sent
@@ -65,21 +64,27 @@ pub record Conversed (request : BackendRequest) (before after : Option Flow) (an
   pub moves : Moves before after read written
   pub answers : Answers request after answer written read
 
+-- a write or a read failed only where the link's own count isn't 0
+pub record HasCauses (link : LinkTold) (answer : Exchange) : Type 0 where
+  pub writes : answer ≡ Fault 2 → 0 < link.write_faults
+  pub reads : answer ≡ Fault 3 → 0 < link.read_faults
+
 -- a backend was dialed, and its link was handed back behind a conversation with this answer
-pub record HasTalk {L : Type 0} (flow : L → Option Flow) (backend : Backend) (request : BackendRequest) (before after : Option (List (Talk L)))
+pub record HasTalk {L : Type 0} (heard : L → LinkTold) (backend : Backend) (request : BackendRequest) (before after : DialerTold L)
     (answer : Exchange) : Type 0 where
   pub link : L
-  pub added : Adds before after (record { peer = Dialed backend.host backend.port; link = Some link } ∷ [])
+  pub gained : Gains before after (record { peer = Dialed backend.host backend.port; link = Some link } ∷ [])
   pub start : Option Flow
   pub fresh : IsFresh start
-  pub conversed : Conversed request start (flow link) answer
+  pub conversed : Conversed request start (heard link).flow answer
+  pub causes : HasCauses (heard link) answer
 
 -- the dial failed
-pub record HasNoLink {L : Type 0} (backend : Backend) (before after : Option (List (Talk L))) (answer : Exchange) : Type 0 where
+pub record HasNoLink {L : Type 0} (backend : Backend) (before after : DialerTold L) (answer : Exchange) : Type 0 where
   pub is : answer ≡ Fault 1
-  pub added : Adds before after (record { peer = Dialed backend.host backend.port; link = None } ∷ [])
+  pub gained : Gains before after (record { peer = Dialed backend.host backend.port; link = None } ∷ [])
 
 -- what an answer tells of the dialer's talks; for want of memory there may be none
-abbrev pub Exchanged : {L : Type 0} → (L → Option Flow) → Backend → BackendRequest → Option (List (Talk L)) → Option (List (Talk L)) → Exchange → Type 0
-Exchanged flow backend request before after answer =
-    HasTalk flow backend request before after answer ⊎ HasNoLink backend before after answer ⊎ ((answer ≡ NoMemory) × (after ≡ before))
+abbrev pub Exchanged : {L : Type 0} → (L → LinkTold) → Backend → BackendRequest → DialerTold L → DialerTold L → Exchange → Type 0
+Exchanged heard backend request before after answer =
+    HasTalk heard backend request before after answer ⊎ HasNoLink backend before after answer ⊎ ((answer ≡ NoMemory) × (after ≡ before))

@@ -15,7 +15,7 @@ use Rattle.message_reader.specs.Causes.{body_stop}
 use Rattle.message_reader.specs.declared.stop.Stop.{Stop}
 use Rattle.message_reader.specs.declared.stop.Stop.TheVariants.{Early, BadHead, BadBody}
 use Rattle.wire.specs.Flow.{Flow}
-use Rattle.wire.specs.declared.peer.Talk.{Talk}
+use Rattle.wire.specs.Telling.{LinkTold, DialerTold}
 use Rattle.backend_link.specs.Exchanges.{exchange_of, asks_head, HasTalk}
 use Rattle.backend_link.specs.Replies.{body_limit, Behind, HasFinal, IsRefused, interim_limit}
 
@@ -60,7 +60,7 @@ SaidBy request None answer = Unit {0}
 SaidBy request (Some flow) answer = (outcome : Outcome) × (answer ≡ exchange_of outcome) × Says (asks_head request) flow.left outcome
 
 -- a backend was dialed, and its link was handed back behind a conversation whose answer is the one that the link's bytes say
-pub record IsSaid {L : Type 0} (flow : L → Option Flow) (backend : Backend) (request : BackendRequest) (before after : Option (List (Talk L)))
+pub record IsSaid {L : Type 0} (heard : L → LinkTold) (backend : Backend) (request : BackendRequest) (before after : DialerTold L)
     (answer : Exchange) : Type 0 where
-  pub has : HasTalk flow backend request before after answer
+  pub has : HasTalk heard backend request before after answer
   pub said : SaidBy request has.start answer

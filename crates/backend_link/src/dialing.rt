@@ -1,6 +1,7 @@
 // One exchange with a backend: a dial, a conversation, and the link handed back.
 ghost use Rattle.std.specs.Prelude.{◌≡◌, ◌≢◌};
 ghost use Rattle.wire.specs.Causes.{Rose};
+ghost use Rattle.wire.specs.Telling.{told_by, dialer_told_by};
 ghost use Rattle.backend_link.specs.Exchanges.{Exchanged};
 ghost use Rattle.backend_link.specs.Said.{IsSaid};
 
@@ -17,13 +18,15 @@ pub fn exchange<D: Dialer>(
     backend: &Backend,
     request: &BackendRequest,
 ) -> Exchange
-    ensures told { Exchanged D.Link.flow backend.now request.now (D.talks dialer.old) (D.talks dialer.new) result }
+    ensures told { Exchanged (told_by D.Link.flow D.Link.read_faults D.Link.write_faults D.Link.peer D.Link.is_open) backend.now request.now
+        (dialer_told_by D.talks D.dial_faults dialer.old) (dialer_told_by D.talks D.dial_faults dialer.new) result }
     ensures dials { result ≡ Exchange.Fault 1 → Rose (D.dial_faults dialer.old) (D.dial_faults dialer.new) }
     ensures writes { result ≡ Exchange.Fault 2 → Rose (D.write_faults dialer.old) (D.write_faults dialer.new) }
     ensures reads { result ≡ Exchange.Fault 3 → Rose (D.read_faults dialer.old) (D.read_faults dialer.new) }
     ensures complete { ¬ (Rose (D.dial_faults dialer.old) (D.dial_faults dialer.new)) → ¬ (Rose (D.write_faults dialer.old) (D.write_faults dialer.new))
         → ¬ (Rose (D.read_faults dialer.old) (D.read_faults dialer.new)) → result ≢ Exchange.NoMemory
-        → IsSaid D.Link.flow backend.now request.now (D.talks dialer.old) (D.talks dialer.new) result }
+        → IsSaid (told_by D.Link.flow D.Link.read_faults D.Link.write_faults D.Link.peer D.Link.is_open) backend.now request.now
+        (dialer_told_by D.talks D.dial_faults dialer.old) (dialer_told_by D.talks D.dial_faults dialer.new) result }
 {
     let mut link = match dialer.dial(&backend.host, &backend.port) {
         Ok(link) => link,

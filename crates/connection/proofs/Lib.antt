@@ -1,4 +1,4 @@
 mod RequestFacts
 mod TurnFacts
 pub mod ReadingFacts
-mod AnswerFacts
+pub mod AnswerFacts

@@ -6,7 +6,7 @@ use Rattle.cache_law.specs.Beginning.{Beginning}
 use Rattle.turnstile.specs.Knowledge.{saw, mine, places, places_from}
 use Rattle.turnstile.proofs.Places.{places_from-append}
 use Rattle.shared_cache.specs.Sharing.{CallerKnows, caller_of}
-use Rattle.entrance.specs.Arriving.{LinkTold}
+use Rattle.wire.specs.Telling.{LinkTold}
 use Rattle.workers.specs.Serving.{AllServed}
 use Rattle.crew.specs.Calls.{HasCalled}
 use Rattle.crew.specs.Parts.{Stand, AllTold, all_places}

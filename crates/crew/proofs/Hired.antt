@@ -7,7 +7,7 @@ use Rattle.cache_law.specs.Beginning.{Beginning}
 use Rattle.turnstile.specs.declared.handles.Pass.{Pass}
 use Rattle.turnstile.specs.Handles.{known}
 use Rattle.shared_cache.specs.Sharing.{CallerKnows}
-use Rattle.entrance.specs.Arriving.{LinkTold}
+use Rattle.wire.specs.Telling.{LinkTold}
 use Rattle.world.specs.declared.kit.Kit.{Kit}
 use Rattle.workers.specs.Working.{IsReady}
 use Rattle.workers.specs.declared.worker.Worker.{Worker}

@@ -10,7 +10,7 @@ use Rattle.turnstile.specs.declared.knowledge.Ended.{Ended}
 use Rattle.turnstile.specs.Handles.{known}
 use Rattle.turnstile.specs.Knowledge.{mine, places}
 use Rattle.shared_cache.specs.Sharing.{CallerKnows, caller_of}
-use Rattle.entrance.specs.Arriving.{LinkTold}
+use Rattle.wire.specs.Telling.{LinkTold}
 use Rattle.world.specs.declared.kit.Kit.{Kit}
 use Rattle.workers.specs.Working.{HasWorked}
 use Rattle.workers.specs.declared.worker.Worker.{Worker}

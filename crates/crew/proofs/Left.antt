@@ -13,7 +13,7 @@ use Rattle.turnstile.specs.Handles.{known}
 use Rattle.turnstile.specs.Knowledge.{Meets, mine, places, ended_numbers}
 use Rattle.shared_cache.specs.Sharing.{CallerKnows, caller_of}
 use Rattle.wire.specs.Talks.{Adds}
-use Rattle.entrance.specs.Arriving.{LinkTold}
+use Rattle.wire.specs.Telling.{LinkTold}
 use Rattle.entrance.specs.HandingBack.{kept_after}
 use Rattle.world.specs.declared.kit.Kit.{Kit}
 use Rattle.workers.specs.Working.{IsCounted}

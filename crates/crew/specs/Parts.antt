@@ -4,7 +4,8 @@ use Rattle.std.specs.List.{flat_map}
 use Rattle.cache_law.specs.declared.call.Entry.{Entry}
 use Rattle.turnstile.specs.Knowledge.{places, places_from}
 use Rattle.shared_cache.specs.Sharing.{caller_of}
-use Rattle.entrance.specs.Arriving.{LinkTold, IsNew}
+use Rattle.entrance.specs.Arriving.{IsNew}
+use Rattle.wire.specs.Telling.{LinkTold}
 
 -- where a worker stands between two connections: its kit, and the front of the history that it has seen
 pub record Stand (K : Type 0) : Type 0 where

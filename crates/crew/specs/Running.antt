@@ -4,7 +4,7 @@ use Rattle.std.specs.List.{flat_map}
 use Rattle.cache_law.specs.declared.call.Entry.{Entry}
 use Rattle.cache_law.specs.Beginning.{Beginning}
 use Rattle.cache_law.specs.History.{Legal}
-use Rattle.entrance.specs.Arriving.{LinkTold}
+use Rattle.wire.specs.Telling.{LinkTold}
 use Rattle.entrance.specs.HandingBack.{kept_after}
 use Rattle.entrance.specs.declared.remains.Reason.{Reason}
 use Rattle.entrance.specs.declared.remains.Reason.TheVariants.{Full, Ended, Failed, NoMemory}

@@ -6,7 +6,7 @@ ghost use Rattle.turnstile.specs.declared.handles.Pass.{Pass};
 ghost use Rattle.turnstile.specs.Handles.{known};
 ghost use Rattle.shared_cache.specs.declared.sharing.SharedCache.{SharedCache as Cache};
 ghost use Rattle.shared_cache.specs.Passes.{IsPassOf};
-ghost use Rattle.entrance.specs.Arriving.{LinkTold};
+ghost use Rattle.wire.specs.Telling.{LinkTold};
 ghost use Rattle.world.specs.declared.kit.Kit.{Kit as Tools};
 ghost use Rattle.crew.specs.Calls.{HasCalled};
 ghost use Rattle.crew.specs.Opening.{IsStart};

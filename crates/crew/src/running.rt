@@ -8,7 +8,7 @@ ghost use Rattle.turnstile.specs.Knowledge.{Meets, opened};
 ghost use Rattle.shared_cache.specs.Passes.{IsPassOf};
 ghost use Rattle.shared_cache.specs.Sharing.{IsKeptWhole, caller_of};
 ghost use Rattle.wire.specs.Calls.{joined_count};
-ghost use Rattle.entrance.specs.Arriving.{told_by};
+ghost use Rattle.wire.specs.Telling.{told_by};
 ghost use Rattle.crew.specs.Opening.{CanBegin, IsFirst};
 ghost use Rattle.crew.specs.Hiring.{IsUnused};
 ghost use Rattle.crew.specs.Leaving.{HaveWorked};

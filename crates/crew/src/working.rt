@@ -1,7 +1,7 @@
 // Workers who work until each has left.
 ghost use Rattle.std.specs.Prelude.{◌≡◌, All, length, vec_len};
 ghost use Rattle.std.specs.List.{AllZip};
-ghost use Rattle.entrance.specs.Arriving.{told_by};
+ghost use Rattle.wire.specs.Telling.{told_by};
 ghost use Rattle.workers.specs.Working.{IsReady, HasWorked};
 
 use crate::hiring::LinkOf;

@@ -1,7 +1,8 @@
 // What stands under the door's lock.
 ghost use Rattle.std.specs.Prelude.{◌≡◌, ◌<◌, ◌≤◌, true};
 ghost use Rattle.world.specs.Awaiting.{IfCame};
-ghost use Rattle.entrance.specs.Arriving.{IsNew, Counts, told_by};
+ghost use Rattle.entrance.specs.Arriving.{IsNew, Counts};
+ghost use Rattle.wire.specs.Telling.{told_by};
 ghost use Rattle.entrance.specs.Shutting.{Why, is_shut};
 
 use crate::quota::Quota;

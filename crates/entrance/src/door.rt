@@ -1,6 +1,7 @@
 // The door at which workers ask for connections.
 ghost use Rattle.std.specs.Prelude.{◌≡◌, ◌+◌, ◌<◌, ◌≤◌, IfSome, IfNone, OnSome};
-ghost use Rattle.entrance.specs.Arriving.{IsNew, told_by};
+ghost use Rattle.entrance.specs.Arriving.{IsNew};
+ghost use Rattle.wire.specs.Telling.{told_by};
 ghost use Rattle.entrance.specs.Shutting.{Why};
 
 use crate::accepting::Accepting;

@@ -8,7 +8,9 @@ use Rattle.http_heads.specs.declared.exchange.Got.{Got}
 use Rattle.wire.specs.Flow.{Flow, Moves}
 use Rattle.wire.specs.Tapes.{Tape}
 use Rattle.wire.specs.declared.peer.Talk.{Talk}
+use Rattle.wire.specs.Telling.{LinkTold, DialerTold}
 use Rattle.wire.proofs.Flowing.{Moves-none, Moves-trans}
+use Rattle.wire.proofs.Gaining.{gains_none, gains_then}
 use Rattle.cache_law.specs.declared.call.Call.{Call}
 use Rattle.cache_law.specs.declared.call.Entry.{Entry}
 use Rattle.cache_law.specs.declared.cache.Told.{Told}
@@ -29,24 +31,24 @@ use Rattle.round_lead.specs.Onward.{happened}
 use Rattle.round_lead.specs.Things.{called, closes_of}
 use Rattle.round_lead.proofs.Told.{Went-none, Went-same, Went-then, Went-told, ToldIn-now, ToldIn-wider}
 use Rattle.round_lead.proofs.Seen.{stand_longer, stand_then, rise_then, called_none, called_then, called_number, called_seen, called_longer, one_called, one_stands, one_rises}
-use Rattle.round_lead.proofs.Things.{entries_of-append, exchanges_of-append, closes_of-append, or_none, or_then, talks_then, adds_none, adds_then, all_then, all_wider}
+use Rattle.round_lead.proofs.Things.{entries_of-append, exchanges_of-append, closes_of-append, or_none, or_then, talks_then, all_then, all_wider}
 
-abbrev pub at : {L : Type 0} → CallerKnows → Option Flow → Option Tape → Option Tape → Option (List (Talk L)) → Progress → At L
-at k over reads words talks p =
+abbrev pub at : {L : Type 0} → CallerKnows → Option Flow → Option Tape → Option Tape → DialerTold L → Progress → At L
+at k over reads words dialer p =
     record {
       known = k;
       flow = over;
       readings = reads;
       words = words;
-      talks = talks;
+      dialer = dialer;
       places = p.numbers.items;
       exchanges = p.exchanges.items;
       sent = p.sent.items;
       closes = p.closes;
     }
 
-module _ {L : Type 0} (flow : L → Option Flow) (backends : List ℕ → Backend) where
-  pub did_none : (x : At L) → Did flow backends x x [] []
+module _ {L : Type 0} (heard : L → LinkTold) (backends : List ℕ → Backend) where
+  pub did_none : (x : At L) → Did heard backends x x [] []
   did_none x = record {
     places = [];
     called = called_none x.known;
@@ -58,15 +60,15 @@ module _ {L : Type 0} (flow : L → Option Flow) (backends : List ℕ → Backen
     sent_are = sym (append-nil x.sent);
     moves = Moves-none x.flow;
     talks = [];
-    added = adds_none x.talks;
+    gained = gains_none x.dialer;
     talked = refl;
     closes_are = sym (or_none x.closes);
     read = Went-none x.readings;
     drew = Went-none x.words;
   }
 
-  pub did_then : (x y z : At L) (xs ys : List Happened) (sent more : List ℕ) → Did flow backends x y xs sent → Did flow backends y z ys more
-      → Did flow backends x z (xs ++ ys) (sent ++ more)
+  pub did_then : (x y z : At L) (xs ys : List Happened) (sent more : List ℕ) → Did heard backends x y xs sent → Did heard backends y z ys more
+      → Did heard backends x z (xs ++ ys) (sent ++ more)
   did_then x y z xs ys sent more one two =
       let seen = called_seen y.known z.known two.places two.called in
       let number = called_number x.known y.known one.places one.called in
@@ -92,8 +94,8 @@ module _ {L : Type 0} (flow : L → Option Flow) (backends : List ℕ → Backen
         sent_are = two.sent_are ∙ (ap (λ (bs : List ℕ). bs ++ more) one.sent_are ∙ append_assoc x.sent sent more);
         moves = Moves-trans x.flow y.flow z.flow [] [] sent more one.moves two.moves;
         talks = one.talks ++ two.talks;
-        added = adds_then x.talks y.talks z.talks one.talks two.talks one.added two.added;
-        talked = talks_then flow backends xs ys one.talks two.talks one.talked two.talked;
+        gained = gains_then x.dialer y.dialer z.dialer one.talks two.talks one.gained two.gained;
+        talked = talks_then heard backends xs ys one.talks two.talks one.talked two.talked;
         closes_are = subst (λ (b : Bool). z.closes ≡ (x.closes || b)) (sym (closes_of-append xs ys))
             (or_then x.closes y.closes z.closes (closes_of xs) (closes_of ys) one.closes_are two.closes_are);
         read = Went-then x.readings y.readings z.readings one.read two.read;
@@ -101,7 +103,7 @@ module _ {L : Type 0} (flow : L → Option Flow) (backends : List ℕ → Backen
       }
 
   -- no more than a word was drawn
-  pub did_draw : (x : At L) (words : Option Tape) → Went x.words words → Did flow backends x (record x { words = words }) [] []
+  pub did_draw : (x : At L) (words : Option Tape) → Went x.words words → Did heard backends x (record x { words = words }) [] []
   did_draw x words drew = record {
     places = [];
     called = called_none x.known;
@@ -113,18 +115,18 @@ module _ {L : Type 0} (flow : L → Option Flow) (backends : List ℕ → Backen
     sent_are = sym (append-nil x.sent);
     moves = Moves-none x.flow;
     talks = [];
-    added = adds_none x.talks;
+    gained = gains_none x.dialer;
     talked = refl;
     closes_are = sym (or_none x.closes);
     read = Went-none x.readings;
     drew = drew;
   }
 
-  module _ (over : Option Flow) (talks : Option (List (Talk L))) where
+  module _ (over : Option Flow) (dialer : DialerTold L) where
     -- one call
     pub did_call : (k k' : CallerKnows) (reads reads' words words' : Option Tape) (p p' : Progress) (call : Call) (told : Told) → words' ≡ words
         → Makes k k' reads reads' p p' call told
-        → Did flow backends (at k over reads words talks p) (at k' over reads' words' talks p') (called call told ∷ []) []
+        → Did heard backends (at k over reads words dialer p) (at k' over reads' words' dialer p') (called call told ∷ []) []
     did_call k k' reads reads' words words' p p' call told undrawn made = record {
       places = told.place ∷ [];
       called = one_called k k' made.reading call told made.knows made.called;
@@ -136,7 +138,7 @@ module _ {L : Type 0} (flow : L → Option Flow) (backends : List ℕ → Backen
       sent_are = made.rest.sent ∙ sym (append-nil p.sent.items);
       moves = Moves-none over;
       talks = [];
-      added = adds_none talks;
+      gained = gains_none dialer;
       talked = ([], [], refl, refl, refl);
       closes_are = made.rest.closes ∙ sym (or_none p.closes);
       read = Went-told reads reads' made.reading made.read;
@@ -146,7 +148,7 @@ module _ {L : Type 0} (flow : L → Option Flow) (backends : List ℕ → Backen
     -- a call that was declined
     pub did_decline : (k k' : CallerKnows) (reads reads' words words' : Option Tape) (p p' : Progress) (call : Call) (error : StepError) → words' ≡ words
         → Declines k k' reads reads' p p' call error
-        → Did flow backends (at k over reads words talks p) (at k' over reads' words' talks p') [] []
+        → Did heard backends (at k over reads words dialer p) (at k' over reads' words' dialer p') [] []
     did_decline k k' reads reads' words words' p p' call error undrawn made = record {
       places = [];
       called = made.called;
@@ -158,7 +160,7 @@ module _ {L : Type 0} (flow : L → Option Flow) (backends : List ℕ → Backen
       sent_are = made.rest.sent ∙ sym (append-nil p.sent.items);
       moves = Moves-none over;
       talks = [];
-      added = adds_none talks;
+      gained = gains_none dialer;
       talked = refl;
       closes_are = made.rest.closes ∙ sym (or_none p.closes);
       read = made.went;
@@ -166,10 +168,10 @@ module _ {L : Type 0} (flow : L → Option Flow) (backends : List ℕ → Backen
     }
 
   -- one exchange
-  pub did_exchange : (k : CallerKnows) (over : Option Flow) (reads reads' words words' : Option Tape) (talks talks' : Option (List (Talk L))) (p p' : Progress) (number : ℕ) (name : List ℕ)
-      (request : BackendRequest) (got : Got) → words' ≡ words → Exchanges flow (backends name) request reads reads' talks talks' p p' got
-      → Did flow backends (at k over reads words talks p) (at k over reads' words' talks' p') (happened (Exchange number name request) (given.Exchange got) ∷ []) []
-  did_exchange k over reads reads' words words' talks talks' p p' number name request got undrawn made = record {
+  pub did_exchange : (k : CallerKnows) (over : Option Flow) (reads reads' words words' : Option Tape) (dialer dialer' : DialerTold L) (p p' : Progress) (number : ℕ) (name : List ℕ)
+      (request : BackendRequest) (got : Got) → words' ≡ words → Exchanges heard (backends name) request reads reads' dialer dialer' p p' got
+      → Did heard backends (at k over reads words dialer p) (at k over reads' words' dialer' p') (happened (Exchange number name request) (given.Exchange got) ∷ []) []
+  did_exchange k over reads reads' words words' dialer dialer' p p' number name request got undrawn made = record {
     places = [];
     called = called_none k;
     places_are = ap (λ (v : _). v.items) made.places_are ∙ sym (append-nil p.numbers.items);
@@ -180,18 +182,18 @@ module _ {L : Type 0} (flow : L → Option Flow) (backends : List ℕ → Backen
     sent_are = made.sent_are ∙ sym (append-nil p.sent.items);
     moves = Moves-none over;
     talks = made.more;
-    added = made.added;
+    gained = made.gained;
     talked = (made.more, [], sym (append-nil made.more), made.by, refl);
     closes_are = made.closes_are ∙ sym (or_none p.closes);
     read = Went-told reads reads' got.moment made.read;
     drew = Went-same words words' undrawn;
   }
 
-  module _ (k : CallerKnows) (reads words : Option Tape) (talks : Option (List (Talk L))) (over over' : Option Flow) (p p' : Progress) where
+  module _ (k : CallerKnows) (reads words : Option Tape) (dialer : DialerTold L) (over over' : Option Flow) (p p' : Progress) where
     -- so many bytes of the response were sent, by these things
-    did_write : (things : List Happened) (sent : List ℕ) → entries_of k.number things ≡ [] → exchanges_of things ≡ [] → ((empty : List (Talk L)) → empty ≡ [] → TalksOf flow backends things empty)
+    did_write : (things : List Happened) (sent : List ℕ) → entries_of k.number things ≡ [] → exchanges_of things ≡ [] → ((empty : List (Talk L)) → empty ≡ [] → TalksOf heard backends things empty)
         → Moves over over' [] sent → p'.sent.items ≡ p.sent.items ++ sent → p'.closes ≡ (p.closes || closes_of things) → SameCalls p p'
-        → Did flow backends (at k over reads words talks p) (at k over' reads words talks p') things sent
+        → Did heard backends (at k over reads words dialer p) (at k over' reads words dialer p') things sent
     did_write things sent no_entry no_exchange no_talk moves sent_are closes rest = record {
       places = [];
       called = called_none k;
@@ -203,7 +205,7 @@ module _ {L : Type 0} (flow : L → Option Flow) (backends : List ℕ → Backen
       sent_are = sent_are;
       moves = moves;
       talks = [];
-      added = adds_none talks;
+      gained = gains_none dialer;
       talked = no_talk [] refl;
       closes_are = closes;
       read = Went-none reads;
@@ -211,12 +213,12 @@ module _ {L : Type 0} (flow : L → Option Flow) (backends : List ℕ → Backen
     }
 
     pub did_send : (delivery : Delivery) → Sends over over' p p' delivery
-        → Did flow backends (at k over reads words talks p) (at k over' reads words talks p') (happened (Send delivery) given.Sent ∷ []) (delivery_text delivery)
+        → Did heard backends (at k over reads words dialer p) (at k over' reads words dialer p') (happened (Send delivery) given.Sent ∷ []) (delivery_text delivery)
     did_send delivery made =
         did_write (happened (Send delivery) given.Sent ∷ []) (delivery_text delivery) refl refl (λ empty none_. ([], empty, refl, refl, none_)) made.moves made.sent_are
         (made.closes_are ∙ ap (λ (b : Bool). p.closes || b) (sym (or_none _))) made.rest
 
     pub did_send_part : (delivery : Delivery) (cut : Cut) (made : SendsPart over over' p p' delivery cut)
-        → Did flow backends (at k over reads words talks p) (at k over' reads words talks p') [] made.part
+        → Did heard backends (at k over reads words dialer p) (at k over' reads words dialer p') [] made.part
     did_send_part delivery cut made =
         did_write [] made.part refl refl (λ empty none_. none_) made.moves made.sent_are (made.closes_are ∙ sym (or_none p.closes)) made.rest

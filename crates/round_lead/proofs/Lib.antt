@@ -11,3 +11,4 @@ pub mod Giving
 pub mod Going
 pub mod Responses
 pub mod Stays
+pub mod Vcls

@@ -3,8 +3,8 @@ use Rattle.std.proofs.Common.{◌≡◌, ℕ, true, false, List, [], ◌∷◌, 
 use Rattle.std.proofs.lemmas.Bool.{false≢true}
 use Rattle.std.proofs.lemmas.List.{append-nil, append_assoc}
 use Rattle.http_heads.specs.declared.exchange.Backend.{Backend}
-use Rattle.wire.specs.Flow.{Flow}
 use Rattle.wire.specs.Tapes.{Tape, Tells}
+use Rattle.wire.specs.Telling.{LinkTold}
 use Rattle.vcl_context.specs.declared.turn.Answer.{Answer}
 use Rattle.vcl_runs.specs.Runs.{Ran}
 use Rattle.cache_law.specs.declared.call.Call.{Call}
@@ -94,21 +94,21 @@ module _ {M : Type 0} (e : Evaluator) (stands : M → Ran → Type 0) (fits : M 
         subst (λ (g : List Given). CutBy (WantsBy e (WasDrawn since third) request peer g) refused cut extra part) (sym (behind-append givens xs ys)) there.1,
       )
 
-  module _ {L : Type 0} (flow : L → Option Flow) (backends : List ℕ → Backend) where
-    pub goes_none : (place : Place M) (want : Want) (x : At L) → Goes e stands fits flow backends place want x x place want
-    goes_none place want x = record { steps = []; did = did_none flow backends x; carries = carries_none place want x.words }
+  module _ {L : Type 0} (heard : L → LinkTold) (backends : List ℕ → Backend) where
+    pub goes_none : (place : Place M) (want : Want) (x : At L) → Goes e stands fits heard backends place want x x place want
+    goes_none place want x = record { steps = []; did = did_none heard backends x; carries = carries_none place want x.words }
 
-    pub goes_then : (p q r : Place M) (v w u : Want) (x y z : At L) → Goes e stands fits flow backends p v x y q w → Goes e stands fits flow backends q w y z r u
-        → Goes e stands fits flow backends p v x z r u
+    pub goes_then : (p q r : Place M) (v w u : Want) (x y z : At L) → Goes e stands fits heard backends p v x y q w → Goes e stands fits heard backends q w y z r u
+        → Goes e stands fits heard backends p v x z r u
     goes_then p q r v w u x y z one two = record {
       steps = one.steps ++ two.steps;
-      did = subst (λ (bs : List ℕ). Did flow backends x z (one.steps ++ two.steps) bs) (sym (bytes_of-append one.steps two.steps))
-          (did_then flow backends x y z one.steps two.steps (bytes_of one.steps) (bytes_of two.steps) one.did two.did);
+      did = subst (λ (bs : List ℕ). Did heard backends x z (one.steps ++ two.steps) bs) (sym (bytes_of-append one.steps two.steps))
+          (did_then heard backends x y z one.steps two.steps (bytes_of one.steps) (bytes_of two.steps) one.did two.did);
       carries = carries_then p q r v w u x.words y.words z.words one.steps two.steps two.did.drew one.carries two.carries;
     }
 
-    pub stops_then : (p q : Place M) (v w : Want) (x y z : At L) (cut : Cut) → Goes e stands fits flow backends p v x y q w → Stops e stands fits flow backends q w y z cut
-        → Stops e stands fits flow backends p v x z cut
+    pub stops_then : (p q : Place M) (v w : Want) (x y z : At L) (cut : Cut) → Goes e stands fits heard backends p v x y q w → Stops e stands fits heard backends q w y z cut
+        → Stops e stands fits heard backends p v x z cut
     stops_then p q v w x y z cut one two =
         let things : one.steps ++ (two.steps ++ two.extra) ≡ (one.steps ++ two.steps) ++ two.extra = sym (append_assoc one.steps two.steps two.extra) in
         let bytes : bytes_of one.steps ++ (bytes_of two.steps ++ two.part) ≡ bytes_of (one.steps ++ two.steps) ++ two.part =
@@ -117,9 +117,9 @@ module _ {M : Type 0} (e : Evaluator) (stands : M → Ran → Type 0) (fits : M 
           steps = one.steps ++ two.steps;
           extra = two.extra;
           part = two.part;
-          did = subst (λ (bs : List ℕ). Did flow backends x z ((one.steps ++ two.steps) ++ two.extra) bs) bytes
-              (subst (λ (hs : List Happened). Did flow backends x z hs (bytes_of one.steps ++ (bytes_of two.steps ++ two.part))) things
-              (did_then flow backends x y z one.steps (two.steps ++ two.extra) (bytes_of one.steps) (bytes_of two.steps ++ two.part) one.did two.did));
+          did = subst (λ (bs : List ℕ). Did heard backends x z ((one.steps ++ two.steps) ++ two.extra) bs) bytes
+              (subst (λ (hs : List Happened). Did heard backends x z hs (bytes_of one.steps ++ (bytes_of two.steps ++ two.part))) things
+              (did_then heard backends x y z one.steps (two.steps ++ two.extra) (bytes_of one.steps) (bytes_of two.steps ++ two.part) one.did two.did));
           so = carries_to p q v w x.words y.words z.words (Refused z.known x.readings z.readings) cut one.steps two.steps two.extra two.part two.did.drew one.carries
               (λ request peer givens since standing. let there = two.so request peer givens since standing in (
                 there.0,
@@ -130,15 +130,15 @@ module _ {M : Type 0} (e : Evaluator) (stands : M → Ran → Type 0) (fits : M 
         }
 
     -- a want was answered, a word was drawn, and the round was asked again
-    pub goes_one : (p q : Place M) (want next : Want) (x y : At L) (words : Option Tape) (given : Given) (word : ℕ) → Tells y.words words word → Gives flow backends x y want given
+    pub goes_one : (p q : Place M) (want next : Want) (x y : At L) (words : Option Tape) (given : Given) (word : ℕ) → Tells y.words words word → Gives heard backends x y want given
         → ((request : Request) (peer : List ℕ) (givens : List Given) → StandsAt e stands fits request peer givens p → StandsAt e stands fits request peer (given ∷ givens) q)
         → ((request : Request) (peer : List ℕ) (givens : List Given) → StandsAt e stands fits request peer givens p → Wants e (Some word) request peer (given ∷ givens) next)
-        → Goes e stands fits flow backends p want x (record y { words = words }) q next
+        → Goes e stands fits heard backends p want x (record y { words = words }) q next
     goes_one p q want next x y words given word told gives there wants =
         let drew = Went-told y.words words word told in
         record {
           steps = happened want given ∷ [];
-          did = did_then flow backends x y (record y { words = words }) (happened want given ∷ []) [] (bytes_for want given) [] gives.did (did_draw flow backends y words drew);
+          did = did_then heard backends x y (record y { words = words }) (happened want given ∷ []) [] (bytes_for want given) [] gives.did (did_draw heard backends y words drew);
           carries = λ request peer givens since standing. (
             (wants_later e request peer since x.words words (Went-then x.words y.words words gives.did.drew drew) givens want standing.wants, gives.suits, tt),
             record {
@@ -152,7 +152,7 @@ module _ {M : Type 0} (e : Evaluator) (stands : M → Ran → Type 0) (fits : M 
           );
         }
 
-    halts : (place : Place M) (want : Want) (x y : At L) (cut : Cut) → Halts flow backends x y want cut → Stops e stands fits flow backends place want x y cut
+    halts : (place : Place M) (want : Want) (x y : At L) (cut : Cut) → Halts heard backends x y want cut → Stops e stands fits heard backends place want x y cut
     halts place want x y cut halted = record {
       steps = [];
       extra = halted.extra;
@@ -168,23 +168,23 @@ module _ {M : Type 0} (e : Evaluator) (stands : M → Ran → Type 0) (fits : M 
     }
 
     -- it was answered, a word may have been drawn, and memory was wanting
-    pub stops_behind : (place : Place M) (want : Want) (x y : At L) (words : Option Tape) (given : Given) → Went y.words words → Gives flow backends x y want given
-        → Stops e stands fits flow backends place want x (record y { words = words }) NoMemory
+    pub stops_behind : (place : Place M) (want : Want) (x y : At L) (words : Option Tape) (given : Given) → Went y.words words → Gives heard backends x y want given
+        → Stops e stands fits heard backends place want x (record y { words = words }) NoMemory
     stops_behind place want x y words given drew gives =
         record {
           steps = happened want given ∷ [];
           extra = [];
           part = [];
-          did = subst (λ (bs : List ℕ). Did flow backends x (record y { words = words }) (happened want given ∷ []) bs) (sym (append-nil (bytes_for want given ++ [])))
-              (did_then flow backends x y (record y { words = words }) (happened want given ∷ []) [] (bytes_for want given) [] gives.did (did_draw flow backends y words drew));
+          did = subst (λ (bs : List ℕ). Did heard backends x (record y { words = words }) (happened want given ∷ []) bs) (sym (append-nil (bytes_for want given ++ [])))
+              (did_then heard backends x y (record y { words = words }) (happened want given ∷ []) [] (bytes_for want given) [] gives.did (did_draw heard backends y words drew));
           so = λ request peer givens since standing.
               ((wants_later e request peer since x.words words (Went-then x.words y.words words gives.did.drew drew) givens want standing.wants, gives.suits, tt), (refl, tt));
         }
 
-    pub fails : (place : Place M) (want : Want) (x y : At L) (cut : Cut) → Fails flow backends x y want cut → Stops e stands fits flow backends place want x y cut
+    pub fails : (place : Place M) (want : Want) (x y : At L) (cut : Cut) → Fails heard backends x y want cut → Stops e stands fits heard backends place want x y cut
     fails place want x y cut (inl halted) = halts place want x y cut halted
     fails place want x y cut (inr stalled) =
-        subst (λ (c : Cut). Stops e stands fits flow backends place want x y c) (sym stalled.is) (stops_behind place want x y y.words stalled.given (Went-none y.words) stalled.gives)
+        subst (λ (c : Cut). Stops e stands fits heard backends place want x y c) (sym stalled.is) (stops_behind place want x y y.words stalled.given (Went-none y.words) stalled.gives)
 
 -- the round's end is wanted where the test says so
 pub last_is : (want : Want) → is_last want ≡ true → want ≡ Cache call.End

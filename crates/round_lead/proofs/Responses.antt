@@ -7,7 +7,7 @@ use Rattle.http_heads.specs.declared.exchange.Backend.{Backend}
 use Rattle.http_heads.specs.declared.exchange.Got.{Got}
 use Rattle.wire.specs.Flow.{Flow, Moves}
 use Rattle.wire.specs.Tapes.{Tape}
-use Rattle.wire.specs.Talks.{Adds}
+use Rattle.wire.specs.Telling.{LinkTold, DialerTold, Gains}
 use Rattle.wire.specs.declared.peer.Talk.{Talk}
 use Rattle.cache_law.specs.declared.call.Call.{Call}
 use Rattle.cache_law.specs.declared.call.Call.TheVariants.{Begin, End}
@@ -49,8 +49,8 @@ one_place history [] entry stand = absurd stand
 one_place history (place ∷ []) entry stand = (place, refl, stand.0)
 one_place history (place ∷ other ∷ more) entry stand = absurd stand.1
 
-module _ {L : Type 0} (flow : L → Option Flow) (backends : List ℕ → Backend) where
-  no_talk : (told : Told) (call : Call) (talks : List (Talk L)) → TalksOf flow backends (called call told ∷ []) talks → talks ≡ []
+module _ {L : Type 0} (heard : L → LinkTold) (backends : List ℕ → Backend) where
+  no_talk : (told : Told) (call : Call) (talks : List (Talk L)) → TalksOf heard backends (called call told ∷ []) talks → talks ≡ []
   no_talk told call talks talked = talked.2 ∙ (ap (λ (t : List (Talk L)). t ++ talked.1) talked.3 ∙ talked.4)
 
   -- what is kept once the End was made
@@ -61,7 +61,7 @@ module _ {L : Type 0} (flow : L → Option Flow) (backends : List ℕ → Backen
     exchanges_are : z.exchanges ≡ y.exchanges
     sent_are : z.sent ≡ y.sent
 
-  shuts : (y z : At L) (told : Told) → Did flow backends y z (ended told ∷ []) [] → Shuts y z told
+  shuts : (y z : At L) (told : Told) → Did heard backends y z (ended told ∷ []) [] → Shuts y z told
   shuts y z told did =
       let one = one_place z.known.seen did.places (entry_of y.known.number End told) did.stand in
       record {
@@ -82,7 +82,7 @@ module _ {L : Type 0} (flow : L → Option Flow) (backends : List ℕ → Backen
     closes_are : closes_of steps ≡ y.closes
     timed : AllByRecursion (λ got. ToldIn x.readings y.readings got.moment) y.exchanges
 
-  whence : (x y : At L) (steps : List Happened) (sent : List ℕ) → x.places ≡ [] → x.exchanges ≡ [] → x.sent ≡ [] → x.closes ≡ false → Did flow backends x y steps sent → Whence x y steps sent
+  whence : (x y : At L) (steps : List Happened) (sent : List ℕ) → x.places ≡ [] → x.exchanges ≡ [] → x.sent ≡ [] → x.closes ≡ false → Did heard backends x y steps sent → Whence x y steps sent
   whence x y steps sent no_place no_exchange no_byte stays did =
       let places : y.places ≡ did.places = did.places_are ∙ ap (λ (ps : List ℕ). ps ++ did.places) no_place in
       let exchanges : y.exchanges ≡ exchanges_of steps = did.exchanges_are ∙ ap (λ (es : List Got). es ++ exchanges_of steps) no_exchange in
@@ -110,10 +110,10 @@ untold_entries wants refused WriteFault extra part caller cut = ap (entries_of c
 
 -- ---- a round that was led to its End
 
-module _ {P L : Type 0} (language : Language P) (flow : L → Option Flow) (request : Request) (peer : List ℕ) (first then_ last : At L) (k' : CallerKnows) (over' : Option Flow)
-    (reads' words' : Option Tape) (talks' : Option (List (Talk L))) (p' : Progress) (told closing : Told) (beginning : Beginning) where
+module _ {P L : Type 0} (language : Language P) (heard : L → LinkTold) (request : Request) (peer : List ℕ) (first then_ last : At L) (k' : CallerKnows) (over' : Option Flow)
+    (reads' words' : Option Tape) (dialer' : DialerTold L) (p' : Progress) (told closing : Told) (beginning : Beginning) where
   abbrev pub z : At L
-  z = at k' over' reads' words' talks' p'
+  z = at k' over' reads' words' dialer' p'
 
   -- nothing was kept before its Begin, which came then, and its End came last
   pub record Frame : Type 0 where
@@ -122,8 +122,8 @@ module _ {P L : Type 0} (language : Language P) (flow : L → Option Flow) (requ
     pub no_exchange : first.exchanges ≡ []
     pub no_byte : first.sent ≡ []
     pub stays : first.closes ≡ false
-    pub opened : Begins flow first then_ told
-    pub shut : (backends : List ℕ → Backend) → Did flow backends last z (ended closing ∷ []) []
+    pub opened : Begins heard first then_ told
+    pub shut : (backends : List ℕ → Backend) → Did heard backends last z (ended closing ∷ []) []
 
   -- its client was sent what is kept of it
   abbrev pub Moved : Type 0
@@ -136,21 +136,21 @@ module _ {P L : Type 0} (language : Language P) (flow : L → Option Flow) (requ
   begin_runs : (frame : Frame) (program : P) → Went then_.words words' → Wanted program [] (Cache Begin)
   begin_runs frame program later = (Some frame.opened.first, WasDrawn-wider first.words first.words then_.words words' (Some frame.opened.first) (Went-none first.words) later frame.opened.drawn, refl)
 
-  whole_tells : (frame : Frame) (whole : Whole language flow request peer told then_ last) (closes : Bool) → p'.closes ≡ closes
-      → (talks : List (Talk L)) × Adds first.talks talks' talks × Moves first.flow over' [] p'.sent.items × HasCalled first.known k' p'.numbers.items
-      × Tells language (WasDrawn first.words words') (ToldIn first.readings reads') flow k'.seen first.known.number (kept request peer p') talks closes
+  whole_tells : (frame : Frame) (whole : Whole language heard request peer told then_ last) (closes : Bool) → p'.closes ≡ closes
+      → (talks : List (Talk L)) × Gains first.dialer dialer' talks × Moves first.flow over' [] p'.sent.items × HasCalled first.known k' p'.numbers.items
+      × Tells language (WasDrawn first.words words') (ToldIn first.readings reads') heard k'.seen first.known.number (kept request peer p') talks closes
   whole_tells frame whole closes closes_are =
       let backends = language.backends whole.program in
       let ending = frame.shut backends in
       let all : List Happened = called Begin told ∷ (whole.steps ++ ended closing ∷ []) in
       let later = Went-then then_.words last.words words' whole.did.drew ending.drew in
-      let did = did_then flow backends first then_ z (called Begin told ∷ []) (whole.steps ++ ended closing ∷ []) [] (bytes_of whole.steps ++ []) (frame.opened.did backends)
-      (did_then flow backends then_ last z whole.steps (ended closing ∷ []) (bytes_of whole.steps) [] whole.did ending) in
-      let from = whence flow backends first z all (bytes_of whole.steps ++ []) frame.no_place frame.no_exchange frame.no_byte frame.stays did in
+      let did = did_then heard backends first then_ z (called Begin told ∷ []) (whole.steps ++ ended closing ∷ []) [] (bytes_of whole.steps ++ []) (frame.opened.did backends)
+      (did_then heard backends then_ last z whole.steps (ended closing ∷ []) (bytes_of whole.steps) [] whole.did ending) in
+      let from = whence heard backends first z all (bytes_of whole.steps ++ []) frame.no_place frame.no_exchange frame.no_byte frame.stays did in
       let run = whole.runs first.words (frame.opened.did backends).drew in
       let until = wants_later (language.evaluator whole.program) request peer first.words last.words words' ending.drew in (
         did.talks,
-        did.added,
+        did.gained,
         subst (λ (bs : List ℕ). Moves first.flow over' [] bs) (sym from.sent_are) did.moves,
         from.called,
         record {
@@ -177,14 +177,14 @@ module _ {P L : Type 0} (language : Language P) (flow : L → Option Flow) (requ
         },
       )
 
-  led_whole : {T : Type 0} → (done : T) (frame : Frame) (whole : Whole language flow request peer told then_ last) (closes : Bool) → p'.closes ≡ closes
-      → LedBy language (WasDrawn first.words words') (ToldIn first.readings reads') flow first.known k' first.talks talks' (kept request peer p') (answered_so (Ok done) closes) × Moved
+  led_whole : {T : Type 0} → (done : T) (frame : Frame) (whole : Whole language heard request peer told then_ last) (closes : Bool) → p'.closes ≡ closes
+      → LedBy language (WasDrawn first.words words') (ToldIn first.readings reads') heard first.known k' first.dialer dialer' (kept request peer p') (answered_so (Ok done) closes) × Moved
   led_whole done frame whole true closes_are =
       let told_ = whole_tells frame whole true closes_are in
-      (record { beginning = beginning; begins = called_setting first.known k' p'.numbers.items told_.3 ∙ frame.begins; called = told_.3; talks = told_.0; added = told_.1; response = told_.4 }, told_.2)
+      (record { beginning = beginning; begins = called_setting first.known k' p'.numbers.items told_.3 ∙ frame.begins; called = told_.3; talks = told_.0; gained = told_.1; response = told_.4 }, told_.2)
   led_whole done frame whole false closes_are =
       let told_ = whole_tells frame whole false closes_are in
-      (record { beginning = beginning; begins = called_setting first.known k' p'.numbers.items told_.3 ∙ frame.begins; called = told_.3; talks = told_.0; added = told_.1; response = told_.4 }, told_.2)
+      (record { beginning = beginning; begins = called_setting first.known k' p'.numbers.items told_.3 ∙ frame.begins; called = told_.3; talks = told_.0; gained = told_.1; response = told_.4 }, told_.2)
 
   -- ---- one that was cut short
 
@@ -205,30 +205,30 @@ module _ {P L : Type 0} (language : Language P) (flow : L → Option Flow) (requ
             (subst (λ (n : ℕ). FitsBehind beginning last.known.seen n (moment_of beginning last.known.seen refused.reading) call) (sym number) fits));
       }
 
-  cut_tells : (frame : Frame) (cut : Cut) (cuts : Cuts language flow request peer told then_ last cut)
-      → (talks : List (Talk L)) × Adds first.talks talks' talks × Moves first.flow over' [] p'.sent.items × HasCalled first.known k' p'.numbers.items
-      × TellsCut language (WasDrawn first.words words') (ToldIn first.readings reads') flow beginning k'.seen first.known.number (kept request peer p') talks cut
+  cut_tells : (frame : Frame) (cut : Cut) (cuts : Cuts language heard request peer told then_ last cut)
+      → (talks : List (Talk L)) × Gains first.dialer dialer' talks × Moves first.flow over' [] p'.sent.items × HasCalled first.known k' p'.numbers.items
+      × TellsCut language (WasDrawn first.words words') (ToldIn first.readings reads') heard beginning k'.seen first.known.number (kept request peer p') talks cut
   cut_tells frame cut cuts =
       let backends = language.backends cuts.program in
       let ending = frame.shut backends in
       let opening = frame.opened.did backends in
       let front : List Happened = called Begin told ∷ (cuts.steps ++ cuts.extra) in
       let later = Went-then then_.words last.words words' cuts.did.drew ending.drew in
-      let half = did_then flow backends first then_ last (called Begin told ∷ []) (cuts.steps ++ cuts.extra) [] (bytes_of cuts.steps ++ cuts.part) opening cuts.did in
-      let from = whence flow backends first last front (bytes_of cuts.steps ++ cuts.part) frame.no_place frame.no_exchange frame.no_byte frame.stays half in
-      let did = did_then flow backends first last z front (ended closing ∷ []) (bytes_of cuts.steps ++ cuts.part) [] half ending in
-      let over_all = whence flow backends first z (front ++ ended closing ∷ []) ((bytes_of cuts.steps ++ cuts.part) ++ []) frame.no_place frame.no_exchange frame.no_byte frame.stays did in
-      let end_ = shuts flow backends last z closing ending in
+      let half = did_then heard backends first then_ last (called Begin told ∷ []) (cuts.steps ++ cuts.extra) [] (bytes_of cuts.steps ++ cuts.part) opening cuts.did in
+      let from = whence heard backends first last front (bytes_of cuts.steps ++ cuts.part) frame.no_place frame.no_exchange frame.no_byte frame.stays half in
+      let did = did_then heard backends first last z front (ended closing ∷ []) (bytes_of cuts.steps ++ cuts.part) [] half ending in
+      let over_all = whence heard backends first z (front ++ ended closing ∷ []) ((bytes_of cuts.steps ++ cuts.part) ++ []) frame.no_place frame.no_exchange frame.no_byte frame.stays did in
+      let end_ = shuts heard backends last z closing ending in
       let seen = called_seen last.known k' ending.places ending.called in
       let number = called_number first.known last.known last.places from.called in
       let run = cuts.so first.words opening.drew in
       let until = wants_later (language.evaluator cuts.program) request peer first.words last.words words' ending.drew in
-      let none_ = untold_entries (WantsNow language flow request peer told cuts.program first.words last.words cuts.steps) (Refused last.known then_.readings last.readings) cut cuts.extra cuts.part first.known.number run.1 in
+      let none_ = untold_entries (WantsNow language heard request peer told cuts.program first.words last.words cuts.steps) (Refused last.known then_.readings last.readings) cut cuts.extra cuts.part first.known.number run.1 in
       let entries : entries_of first.known.number front ≡ entries_of first.known.number (called Begin told ∷ cuts.steps) =
       entries_of-append first.known.number (called Begin told ∷ cuts.steps) cuts.extra
       ∙ (ap (λ (es : List Entry). entries_of first.known.number (called Begin told ∷ cuts.steps) ++ es) none_ ∙ append-nil (entries_of first.known.number (called Begin told ∷ cuts.steps))) in (
         did.talks,
-        did.added,
+        did.gained,
         subst (λ (bs : List ℕ). Moves first.flow over' [] bs) (sym over_all.sent_are) did.moves,
         over_all.called,
         record {
@@ -245,7 +245,7 @@ module _ {P L : Type 0} (language : Language P) (flow : L → Option Flow) (requ
           places = last.places;
           closed = end_.place;
           closing = closing;
-          cut_so = cut_weaker (WantsNow language flow request peer told cuts.program first.words last.words cuts.steps) (Wanted cuts.program (behind (given.Reply told ∷ []) cuts.steps))
+          cut_so = cut_weaker (WantsNow language heard request peer told cuts.program first.words last.words cuts.steps) (Wanted cuts.program (behind (given.Reply told ∷ []) cuts.steps))
               (Refused last.known then_.readings last.readings) (DidntFit (ToldIn first.readings reads') beginning k'.seen first.known.number last.places) cut cuts.extra cuts.part
               (until (behind (given.Reply told ∷ []) cuts.steps))
               (λ call refused. didnt_fit frame last.places ending.called.between call (called_setting first.known last.known last.places from.called ∙ frame.begins) number seen from.rise opening.read ending.read refused)
@@ -264,28 +264,28 @@ module _ {P L : Type 0} (language : Language P) (flow : L → Option Flow) (requ
       )
     where
       -- the End has no talk
-      cut_talked : (backends : List ℕ → Backend) (xs : List Happened) (talks : List (Talk L)) → TalksOf flow backends (xs ++ ended closing ∷ []) talks → TalksOf flow backends xs talks
-      cut_talked backends [] talks talked = no_talk flow backends closing End talks talked
+      cut_talked : (backends : List ℕ → Backend) (xs : List Happened) (talks : List (Talk L)) → TalksOf heard backends (xs ++ ended closing ∷ []) talks → TalksOf heard backends xs talks
+      cut_talked backends [] talks talked = no_talk heard backends closing End talks talked
       cut_talked backends (x ∷ xs) talks talked = (talked.0, talked.1, talked.2, talked.3, cut_talked backends xs talked.1 talked.4)
 
   response_cut : (talks : List (Talk L)) (cut : Cut)
-      → TellsCut language (WasDrawn first.words words') (ToldIn first.readings reads') flow beginning k'.seen first.known.number (kept request peer p') talks cut
-      → IsResponse language (WasDrawn first.words words') (ToldIn first.readings reads') flow beginning k'.seen first.known.number (kept request peer p') talks (answered_of cut)
+      → TellsCut language (WasDrawn first.words words') (ToldIn first.readings reads') heard beginning k'.seen first.known.number (kept request peer p') talks cut
+      → IsResponse language (WasDrawn first.words words') (ToldIn first.readings reads') heard beginning k'.seen first.known.number (kept request peer p') talks (answered_of cut)
   response_cut talks NoMemory tells = inl tells
   response_cut talks HistoryFull tells = inl tells
   response_cut talks WriteFault tells = tells
 
   -- no more than its Begin and its End
   none_led : (frame : Frame) → last ≡ then_
-      → LedBy language (WasDrawn first.words words') (ToldIn first.readings reads') flow first.known k' first.talks talks' (kept request peer p') (answered_of NoMemory) × Moved
+      → LedBy language (WasDrawn first.words words') (ToldIn first.readings reads') heard first.known k' first.dialer dialer' (kept request peer p') (answered_of NoMemory) × Moved
   none_led frame same =
       let backends : List ℕ → Backend = λ name. record { name = name; host = []; port = [] } in
       let opening = frame.opened.did backends in
-      let ending = subst (λ (w : At L). Did flow backends w z (ended closing ∷ []) []) same (frame.shut backends) in
-      let from = whence flow backends first then_ (called Begin told ∷ []) [] frame.no_place frame.no_exchange frame.no_byte frame.stays opening in
-      let did = did_then flow backends first then_ z (called Begin told ∷ []) (ended closing ∷ []) [] [] opening ending in
-      let over_all = whence flow backends first z (called Begin told ∷ ended closing ∷ []) [] frame.no_place frame.no_exchange frame.no_byte frame.stays did in
-      let end_ = shuts flow backends then_ z closing ending in
+      let ending = subst (λ (w : At L). Did heard backends w z (ended closing ∷ []) []) same (frame.shut backends) in
+      let from = whence heard backends first then_ (called Begin told ∷ []) [] frame.no_place frame.no_exchange frame.no_byte frame.stays opening in
+      let did = did_then heard backends first then_ z (called Begin told ∷ []) (ended closing ∷ []) [] [] opening ending in
+      let over_all = whence heard backends first z (called Begin told ∷ ended closing ∷ []) [] frame.no_place frame.no_exchange frame.no_byte frame.stays did in
+      let end_ = shuts heard backends then_ z closing ending in
       let begin_ = one_place then_.known.seen then_.places (entry_of first.known.number Begin told) from.stand in
       let seen = called_seen then_.known k' ending.places ending.called in
       let number = called_number first.known then_.known then_.places from.called in (
@@ -294,7 +294,7 @@ module _ {P L : Type 0} (language : Language P) (flow : L → Option Flow) (requ
           begins = called_setting first.known k' p'.numbers.items over_all.called ∙ frame.begins;
           called = over_all.called;
           talks = did.talks;
-          added = did.added;
+          gained = did.gained;
           response = inr (inl (record {
             opened = begin_.0;
             closed = end_.place;
@@ -313,12 +313,12 @@ module _ {P L : Type 0} (language : Language P) (flow : L → Option Flow) (requ
         subst (λ (bs : List ℕ). Moves first.flow over' [] bs) (sym over_all.sent_are) did.moves,
       )
     where
-      two_talks : (backends : List ℕ → Backend) (talks : List (Talk L)) → TalksOf flow backends (called Begin told ∷ ended closing ∷ []) talks → talks ≡ []
+      two_talks : (backends : List ℕ → Backend) (talks : List (Talk L)) → TalksOf heard backends (called Begin told ∷ ended closing ∷ []) talks → talks ≡ []
       two_talks backends talks talked =
-          talked.2 ∙ (ap (λ (t : List (Talk L)). t ++ talked.1) talked.3 ∙ no_talk flow backends closing End talked.1 talked.4)
+          talked.2 ∙ (ap (λ (t : List (Talk L)). t ++ talked.1) talked.3 ∙ no_talk heard backends closing End talked.1 talked.4)
 
-  led_cut : (frame : Frame) (cut : Cut) → Breaks language flow request peer told then_ last cut
-      → LedBy language (WasDrawn first.words words') (ToldIn first.readings reads') flow first.known k' first.talks talks' (kept request peer p') (answered_of cut) × Moved
+  led_cut : (frame : Frame) (cut : Cut) → Breaks language heard request peer told then_ last cut
+      → LedBy language (WasDrawn first.words words') (ToldIn first.readings reads') heard first.known k' first.dialer dialer' (kept request peer p') (answered_of cut) × Moved
   led_cut frame cut (inl cuts) =
       let told_ = cut_tells frame cut cuts in (
         record {
@@ -326,18 +326,18 @@ module _ {P L : Type 0} (language : Language P) (flow : L → Option Flow) (requ
           begins = called_setting first.known k' p'.numbers.items told_.3 ∙ frame.begins;
           called = told_.3;
           talks = told_.0;
-          added = told_.1;
+          gained = told_.1;
           response = response_cut told_.0 cut told_.4;
         },
         told_.2,
       )
   led_cut frame cut (inr none_) =
-      subst (λ (c : Cut). LedBy language (WasDrawn first.words words') (ToldIn first.readings reads') flow first.known k' first.talks talks' (kept request peer p') (answered_of c) × Moved)
+      subst (λ (c : Cut). LedBy language (WasDrawn first.words words') (ToldIn first.readings reads') heard first.known k' first.dialer dialer' (kept request peer p') (answered_of c) × Moved)
       (sym none_.is) (none_led frame none_.same)
 
   -- however it was led
-  pub led_by : {T : Type 0} → (frame : Frame) (led : Result T Cut) → OnOk led (Whole language flow request peer told then_ last) → IfErr led (Breaks language flow request peer told then_ last)
-      → LedBy language (WasDrawn first.words words') (ToldIn first.readings reads') flow first.known k' first.talks talks' (kept request peer p') (answered_so led p'.closes) × Moved
+  pub led_by : {T : Type 0} → (frame : Frame) (led : Result T Cut) → OnOk led (Whole language heard request peer told then_ last) → IfErr led (Breaks language heard request peer told then_ last)
+      → LedBy language (WasDrawn first.words words') (ToldIn first.readings reads') heard first.known k' first.dialer dialer' (kept request peer p') (answered_so led p'.closes) × Moved
   led_by frame (Ok done) whole breaks = led_whole done frame whole p'.closes refl
   led_by frame (Err cut) whole breaks = led_cut frame cut breaks
 
@@ -351,7 +351,7 @@ module _ {P L : Type 0} (language : Language P) (flow : L → Option Flow) (requ
       )
 
   -- what its clock told
-  pub clock_by : {T : Type 0} → (frame : Frame) (led : Result T Cut) → OnOk led (Whole language flow request peer told then_ last) → IfErr led (Breaks language flow request peer told then_ last)
+  pub clock_by : {T : Type 0} → (frame : Frame) (led : Result T Cut) → OnOk led (Whole language heard request peer told then_ last) → IfErr led (Breaks language heard request peer told then_ last)
       → Went first.readings reads' × Went first.words words'
   clock_by frame (Ok done) whole breaks = clock_over frame whole.did.read whole.did.drew
   clock_by frame (Err cut) whole (inl cuts) = clock_over frame cuts.did.read cuts.did.drew
@@ -361,21 +361,21 @@ module _ {P L : Type 0} (language : Language P) (flow : L → Option Flow) (requ
 
 -- ---- one whose Begin was refused
 
-module _ {P L : Type 0} (language : Language P) (flow : L → Option Flow) (request : Request) (peer : List ℕ) (first : At L) (k' : CallerKnows) (over' : Option Flow)
-    (reads' words' : Option Tape) (talks' : Option (List (Talk L))) (p' : Progress) (beginning : Beginning) where
-  pub led_none : (cut : Cut) → first.known.setting ≡ Some beginning → first.places ≡ [] → first.exchanges ≡ [] → first.sent ≡ [] → first.closes ≡ false → Declined flow first (at k' over' reads' words' talks' p') cut
-      → LedBy language (WasDrawn first.words words') (ToldIn first.readings reads') flow first.known k' first.talks talks' (kept request peer p') (answered_of cut) × Moves first.flow over' [] p'.sent.items × (Went first.readings reads' × Went first.words words')
+module _ {P L : Type 0} (language : Language P) (heard : L → LinkTold) (request : Request) (peer : List ℕ) (first : At L) (k' : CallerKnows) (over' : Option Flow)
+    (reads' words' : Option Tape) (dialer' : DialerTold L) (p' : Progress) (beginning : Beginning) where
+  pub led_none : (cut : Cut) → first.known.setting ≡ Some beginning → first.places ≡ [] → first.exchanges ≡ [] → first.sent ≡ [] → first.closes ≡ false → Declined heard first (at k' over' reads' words' dialer' p') cut
+      → LedBy language (WasDrawn first.words words') (ToldIn first.readings reads') heard first.known k' first.dialer dialer' (kept request peer p') (answered_of cut) × Moves first.flow over' [] p'.sent.items × (Went first.readings reads' × Went first.words words')
   led_none cut begins no_place no_exchange no_byte stays declined =
       let backends : List ℕ → Backend = λ name. record { name = name; host = []; port = [] } in
       let did = declined.did backends in
-      let from = whence flow backends first (at k' over' reads' words' talks' p') [] [] no_place no_exchange no_byte stays did in
+      let from = whence heard backends first (at k' over' reads' words' dialer' p') [] [] no_place no_exchange no_byte stays did in
       let no_number : p'.numbers.items ≡ [] = no_places k'.seen p'.numbers.items from.stand in (
         record {
           beginning = beginning;
           begins = called_setting first.known k' p'.numbers.items from.called ∙ begins;
           called = from.called;
           talks = did.talks;
-          added = did.added;
+          gained = did.gained;
           response = by_cut cut declined.why did.talks did.talked no_number from.exchanges_are from.sent_are from.called;
         },
         subst (λ (bs : List ℕ). Moves first.flow over' [] bs) (sym from.sent_are) did.moves,
@@ -386,9 +386,9 @@ module _ {P L : Type 0} (language : Language P) (flow : L → Option Flow) (requ
       no_places history [] stand = refl
       no_places history (place ∷ more) stand = absurd stand
 
-      by_cut : (cut : Cut) → BeginRefused flow first (at k' over' reads' words' talks' p') cut → (talks : List (Talk L)) → talks ≡ [] → p'.numbers.items ≡ [] → p'.exchanges.items ≡ [] → p'.sent.items ≡ []
+      by_cut : (cut : Cut) → BeginRefused heard first (at k' over' reads' words' dialer' p') cut → (talks : List (Talk L)) → talks ≡ [] → p'.numbers.items ≡ [] → p'.exchanges.items ≡ [] → p'.sent.items ≡ []
           → HasCalled first.known k' p'.numbers.items
-          → IsResponse language (WasDrawn first.words words') (ToldIn first.readings reads') flow beginning k'.seen first.known.number (kept request peer p') talks (answered_of cut)
+          → IsResponse language (WasDrawn first.words words') (ToldIn first.readings reads') heard beginning k'.seen first.known.number (kept request peer p') talks (answered_of cut)
       by_cut NoMemory why talks no_talk_ numbers exchanges sent called_ =
           inr (inr (record { refused = tt; no_place = numbers; no_exchange = exchanges; nothing_sent = sent; no_talk = no_talk_ }))
       by_cut HistoryFull why talks no_talk_ numbers exchanges sent called_ =

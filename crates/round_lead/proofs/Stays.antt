@@ -3,7 +3,7 @@ use Rattle.std.proofs.Common.{ℕ, ◌≤◌, Bool, List, [], ◌++◌, length, 
 use Rattle.std.specs.List.{AllByRecursion}
 use Rattle.std.proofs.lemmas.List.{append_assoc, length-append}
 use Rattle.http_heads.specs.declared.exchange.Got.{Got}
-use Rattle.wire.specs.Flow.{Flow}
+use Rattle.wire.specs.Telling.{LinkTold}
 use Rattle.wire.specs.declared.peer.Talk.{Talk}
 use Rattle.cache_law.specs.declared.call.Call.{Call}
 use Rattle.cache_law.specs.declared.call.Call.TheVariants.{Begin, End}
@@ -26,7 +26,7 @@ use Rattle.round_lead.proofs.Seen.{stands_longer, stand_longer, rise_higher}
 use Rattle.round_lead.proofs.Things.{runs_wider, all_wider}
 use Rattle.round_lead.proofs.Onward.{cut_weaker}
 
-module _ {P L : Type 0} (language : Language P) (flow : L → Option Flow) (words words' : Option ℕ → Type 0) (readings readings' : ℕ → Type 0)
+module _ {P L : Type 0} (language : Language P) (heard : L → LinkTold) (words words' : Option ℕ → Type 0) (readings readings' : ℕ → Type 0)
     (drawn : (word : Option ℕ) → words word → words' word) (read : (reading : ℕ) → readings reading → readings' reading)
     (beginning : Beginning) (history more : List Entry) (caller : ℕ) (round : Round) (talks : List (Talk L)) where
   wants_more : (program : P) (givens : List Given) (want : Want) → WantsBy (language.evaluator program) words round.request round.peer givens want
@@ -50,7 +50,7 @@ module _ {P L : Type 0} (language : Language P) (flow : L → Option Flow) (word
     full = didnt.full;
   }
 
-  tells_more : (closes : Bool) → Tells language words readings flow history caller round talks closes → Tells language words' readings' flow (history ++ more) caller round talks closes
+  tells_more : (closes : Bool) → Tells language words readings heard history caller round talks closes → Tells language words' readings' heard (history ++ more) caller round talks closes
   tells_more closes tells = record {
     program = tells.program;
     steps = tells.steps;
@@ -69,7 +69,7 @@ module _ {P L : Type 0} (language : Language P) (flow : L → Option Flow) (word
     closes_is = tells.closes_is;
   }
 
-  cut_more : (cut : Cut) → TellsCut language words readings flow beginning history caller round talks cut → TellsCut language words' readings' flow beginning (history ++ more) caller round talks cut
+  cut_more : (cut : Cut) → TellsCut language words readings heard beginning history caller round talks cut → TellsCut language words' readings' heard beginning (history ++ more) caller round talks cut
   cut_more cut tells = record {
     program = tells.program;
     steps = tells.steps;
@@ -94,7 +94,7 @@ module _ {P L : Type 0} (language : Language P) (flow : L → Option Flow) (word
     talked = tells.talked;
   }
 
-  only_more : OnlyBegan language words readings flow history caller round talks → OnlyBegan language words' readings' flow (history ++ more) caller round talks
+  only_more : OnlyBegan language words readings heard history caller round talks → OnlyBegan language words' readings' heard (history ++ more) caller round talks
   only_more only = record {
     opened = only.opened;
     closed = only.closed;
@@ -114,7 +114,7 @@ module _ {P L : Type 0} (language : Language P) (flow : L → Option Flow) (word
   refused_more HistoryFull refused = didnt_fit_more [] Begin refused
   refused_more WriteFault refused = absurd refused
 
-  never_more : (cut : Cut) → NeverBegan language words readings flow beginning history caller round talks cut → NeverBegan language words' readings' flow beginning (history ++ more) caller round talks cut
+  never_more : (cut : Cut) → NeverBegan language words readings heard beginning history caller round talks cut → NeverBegan language words' readings' heard beginning (history ++ more) caller round talks cut
   never_more cut never = record {
     refused = refused_more cut never.refused;
     no_place = never.no_place;
@@ -123,7 +123,7 @@ module _ {P L : Type 0} (language : Language P) (flow : L → Option Flow) (word
     no_talk = never.no_talk;
   }
 
-  pub response_more : (how : Answered) → IsResponse language words readings flow beginning history caller round talks how → IsResponse language words' readings' flow beginning (history ++ more) caller round talks how
+  pub response_more : (how : Answered) → IsResponse language words readings heard beginning history caller round talks how → IsResponse language words' readings' heard beginning (history ++ more) caller round talks how
   response_more answered.Kept response = tells_more _ response
   response_more answered.Closes response = tells_more _ response
   response_more answered.WriteFault response = cut_more WriteFault response

@@ -1,11 +1,10 @@
 -- Things that happened, one list behind another.
-use Rattle.std.proofs.Common.{◌≡◌, ℕ, Bool, true, false, ◌||◌, List, [], ◌∷◌, ◌++◌, Option, Some, None, refl, sym, ap, ◌∙◌, subst}
+use Rattle.std.proofs.Common.{◌≡◌, ℕ, Bool, true, false, ◌||◌, List, [], ◌∷◌, ◌++◌, refl, sym, ap, ◌∙◌, subst}
 use Rattle.std.specs.List.{AllByRecursion}
-use Rattle.std.proofs.lemmas.List.{append-nil, append_assoc}
+use Rattle.std.proofs.lemmas.List.{append_assoc}
 use Rattle.http_heads.specs.declared.exchange.Backend.{Backend}
 use Rattle.http_heads.specs.declared.exchange.Got.{Got}
-use Rattle.wire.specs.Flow.{Flow}
-use Rattle.wire.specs.Talks.{Adds}
+use Rattle.wire.specs.Telling.{LinkTold}
 use Rattle.wire.specs.declared.peer.Talk.{Talk}
 use Rattle.cache_law.specs.declared.call.Entry.{Entry}
 use Rattle.cache_law.specs.declared.rounds.Given.{Given}
@@ -47,28 +46,16 @@ closes_of-append (x ∷ xs) ys =
 pub or_then : (x y z a b : Bool) → y ≡ (x || a) → z ≡ (y || b) → z ≡ (x || (a || b))
 or_then x y z a b one two = two ∙ (ap (λ (v : Bool). v || b) one ∙ sym (or_assoc x a b))
 
-pub talks_then : {L : Type 0} → (flow : L → Option Flow) (backends : List ℕ → Backend) (xs ys : List Happened) (talks more : List (Talk L))
-    → TalksOf flow backends xs talks → TalksOf flow backends ys more → TalksOf flow backends (xs ++ ys) (talks ++ more)
-talks_then {L = L} flow backends [] ys talks more one two = subst (λ (t : List (Talk L)). TalksOf flow backends ys (t ++ more)) (sym one) two
-talks_then flow backends (x ∷ xs) ys talks more one two = (
+pub talks_then : {L : Type 0} → (heard : L → LinkTold) (backends : List ℕ → Backend) (xs ys : List Happened) (talks more : List (Talk L))
+    → TalksOf heard backends xs talks → TalksOf heard backends ys more → TalksOf heard backends (xs ++ ys) (talks ++ more)
+talks_then {L = L} heard backends [] ys talks more one two = subst (λ (t : List (Talk L)). TalksOf heard backends ys (t ++ more)) (sym one) two
+talks_then heard backends (x ∷ xs) ys talks more one two = (
   one.0,
   one.1 ++ more,
   ap (λ (t : List (Talk _)). t ++ more) one.2 ∙ append_assoc one.0 one.1 more,
   one.3,
-  talks_then flow backends xs ys one.1 more one.4 two,
+  talks_then heard backends xs ys one.1 more one.4 two,
 )
-
-pub adds_none : {X : Type 0} → (list : Option (List X)) → Adds list list []
-adds_none None = tt
-adds_none (Some xs) = sym (append-nil xs)
-
-pub adds_then : {X : Type 0} → (first second third : Option (List X)) (more further : List X) → Adds first second more → Adds second third further → Adds first third (more ++ further)
-adds_then None None None more further one two = tt
-adds_then None None (Some c) more further one two = absurd two
-adds_then None (Some b) third more further one two = absurd one
-adds_then (Some a) None third more further one two = absurd one
-adds_then (Some a) (Some b) None more further one two = absurd two
-adds_then {X = X} (Some a) (Some b) (Some c) more further one two = two ∙ (ap (λ (xs : List X). xs ++ further) one ∙ append_assoc a more further)
 
 pub all_then : {X : Type 0} → (P : X → Type 0) (xs ys : List X) → AllByRecursion P xs → AllByRecursion P ys → AllByRecursion P (xs ++ ys)
 all_then P [] ys one two = two

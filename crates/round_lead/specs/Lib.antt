@@ -7,3 +7,4 @@ pub mod Responses
 pub mod Steps
 pub mod Onward
 pub mod Leading
+pub mod Vcls

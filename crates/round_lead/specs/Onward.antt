@@ -1,8 +1,8 @@
 -- How a round goes on from where it stands.
 use Rattle.std.specs.Prelude.{◌≡◌, ◌⊎◌, ℕ, Bool, true, false, List, [], ◌∷◌, ◌++◌, Option}
 use Rattle.http_heads.specs.declared.exchange.Backend.{Backend}
-use Rattle.wire.specs.Flow.{Flow}
 use Rattle.wire.specs.Tapes.{Tape}
+use Rattle.wire.specs.Telling.{LinkTold}
 use Rattle.vcl_context.specs.declared.turn.Answer.{Answer}
 use Rattle.vcl_runs.specs.Runs.{Ran}
 use Rattle.cache_law.specs.declared.call.Call.{Call}
@@ -53,11 +53,11 @@ module _ {M : Type 0} (e : Evaluator) (stands : M → Ran → Type 0) (fits : M 
       → Runs (WantsBy e (WasDrawn since words') request peer) givens steps
       × CutBy (WantsBy e (WasDrawn since words') request peer (behind givens steps)) refused cut extra part
 
-  module _ {L : Type 0} (flow : L → Option Flow) (backends : List ℕ → Backend) where
+  module _ {L : Type 0} (heard : L → LinkTold) (backends : List ℕ → Backend) where
     -- It went on from one to the other.
     pub record Goes (place : Place M) (want : Want) (x y : At L) (place' : Place M) (want' : Want) : Type 0 where
       pub steps : List Happened
-      pub did : Did flow backends x y steps (bytes_of steps)
+      pub did : Did heard backends x y steps (bytes_of steps)
       pub carries : Carries place want x.words place' want' y.words steps
 
     -- It stopped.
@@ -65,20 +65,20 @@ module _ {M : Type 0} (e : Evaluator) (stands : M → Ran → Type 0) (fits : M 
       pub steps : List Happened
       pub extra : List Happened
       pub part : List ℕ
-      pub did : Did flow backends x y (steps ++ extra) (bytes_of steps ++ part)
+      pub did : Did heard backends x y (steps ++ extra) (bytes_of steps ++ part)
       pub so : CarriesTo place want x.words y.words (Refused y.known x.readings y.readings) cut steps extra part
 
-module _ {L : Type 0} (flow : L → Option Flow) (backends : List ℕ → Backend) where
+module _ {L : Type 0} (heard : L → LinkTold) (backends : List ℕ → Backend) where
   -- What was wanted happened, and was given so.
   pub record Gives (x y : At L) (want : Want) (given : Given) : Type 0 where
     pub suits : Suits want given
-    pub did : Did flow backends x y (happened want given ∷ []) (bytes_for want given)
+    pub did : Did heard backends x y (happened want given ∷ []) (bytes_for want given)
 
   -- It didn't.
   pub record Halts (x y : At L) (want : Want) (cut : Cut) : Type 0 where
     pub extra : List Happened
     pub part : List ℕ
-    pub did : Did flow backends x y extra part
+    pub did : Did heard backends x y extra part
     pub so : CutBy (λ other. other ≡ want) (Refused y.known x.readings y.readings) cut extra part
 
   -- It happened, and memory was wanting to go on.
@@ -96,7 +96,7 @@ is_last (Cache call.End) = true
 is_last want = false
 
 -- What came of a round behind its Begin, which was told this; `since` is when its first word was drawn.
-module _ {P L : Type 0} (language : Language P) (flow : L → Option Flow) (request : Request) (peer : List ℕ) (told : Told) where
+module _ {P L : Type 0} (language : Language P) (heard : L → LinkTold) (request : Request) (peer : List ℕ) (told : Told) where
   abbrev pub WantsNow : P → Option Tape → Option Tape → List Happened → Want → Type 0
   WantsNow program since until steps want =
       WantsBy (language.evaluator program) (WasDrawn since until) request peer (behind (given.Reply told ∷ []) steps) want
@@ -106,7 +106,7 @@ module _ {P L : Type 0} (language : Language P) (flow : L → Option Flow) (requ
     pub program : P
     pub ran : language.programs (text_told told.reply) program
     pub steps : List Happened
-    pub did : Did flow (language.backends program) x y steps (bytes_of steps)
+    pub did : Did heard (language.backends program) x y steps (bytes_of steps)
     pub runs : (since : Option Tape) → Went since x.words
         → Runs (WantsBy (language.evaluator program) (WasDrawn since y.words) request peer) (given.Reply told ∷ []) steps
         × WantsNow program since y.words steps (Cache call.End)
@@ -118,7 +118,7 @@ module _ {P L : Type 0} (language : Language P) (flow : L → Option Flow) (requ
     pub steps : List Happened
     pub extra : List Happened
     pub part : List ℕ
-    pub did : Did flow (language.backends program) x y (steps ++ extra) (bytes_of steps ++ part)
+    pub did : Did heard (language.backends program) x y (steps ++ extra) (bytes_of steps ++ part)
     pub so : (since : Option Tape) → Went since x.words
         → Runs (WantsBy (language.evaluator program) (WasDrawn since y.words) request peer) (given.Reply told ∷ []) steps
         × CutBy (WantsNow program since y.words steps) (Refused y.known x.readings y.readings) cut extra part

@@ -2,8 +2,7 @@
 use Rattle.std.specs.Prelude.{◌≡◌, ◌⊎◌, ⊤, ℕ, Bool, true, false, List, [], ◌∷◌, ◌++◌, length, Option, Some}
 use Rattle.std.specs.List.{AllByRecursion}
 use Rattle.http_heads.specs.declared.exchange.Exchange.TheVariants.{NoMemory as Failed}
-use Rattle.wire.specs.Flow.{Flow}
-use Rattle.wire.specs.Talks.{Adds}
+use Rattle.wire.specs.Telling.{LinkTold, DialerTold, Gains}
 use Rattle.wire.specs.declared.peer.Talk.{Talk}
 use Rattle.cache_law.specs.declared.call.Call.{Call}
 use Rattle.cache_law.specs.declared.call.Call.TheVariants.{Begin, End}
@@ -68,7 +67,7 @@ RefusedBegin readings beginning history caller HistoryFull = DidntFit readings b
 RefusedBegin readings beginning history caller WriteFault = ⊥
 
 -- What the words of directors are, and the readings of the clock. Each exchange's moment is one of these.
-module _ {P L : Type 0} (language : Language P) (words : Option ℕ → Type 0) (readings : ℕ → Type 0) (flow : L → Option Flow) where
+module _ {P L : Type 0} (language : Language P) (words : Option ℕ → Type 0) (readings : ℕ → Type 0) (heard : L → LinkTold) where
   -- A whole round: these things happened in it, and the last is its End.
   pub record Tells (history : List Entry) (caller : ℕ) (round : Round) (talks : List (Talk L)) (closes : Bool) : Type 0 where
     pub program : P
@@ -83,7 +82,7 @@ module _ {P L : Type 0} (language : Language P) (words : Option ℕ → Type 0) 
     pub exchanges_are : round.exchanges.items ≡ exchanges_of steps
     pub sent_is : round.sent.items ≡ bytes_of steps
     pub timed : AllByRecursion (λ got. readings got.moment) round.exchanges.items
-    pub talked : TalksOf flow (language.backends program) steps talks
+    pub talked : TalksOf heard (language.backends program) steps talks
     pub closes_is : closes_of steps ≡ closes
 
   -- One that was cut short behind `steps`, and was closed by an End.
@@ -105,7 +104,7 @@ module _ {P L : Type 0} (language : Language P) (words : Option ℕ → Type 0) 
     pub exchanges_are : round.exchanges.items ≡ exchanges_of (steps ++ extra)
     pub sent_is : round.sent.items ≡ bytes_of steps ++ part
     pub timed : AllByRecursion (λ got. readings got.moment) round.exchanges.items
-    pub talked : TalksOf flow (language.backends program) (steps ++ extra) talks
+    pub talked : TalksOf heard (language.backends program) (steps ++ extra) talks
 
   -- One whose Begin was refused.
   pub record NeverBegan (beginning : Beginning) (history : List Entry) (caller : ℕ) (round : Round) (talks : List (Talk L)) (cut : Cut) : Type 0 where
@@ -142,10 +141,10 @@ module _ {P L : Type 0} (language : Language P) (words : Option ℕ → Type 0) 
       ⊎ NeverBegan beginning history caller round talks NoMemory
 
   -- A round was led, from what the caller's pass knew and the dialer told to what they then do.
-  pub record LedBy (k k' : CallerKnows) (told told' : Option (List (Talk L))) (round : Round) (how : Answered) : Type 0 where
+  pub record LedBy (k k' : CallerKnows) (told told' : DialerTold L) (round : Round) (how : Answered) : Type 0 where
     pub beginning : Beginning
     pub begins : k'.setting ≡ Some beginning
     pub called : HasCalled k k' round.numbers.items
     pub talks : List (Talk L)
-    pub added : Adds told told' talks
+    pub gained : Gains told told' talks
     pub response : IsResponse beginning k'.seen k.number round talks how

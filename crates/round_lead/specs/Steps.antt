@@ -7,7 +7,7 @@ use Rattle.http_heads.specs.declared.exchange.BackendRequest.{BackendRequest}
 use Rattle.http_heads.specs.declared.exchange.Got.{Got}
 use Rattle.wire.specs.Flow.{Flow, Moves}
 use Rattle.wire.specs.Tapes.{Tape, Tells}
-use Rattle.wire.specs.Talks.{Adds}
+use Rattle.wire.specs.Telling.{LinkTold, DialerTold, Gains, dialer_told_by}
 use Rattle.wire.specs.declared.peer.Talk.{Talk}
 use Rattle.cache_law.specs.declared.call.Call.{Call}
 use Rattle.cache_law.specs.declared.cache.Told.{Told}
@@ -36,20 +36,20 @@ pub record At (L : Type 0) : Type 0 where
   pub flow : Option Flow
   pub readings : Option Tape
   pub words : Option Tape
-  pub talks : Option (List (Talk L))
+  pub dialer : DialerTold L
   pub places : List ℕ
   pub exchanges : List Got
   pub sent : List ℕ
   pub closes : Bool
 
-abbrev pub stood : {D K Q L : Type 0} → (D → Option (List (Talk L))) → (K → Option Tape) → (K → Option Tape) → Shift D K Q → Option Flow → Progress → At L
-stood talks readings words shift flow progress =
+abbrev pub stood : {D K Q L : Type 0} → (D → Option (List (Talk L))) → (D → ℕ) → (K → Option Tape) → (K → Option Tape) → Shift D K Q → Option Flow → Progress → At L
+stood talks dial_faults readings words shift flow progress =
     record {
       known = known shift.pass;
       flow = flow;
       readings = readings shift.kit.clock;
       words = words shift.kit.clock;
-      talks = talks shift.kit.dialer;
+      dialer = dialer_told_by talks dial_faults shift.kit.dialer;
       places = progress.numbers.items;
       exchanges = progress.exchanges.items;
       sent = progress.sent.items;
@@ -57,7 +57,7 @@ stood talks readings words shift flow progress =
     }
 
 -- These things happened, from one to the other, and so many bytes were sent.
-pub record Did {L : Type 0} (flow : L → Option Flow) (backends : List ℕ → Backend) (x y : At L) (steps : List Happened) (sent : List ℕ) : Type 0 where
+pub record Did {L : Type 0} (heard : L → LinkTold) (backends : List ℕ → Backend) (x y : At L) (steps : List Happened) (sent : List ℕ) : Type 0 where
   pub places : List ℕ
   pub called : HasCalled x.known y.known places
   pub places_are : y.places ≡ x.places ++ places
@@ -68,8 +68,8 @@ pub record Did {L : Type 0} (flow : L → Option Flow) (backends : List ℕ → 
   pub sent_are : y.sent ≡ x.sent ++ sent
   pub moves : Moves x.flow y.flow [] sent
   pub talks : List (Talk L)
-  pub added : Adds x.talks y.talks talks
-  pub talked : TalksOf flow backends steps talks
+  pub gained : Gains x.dialer y.dialer talks
+  pub talked : TalksOf heard backends steps talks
   pub closes_are : y.closes ≡ (x.closes || closes_of steps)
   pub read : Went x.readings y.readings
   pub drew : Went x.words y.words
@@ -115,12 +115,12 @@ pub record Declines (k k' : CallerKnows) (reads reads' : Option Tape) (p p' : Pr
   pub why : RefusedFor error k' reads reads' call
 
 -- One exchange was made, and is kept.
-pub record Exchanges {L : Type 0} (flow : L → Option Flow) (backend : Backend) (request : BackendRequest) (reads reads' : Option Tape)
-    (talks talks' : Option (List (Talk L))) (p p' : Progress) (got : Got) : Type 0 where
+pub record Exchanges {L : Type 0} (heard : L → LinkTold) (backend : Backend) (request : BackendRequest) (reads reads' : Option Tape)
+    (dialer dialer' : DialerTold L) (p p' : Progress) (got : Got) : Type 0 where
   pub read : Tells reads reads' got.moment
   pub more : List (Talk L)
-  pub added : Adds talks talks' more
-  pub by : TalksBy flow backend request got.exchange more
+  pub gained : Gains dialer dialer' more
+  pub by : TalksBy heard backend request got.exchange more
   pub exchanges_are : p'.exchanges.items ≡ p.exchanges.items ++ got ∷ []
   pub places_are : p'.numbers ≡ p.numbers
   pub sent_are : p'.sent.items ≡ p.sent.items

@@ -2,6 +2,7 @@
 ghost use Rattle.std.specs.Prelude.{◌≡◌, ◌≢◌, ◌≤◌, List, ℕ, Option, true, false, IfOk, IfErr};
 ghost use Rattle.wire.specs.Causes.{Rose};
 ghost use Rattle.wire.specs.Flow.{Flow};
+ghost use Rattle.wire.specs.Telling.{told_by};
 ghost use Rattle.http_heads.specs.declared.exchange.Backend.{Backend as Server};
 ghost use Rattle.turnstile.specs.Handles.{known};
 ghost use Rattle.shared_cache.specs.Passes.{IsPassOf};
@@ -38,9 +39,9 @@ fn answer_call<R: Wait, C: CacheCore, G: Gate, D: Dialer, K: Clock, P>(
     requires room { CanClose progress.old }
     requires goes_on { is_last (Want.Cache call) ≡ false }
     ensures given { IfOk result (λ given. (over : Option Flow) (backends : List ℕ → Server)
-        → Gives D.Link.flow backends (stood D.talks K.readings K.words shift.old over progress.old) (stood D.talks K.readings K.words shift.new over progress.new) (Want.Cache call) given) }
+        → Gives (told_by D.Link.flow D.Link.read_faults D.Link.write_faults D.Link.peer D.Link.is_open) backends (stood D.talks D.dial_faults K.readings K.words shift.old over progress.old) (stood D.talks D.dial_faults K.readings K.words shift.new over progress.new) (Want.Cache call) given) }
     ensures cut { IfErr result (λ cut. (over : Option Flow) (backends : List ℕ → Server)
-        → Fails D.Link.flow backends (stood D.talks K.readings K.words shift.old over progress.old) (stood D.talks K.readings K.words shift.new over progress.new) (Want.Cache call) cut) }
+        → Fails (told_by D.Link.flow D.Link.read_faults D.Link.write_faults D.Link.peer D.Link.is_open) backends (stood D.talks D.dial_faults K.readings K.words shift.old over progress.old) (stood D.talks D.dial_faults K.readings K.words shift.new over progress.new) (Want.Cache call) cut) }
     ensures not_written { IfErr result (λ cut. cut ≢ Cut.WriteFault) }
     ensures pass { IsPassOf site.now.shared.now shift.new.pass }
     ensures opened { has_open (known shift.new.pass) ≡ true }
@@ -64,9 +65,9 @@ fn answer_exchange<R, C: CacheCore, G: Gate, D: Dialer, K: Clock, P: Programs<M>
 ) -> Result<Given, Cut>
     requires room { CanClose progress.old }
     ensures given { IfOk result (λ given. (over : Option Flow) (number : ℕ)
-        → Gives D.Link.flow (P.backends program.now) (stood D.talks K.readings K.words shift.old over progress.old) (stood D.talks K.readings K.words shift.new over progress.new) (Want.Exchange number name.now request.now) given) }
+        → Gives (told_by D.Link.flow D.Link.read_faults D.Link.write_faults D.Link.peer D.Link.is_open) (P.backends program.now) (stood D.talks D.dial_faults K.readings K.words shift.old over progress.old) (stood D.talks D.dial_faults K.readings K.words shift.new over progress.new) (Want.Exchange number name.now request.now) given) }
     ensures cut { IfErr result (λ cut. (over : Option Flow) (number : ℕ)
-        → Fails D.Link.flow (P.backends program.now) (stood D.talks K.readings K.words shift.old over progress.old) (stood D.talks K.readings K.words shift.new over progress.new) (Want.Exchange number name.now request.now) cut) }
+        → Fails (told_by D.Link.flow D.Link.read_faults D.Link.write_faults D.Link.peer D.Link.is_open) (P.backends program.now) (stood D.talks D.dial_faults K.readings K.words shift.old over progress.old) (stood D.talks D.dial_faults K.readings K.words shift.new over progress.new) (Want.Exchange number name.now request.now) cut) }
     ensures not_written { IfErr result (λ cut. cut ≢ Cut.WriteFault) }
     ensures pass { shift.new.pass ≡ shift.old.pass }
     ensures is_open { progress.new.is_open ≡ progress.old.is_open }
@@ -106,8 +107,8 @@ pub(crate) fn answer<
     requires is_open { progress.old.is_open ≡ true }
     requires room { CanClose progress.old }
     requires goes_on { is_last want ≡ false }
-    ensures given { IfOk result (Gives D.Link.flow (P.backends program.now) (stood D.talks K.readings K.words shift.old (L.flow link.old) progress.old) (stood D.talks K.readings K.words shift.new (L.flow link.new) progress.new) want) }
-    ensures cut { IfErr result (Fails D.Link.flow (P.backends program.now) (stood D.talks K.readings K.words shift.old (L.flow link.old) progress.old) (stood D.talks K.readings K.words shift.new (L.flow link.new) progress.new) want) }
+    ensures given { IfOk result (Gives (told_by D.Link.flow D.Link.read_faults D.Link.write_faults D.Link.peer D.Link.is_open) (P.backends program.now) (stood D.talks D.dial_faults K.readings K.words shift.old (L.flow link.old) progress.old) (stood D.talks D.dial_faults K.readings K.words shift.new (L.flow link.new) progress.new) want) }
+    ensures cut { IfErr result (Fails (told_by D.Link.flow D.Link.read_faults D.Link.write_faults D.Link.peer D.Link.is_open) (P.backends program.now) (stood D.talks D.dial_faults K.readings K.words shift.old (L.flow link.old) progress.old) (stood D.talks D.dial_faults K.readings K.words shift.new (L.flow link.new) progress.new) want) }
     ensures pass { IsPassOf site.now.shared.now shift.new.pass }
     ensures opened { has_open (known shift.new.pass) ≡ true }
     ensures is_open { progress.new.is_open ≡ true }

@@ -2,6 +2,7 @@
 ghost use Rattle.std.specs.Prelude.{◌≡◌, ◌≢◌, ◌⊎◌, IfOk, OnErr};
 ghost use Rattle.http_heads.specs.declared.exchange.Got.{Got as Gotten};
 ghost use Rattle.round_lead.specs.Steps.{Exchanges};
+ghost use Rattle.wire.specs.Telling.{told_by, dialer_told_by};
 
 use crate::Site;
 use crate::keeping::Progress;
@@ -35,10 +36,10 @@ pub(crate) fn exchange_on<R, C: CacheCore, G: Gate, D: Dialer, K: Clock>(
     request: &BackendRequest,
 ) -> Result<Got, AllocError>
     ensures made { IfOk result (λ got. (got.exchange ≢ Exchange.NoMemory)
-        × Exchanges D.Link.flow backend.now request.now (K.readings kit.old.clock) (K.readings kit.new.clock) (D.talks kit.old.dialer) (D.talks kit.new.dialer) progress.old progress.new got) }
+        × Exchanges (told_by D.Link.flow D.Link.read_faults D.Link.write_faults D.Link.peer D.Link.is_open) backend.now request.now (K.readings kit.old.clock) (K.readings kit.new.clock) (dialer_told_by D.talks D.dial_faults kit.old.dialer) (dialer_told_by D.talks D.dial_faults kit.new.dialer) progress.old progress.new got) }
     ensures untold { OnErr result (((kit.new ≡ kit.old) × (progress.new.numbers ≡ progress.old.numbers) × (progress.new.exchanges.items ≡ progress.old.exchanges.items)
         × (progress.new.sent ≡ progress.old.sent) × (progress.new.closes ≡ progress.old.closes) × (progress.new.is_open ≡ progress.old.is_open))
-        ⊎ ((got : Gotten) × Exchanges D.Link.flow backend.now request.now (K.readings kit.old.clock) (K.readings kit.new.clock) (D.talks kit.old.dialer) (D.talks kit.new.dialer) progress.old progress.new got)) }
+        ⊎ ((got : Gotten) × Exchanges (told_by D.Link.flow D.Link.read_faults D.Link.write_faults D.Link.peer D.Link.is_open) backend.now request.now (K.readings kit.old.clock) (K.readings kit.new.clock) (dialer_told_by D.talks D.dial_faults kit.old.dialer) (dialer_told_by D.talks D.dial_faults kit.new.dialer) progress.old progress.new got)) }
     ensures words { K.words kit.new.clock ≡ K.words kit.old.clock }
 {
     if progress.exchanges.reserve(1).is_err() {

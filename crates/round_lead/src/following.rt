@@ -1,6 +1,7 @@
 // A round from its Begin to where its End is wanted.
 ghost use Rattle.std.specs.Prelude.{◌≡◌, ◌≤◌, true, false, IfOk, IfErr, OnOk};
 ghost use Rattle.wire.specs.Causes.{Rose};
+ghost use Rattle.wire.specs.Telling.{told_by};
 ghost use Rattle.turnstile.specs.Handles.{known};
 ghost use Rattle.shared_cache.specs.Passes.{IsPassOf};
 ghost use Rattle.cache_law.specs.declared.call.Call.TheVariants.{End};
@@ -58,10 +59,10 @@ fn ask_next<
     requires room { CanClose progress.old }
     requires may { MayGoOn (λ run ran. M.stands run program.now ran) M.fits machine.old.place }
     requires goes_on { is_last want ≡ false }
-    ensures goes { IfOk result (Goes (evaluator M.turns M.targets M.default_of program.now) (λ run ran. M.stands run program.now ran) M.fits D.Link.flow (P.backends program.now)
-        machine.old.place want (stood D.talks K.readings K.words shift.old (L.flow link.old) progress.old) (stood D.talks K.readings K.words shift.new (L.flow link.new) progress.new) machine.new.place) }
-    ensures stops { IfErr result (Stops (evaluator M.turns M.targets M.default_of program.now) (λ run ran. M.stands run program.now ran) M.fits D.Link.flow (P.backends program.now)
-        machine.old.place want (stood D.talks K.readings K.words shift.old (L.flow link.old) progress.old) (stood D.talks K.readings K.words shift.new (L.flow link.new) progress.new)) }
+    ensures goes { IfOk result (Goes (evaluator M.turns M.targets M.default_of program.now) (λ run ran. M.stands run program.now ran) M.fits (told_by D.Link.flow D.Link.read_faults D.Link.write_faults D.Link.peer D.Link.is_open) (P.backends program.now)
+        machine.old.place want (stood D.talks D.dial_faults K.readings K.words shift.old (L.flow link.old) progress.old) (stood D.talks D.dial_faults K.readings K.words shift.new (L.flow link.new) progress.new) machine.new.place) }
+    ensures stops { IfErr result (Stops (evaluator M.turns M.targets M.default_of program.now) (λ run ran. M.stands run program.now ran) M.fits (told_by D.Link.flow D.Link.read_faults D.Link.write_faults D.Link.peer D.Link.is_open) (P.backends program.now)
+        machine.old.place want (stood D.talks D.dial_faults K.readings K.words shift.old (L.flow link.old) progress.old) (stood D.talks D.dial_faults K.readings K.words shift.new (L.flow link.new) progress.new)) }
     ensures may { OnOk result (MayGoOn (λ run ran. M.stands run program.now ran) M.fits machine.new.place) }
     ensures pass { IsPassOf site.now.shared.now shift.new.pass }
     ensures opened { has_open (known shift.new.pass) ≡ true }
@@ -99,10 +100,10 @@ fn advance<R: Wait, C: CacheCore, G: Gate, D: Dialer, K: Clock, P: Programs<M>, 
     requires room { CanClose progress.old }
     requires may { MayGoOn (λ run ran. M.stands run program.now ran) M.fits machine.old.place }
     requires goes_on { is_last want.old ≡ false }
-    ensures goes { OnOk result (Goes (evaluator M.turns M.targets M.default_of program.now) (λ run ran. M.stands run program.now ran) M.fits D.Link.flow (P.backends program.now)
-        machine.old.place want.old (stood D.talks K.readings K.words shift.old (L.flow link.old) progress.old) (stood D.talks K.readings K.words shift.new (L.flow link.new) progress.new) machine.new.place want.new) }
-    ensures stops { IfErr result (Stops (evaluator M.turns M.targets M.default_of program.now) (λ run ran. M.stands run program.now ran) M.fits D.Link.flow (P.backends program.now)
-        machine.old.place want.old (stood D.talks K.readings K.words shift.old (L.flow link.old) progress.old) (stood D.talks K.readings K.words shift.new (L.flow link.new) progress.new)) }
+    ensures goes { OnOk result (Goes (evaluator M.turns M.targets M.default_of program.now) (λ run ran. M.stands run program.now ran) M.fits (told_by D.Link.flow D.Link.read_faults D.Link.write_faults D.Link.peer D.Link.is_open) (P.backends program.now)
+        machine.old.place want.old (stood D.talks D.dial_faults K.readings K.words shift.old (L.flow link.old) progress.old) (stood D.talks D.dial_faults K.readings K.words shift.new (L.flow link.new) progress.new) machine.new.place want.new) }
+    ensures stops { IfErr result (Stops (evaluator M.turns M.targets M.default_of program.now) (λ run ran. M.stands run program.now ran) M.fits (told_by D.Link.flow D.Link.read_faults D.Link.write_faults D.Link.peer D.Link.is_open) (P.backends program.now)
+        machine.old.place want.old (stood D.talks D.dial_faults K.readings K.words shift.old (L.flow link.old) progress.old) (stood D.talks D.dial_faults K.readings K.words shift.new (L.flow link.new) progress.new)) }
     ensures may { OnOk result (MayGoOn (λ run ran. M.stands run program.now ran) M.fits machine.new.place) }
     ensures pass { IsPassOf site.now.shared.now shift.new.pass }
     ensures opened { has_open (known shift.new.pass) ≡ true }
@@ -147,10 +148,10 @@ pub(crate) fn follow<
     requires is_open { progress.old.is_open ≡ true }
     requires room { CanClose progress.old }
     requires may { MayGoOn (λ run ran. M.stands run program.now ran) M.fits machine.old.place }
-    ensures whole { OnOk result ((place : RoundPlace M) × Goes (evaluator M.turns M.targets M.default_of program.now) (λ run ran. M.stands run program.now ran) M.fits D.Link.flow (P.backends program.now)
-        machine.old.place want.old (stood D.talks K.readings K.words shift.old (L.flow link.old) progress.old) (stood D.talks K.readings K.words shift.new (L.flow link.new) progress.new) place (Want.Cache End)) }
-    ensures stops { IfErr result (Stops (evaluator M.turns M.targets M.default_of program.now) (λ run ran. M.stands run program.now ran) M.fits D.Link.flow (P.backends program.now)
-        machine.old.place want.old (stood D.talks K.readings K.words shift.old (L.flow link.old) progress.old) (stood D.talks K.readings K.words shift.new (L.flow link.new) progress.new)) }
+    ensures whole { OnOk result ((place : RoundPlace M) × Goes (evaluator M.turns M.targets M.default_of program.now) (λ run ran. M.stands run program.now ran) M.fits (told_by D.Link.flow D.Link.read_faults D.Link.write_faults D.Link.peer D.Link.is_open) (P.backends program.now)
+        machine.old.place want.old (stood D.talks D.dial_faults K.readings K.words shift.old (L.flow link.old) progress.old) (stood D.talks D.dial_faults K.readings K.words shift.new (L.flow link.new) progress.new) place (Want.Cache End)) }
+    ensures stops { IfErr result (Stops (evaluator M.turns M.targets M.default_of program.now) (λ run ran. M.stands run program.now ran) M.fits (told_by D.Link.flow D.Link.read_faults D.Link.write_faults D.Link.peer D.Link.is_open) (P.backends program.now)
+        machine.old.place want.old (stood D.talks D.dial_faults K.readings K.words shift.old (L.flow link.old) progress.old) (stood D.talks D.dial_faults K.readings K.words shift.new (L.flow link.new) progress.new)) }
     ensures pass { IsPassOf site.now.shared.now shift.new.pass }
     ensures opened { has_open (known shift.new.pass) ≡ true }
     ensures is_open { progress.new.is_open ≡ true }

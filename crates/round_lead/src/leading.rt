@@ -2,6 +2,7 @@
 ghost use Rattle.std.specs.Prelude.{◌≡◌, ◌≤◌, [], true, false, Option, IfOk, IfErr, OnOk, OnErr};
 ghost use Rattle.wire.specs.Causes.{Rose};
 ghost use Rattle.wire.specs.Flow.{Flow, Moves};
+ghost use Rattle.wire.specs.Telling.{told_by, dialer_told_by};
 ghost use Rattle.turnstile.specs.Handles.{known};
 ghost use Rattle.shared_cache.specs.Passes.{IsPassOf};
 ghost use Rattle.shared_cache.specs.Sharing.{SeesLegal};
@@ -58,7 +59,7 @@ fn begin<R: Wait, C: CacheCore, G: Gate, D: Dialer, K: Clock, P>(
     ensures opens { OnOk result (progress.new.is_open ≡ true) }
     ensures idle { OnErr result (progress.new.is_open ≡ false) }
     ensures programs { shift.new.programs ≡ shift.old.programs }
-    ensures began { (over : Option Flow) → Began D.Link.flow (stood D.talks K.readings K.words shift.old over progress.old) (stood D.talks K.readings K.words shift.new over progress.new) result }
+    ensures began { (over : Option Flow) → Began (told_by D.Link.flow D.Link.read_faults D.Link.write_faults D.Link.peer D.Link.is_open) (stood D.talks D.dial_faults K.readings K.words shift.old over progress.old) (stood D.talks D.dial_faults K.readings K.words shift.new over progress.new) result }
 {
     let _ = shift.kit.clock.word();
     match call_on(
@@ -107,10 +108,10 @@ fn run_on<R: Wait, C: CacheCore, G: Gate, D: Dialer, K: Clock, P: Programs<M>, M
     requires opened { has_open (known shift.old.pass) ≡ true }
     requires is_open { progress.old.is_open ≡ true }
     requires room { CanClose progress.old }
-    ensures whole { OnOk result (Whole (language_of P.of_text M.turns M.targets M.default_of P.backends) D.Link.flow request peer told
-        (stood D.talks K.readings K.words shift.old (L.flow link.old) progress.old) (stood D.talks K.readings K.words shift.new (L.flow link.new) progress.new)) }
-    ensures cut { IfErr result (Breaks (language_of P.of_text M.turns M.targets M.default_of P.backends) D.Link.flow request peer told
-        (stood D.talks K.readings K.words shift.old (L.flow link.old) progress.old) (stood D.talks K.readings K.words shift.new (L.flow link.new) progress.new)) }
+    ensures whole { OnOk result (Whole (language_of P.of_text M.turns M.targets M.default_of P.backends) (told_by D.Link.flow D.Link.read_faults D.Link.write_faults D.Link.peer D.Link.is_open) request peer told
+        (stood D.talks D.dial_faults K.readings K.words shift.old (L.flow link.old) progress.old) (stood D.talks D.dial_faults K.readings K.words shift.new (L.flow link.new) progress.new)) }
+    ensures cut { IfErr result (Breaks (language_of P.of_text M.turns M.targets M.default_of P.backends) (told_by D.Link.flow D.Link.read_faults D.Link.write_faults D.Link.peer D.Link.is_open) request peer told
+        (stood D.talks D.dial_faults K.readings K.words shift.old (L.flow link.old) progress.old) (stood D.talks D.dial_faults K.readings K.words shift.new (L.flow link.new) progress.new)) }
     ensures pass { IsPassOf site.now.shared.now shift.new.pass }
     ensures opened { has_open (known shift.new.pass) ≡ true }
     ensures is_open { progress.new.is_open ≡ true }
@@ -152,10 +153,10 @@ where
     requires opened { has_open (known shift.old.pass) ≡ true }
     requires is_open { progress.old.is_open ≡ true }
     requires room { CanClose progress.old }
-    ensures whole { OnOk result (Whole (language_of P.of_text M.turns M.targets M.default_of P.backends) D.Link.flow request peer told
-        (stood D.talks K.readings K.words shift.old (L.flow link.old) progress.old) (stood D.talks K.readings K.words shift.new (L.flow link.new) progress.new)) }
-    ensures cut { IfErr result (Breaks (language_of P.of_text M.turns M.targets M.default_of P.backends) D.Link.flow request peer told
-        (stood D.talks K.readings K.words shift.old (L.flow link.old) progress.old) (stood D.talks K.readings K.words shift.new (L.flow link.new) progress.new)) }
+    ensures whole { OnOk result (Whole (language_of P.of_text M.turns M.targets M.default_of P.backends) (told_by D.Link.flow D.Link.read_faults D.Link.write_faults D.Link.peer D.Link.is_open) request peer told
+        (stood D.talks D.dial_faults K.readings K.words shift.old (L.flow link.old) progress.old) (stood D.talks D.dial_faults K.readings K.words shift.new (L.flow link.new) progress.new)) }
+    ensures cut { IfErr result (Breaks (language_of P.of_text M.turns M.targets M.default_of P.backends) (told_by D.Link.flow D.Link.read_faults D.Link.write_faults D.Link.peer D.Link.is_open) request peer told
+        (stood D.talks D.dial_faults K.readings K.words shift.old (L.flow link.old) progress.old) (stood D.talks D.dial_faults K.readings K.words shift.new (L.flow link.new) progress.new)) }
     ensures pass { IsPassOf site.now.shared.now shift.new.pass }
     ensures opened { has_open (known shift.new.pass) ≡ true }
     ensures is_open { progress.new.is_open ≡ true }
@@ -209,8 +210,8 @@ where
     requires first { IsFirst progress.old }
     requires legal { SeesLegal (known shift.old.pass) }
     ensures led { LedBy (language_of P.of_text M.turns M.targets M.default_of P.backends)
-        (WasDrawn (K.words shift.old.kit.clock) (K.words shift.new.kit.clock)) (ToldIn (K.readings shift.old.kit.clock) (K.readings shift.new.kit.clock)) D.Link.flow
-        (known shift.old.pass) (known shift.new.pass) (D.talks shift.old.kit.dialer) (D.talks shift.new.kit.dialer) (kept request peer progress.new) result }
+        (WasDrawn (K.words shift.old.kit.clock) (K.words shift.new.kit.clock)) (ToldIn (K.readings shift.old.kit.clock) (K.readings shift.new.kit.clock)) (told_by D.Link.flow D.Link.read_faults D.Link.write_faults D.Link.peer D.Link.is_open)
+        (known shift.old.pass) (known shift.new.pass) (dialer_told_by D.talks D.dial_faults shift.old.kit.dialer) (dialer_told_by D.talks D.dial_faults shift.new.kit.dialer) (kept request peer progress.new) result }
     ensures moves { Moves (L.flow link.old) (L.flow link.new) [] progress.new.sent.items }
     ensures clock { Went (K.readings shift.old.kit.clock) (K.readings shift.new.kit.clock) × Went (K.words shift.old.kit.clock) (K.words shift.new.kit.clock) }
     ensures pass { IsPassOf site.now.shared.now shift.new.pass }
@@ -258,8 +259,8 @@ where
     requires first { IsFirst progress.old }
     requires legal { SeesLegal (known shift.old.pass) }
     ensures led { LedBy (language_of P.of_text M.turns M.targets M.default_of P.backends)
-        (WasDrawn (K.words shift.old.kit.clock) (K.words shift.new.kit.clock)) (ToldIn (K.readings shift.old.kit.clock) (K.readings shift.new.kit.clock)) D.Link.flow
-        (known shift.old.pass) (known shift.new.pass) (D.talks shift.old.kit.dialer) (D.talks shift.new.kit.dialer) (kept request.now peer progress.new) result }
+        (WasDrawn (K.words shift.old.kit.clock) (K.words shift.new.kit.clock)) (ToldIn (K.readings shift.old.kit.clock) (K.readings shift.new.kit.clock)) (told_by D.Link.flow D.Link.read_faults D.Link.write_faults D.Link.peer D.Link.is_open)
+        (known shift.old.pass) (known shift.new.pass) (dialer_told_by D.talks D.dial_faults shift.old.kit.dialer) (dialer_told_by D.talks D.dial_faults shift.new.kit.dialer) (kept request.now peer progress.new) result }
     ensures moves { Moves (L.flow link.old) (L.flow link.new) [] progress.new.sent.items }
     ensures clock { Went (K.readings shift.old.kit.clock) (K.readings shift.new.kit.clock) × Went (K.words shift.old.kit.clock) (K.words shift.new.kit.clock) }
     ensures pass { IsPassOf site.now.shared.now shift.new.pass }
@@ -300,8 +301,8 @@ where
     requires idle { has_open (known shift.old.pass) ≡ false }
     requires legal { SeesLegal (known shift.old.pass) }
     ensures led { LedBy (language_of P.of_text M.turns M.targets M.default_of P.backends)
-        (WasDrawn (K.words shift.old.kit.clock) (K.words shift.new.kit.clock)) (ToldIn (K.readings shift.old.kit.clock) (K.readings shift.new.kit.clock)) D.Link.flow
-        (known shift.old.pass) (known shift.new.pass) (D.talks shift.old.kit.dialer) (D.talks shift.new.kit.dialer) result.0 result.1 }
+        (WasDrawn (K.words shift.old.kit.clock) (K.words shift.new.kit.clock)) (ToldIn (K.readings shift.old.kit.clock) (K.readings shift.new.kit.clock)) (told_by D.Link.flow D.Link.read_faults D.Link.write_faults D.Link.peer D.Link.is_open)
+        (known shift.old.pass) (known shift.new.pass) (dialer_told_by D.talks D.dial_faults shift.old.kit.dialer) (dialer_told_by D.talks D.dial_faults shift.new.kit.dialer) result.0 result.1 }
     ensures moves { Moves (L.flow link.old) (L.flow link.new) [] result.0.sent.items }
     ensures request { (result.0.request ≡ request) × (result.0.peer ≡ peer) }
     ensures clock { Went (K.readings shift.old.kit.clock) (K.readings shift.new.kit.clock) × Went (K.words shift.old.kit.clock) (K.words shift.new.kit.clock) }

@@ -12,10 +12,12 @@ mod cut;
 mod exchanging;
 mod following;
 mod keeping;
+mod laws;
 mod leading;
 mod sending;
 mod site;
 
 pub use keeping::Round;
+pub use laws::made_under_its_vcl;
 pub use leading::lead;
 pub use site::{Shift, Site};

@@ -3,6 +3,8 @@ use Rattle.std.proofs.Common.{◌≡◌, ℕ, List, [], ◌∷◌, ◌++◌, Opt
 use Rattle.std.proofs.lemmas.List.{append-nil, append_assoc}
 use Rattle.wire.specs.Flow.{Flow}
 use Rattle.wire.specs.Tapes.{Tape}
+use Rattle.wire.proofs.Gaining.{gains_none, gains_then}
+use Rattle.wire.specs.Telling.{LinkTold, DialerTold}
 use Rattle.wire.specs.declared.peer.Talk.{Talk}
 use Rattle.cache_law.specs.declared.call.Entry.{Entry}
 use Rattle.cache_law.specs.declared.rounds.Request.{Request as Asked}
@@ -21,17 +23,16 @@ use Rattle.round_lead.specs.Seen.{HasCalled}
 use Rattle.round_lead.specs.Tapes.{ToldIn, WasDrawn}
 use Rattle.round_lead.proofs.Told.{Went-none, Went-then, ToldIn-wider, WasDrawn-wider}
 use Rattle.round_lead.proofs.Seen.{called_none, called_then, called_number, called_setting, called_seen}
-use Rattle.round_lead.proofs.Things.{adds_none, adds_then}
 use Rattle.round_lead.proofs.Stays.{response_more}
 use Rattle.server.specs.declared.responding.Server.{Server}
 use Rattle.server.specs.Serving.{IsSound, stand_of}
 use Rattle.server.specs.Transcripts.{Stand, AreResponses, LeadsOne, LeadsAll, IsServed, all_numbers}
 
-module _ {P L : Type 0} (language : Language P) (flow : L → Option Flow) (peer : List ℕ) where
+module _ {P L : Type 0} (language : Language P) (heard : L → LinkTold) (peer : List ℕ) where
   responses_more : (words words' : Option ℕ → Type 0) (readings readings' : ℕ → Type 0) (drawn : (word : Option ℕ) → words word → words' word)
       (read : (reading : ℕ) → readings reading → readings' reading) (beginning : Beginning) (history more : List Entry) (caller : ℕ) (rounds : List Round) (turns : List Turn) (talks : List (Talk L))
-      → AreResponses language words readings flow beginning history caller peer rounds turns talks
-      → AreResponses language words' readings' flow beginning (history ++ more) caller peer rounds turns talks
+      → AreResponses language words readings heard beginning history caller peer rounds turns talks
+      → AreResponses language words' readings' heard beginning (history ++ more) caller peer rounds turns talks
   responses_more words words' readings readings' drawn read beginning history more caller [] [] talks are = are
   responses_more words words' readings readings' drawn read beginning history more caller [] (turn ∷ turns) talks are = absurd are
   responses_more words words' readings readings' drawn read beginning history more caller (round ∷ rounds) [] talks are = absurd are
@@ -40,23 +41,23 @@ module _ {P L : Type 0} (language : Language P) (flow : L → Option Flow) (peer
     are.1,
     are.2,
     are.3,
-    response_more language flow words words' readings readings' drawn read beginning history more caller round are.0 turn.answered are.4,
+    response_more language heard words words' readings readings' drawn read beginning history more caller round are.0 turn.answered are.4,
     responses_more words words' readings readings' drawn read beginning history more caller rounds turns are.1 are.5,
   )
 
-  pub leads_none : (x : Stand L) → LeadsAll language flow peer x x []
+  pub leads_none : (x : Stand L) → LeadsAll language heard peer x x []
   leads_none x = record {
     rounds = [];
     kept = sym (append-nil x.rounds);
     called = called_none x.known;
     talks = [];
-    added = adds_none x.talks;
+    gained = gains_none x.dialer;
     each = λ beginning begins. refl;
     read = Went-none x.readings;
     drew = Went-none x.words;
   }
 
-  pub leads_then : (x y z : Stand L) (turn : Turn) (turns : List Turn) → LeadsOne language flow peer x y turn → LeadsAll language flow peer y z turns → LeadsAll language flow peer x z (turn ∷ turns)
+  pub leads_then : (x y z : Stand L) (turn : Turn) (turns : List Turn) → LeadsOne language heard peer x y turn → LeadsAll language heard peer y z turns → LeadsAll language heard peer x z (turn ∷ turns)
   leads_then x y z turn turns one all =
       let seen = called_seen y.known z.known (all_numbers all.rounds) all.called in
       let number = called_number x.known y.known one.round.numbers.items one.led.called in
@@ -66,27 +67,27 @@ module _ {P L : Type 0} (language : Language P) (flow : L → Option Flow) (peer
         kept = all.kept ∙ (ap (λ (rs : List Round). rs ++ all.rounds) one.kept ∙ append_assoc x.rounds (one.round ∷ []) all.rounds);
         called = called_then x.known y.known z.known one.round.numbers.items (all_numbers all.rounds) one.led.called all.called;
         talks = one.led.talks ++ all.talks;
-        added = adds_then x.talks y.talks z.talks one.led.talks all.talks one.led.added all.added;
+        gained = gains_then x.dialer y.dialer z.dialer one.led.talks all.talks one.led.gained all.gained;
         each = λ beginning begins.
             let same : one.led.beginning ≡ beginning = let e : Some one.led.beginning ≡ Some beginning = sym one.led.begins ∙ (sym setting ∙ begins) in cc in (
               one.led.talks,
               all.talks,
               refl,
               one.is,
-              subst (λ (h : List Entry). IsResponse language (WasDrawn x.words z.words) (ToldIn x.readings z.readings) flow beginning h x.known.number one.round one.led.talks turn.answered) (sym seen)
-                  (response_more language flow (WasDrawn x.words y.words) (WasDrawn x.words z.words) (ToldIn x.readings y.readings) (ToldIn x.readings z.readings)
+              subst (λ (h : List Entry). IsResponse language (WasDrawn x.words z.words) (ToldIn x.readings z.readings) heard beginning h x.known.number one.round one.led.talks turn.answered) (sym seen)
+                  (response_more language heard (WasDrawn x.words y.words) (WasDrawn x.words z.words) (ToldIn x.readings y.readings) (ToldIn x.readings z.readings)
                   (λ word drawn. WasDrawn-wider x.words x.words y.words z.words word (Went-none x.words) all.drew drawn)
                   (λ reading told. ToldIn-wider x.readings x.readings y.readings z.readings reading (Went-none x.readings) all.read told)
                   beginning y.known.seen all.called.between x.known.number one.round one.led.talks turn.answered
-                  (subst (λ (b : Beginning). IsResponse language (WasDrawn x.words y.words) (ToldIn x.readings y.readings) flow b y.known.seen x.known.number one.round one.led.talks turn.answered) same
+                  (subst (λ (b : Beginning). IsResponse language (WasDrawn x.words y.words) (ToldIn x.readings y.readings) heard b y.known.seen x.known.number one.round one.led.talks turn.answered) same
                   one.led.response)),
-              subst (λ (h : List Entry). AreResponses language (WasDrawn x.words z.words) (ToldIn x.readings z.readings) flow beginning h x.known.number peer all.rounds turns all.talks)
+              subst (λ (h : List Entry). AreResponses language (WasDrawn x.words z.words) (ToldIn x.readings z.readings) heard beginning h x.known.number peer all.rounds turns all.talks)
                   (append-nil z.known.seen)
                   (responses_more (WasDrawn y.words z.words) (WasDrawn x.words z.words) (ToldIn y.readings z.readings) (ToldIn x.readings z.readings)
                   (λ word drawn. WasDrawn-wider x.words y.words z.words z.words word one.drew (Went-none z.words) drawn)
                   (λ reading told. ToldIn-wider x.readings y.readings z.readings z.readings reading one.read (Went-none z.readings) told)
                   beginning z.known.seen [] x.known.number all.rounds turns all.talks
-                  (subst (λ (n : ℕ). AreResponses language (WasDrawn y.words z.words) (ToldIn y.readings z.readings) flow beginning z.known.seen n peer all.rounds turns all.talks) number
+                  (subst (λ (n : ℕ). AreResponses language (WasDrawn y.words z.words) (ToldIn y.readings z.readings) heard beginning z.known.seen n peer all.rounds turns all.talks) number
                   (all.each beginning begins))),
             );
         read = Went-then x.readings y.readings z.readings one.read all.read;
@@ -95,13 +96,13 @@ module _ {P L : Type 0} (language : Language P) (flow : L → Option Flow) (peer
 
   -- what a responder did that leads a round for each request
   module _ {S : Type 0} (does : S → S → Turn → Type 0) (view : S → Stand L) (peer_of : S → List ℕ)
-      (gives : (old new : S) (turn : Turn) → does old new turn → LeadsOne language flow (peer_of old) (view old) (view new) turn)
+      (gives : (old new : S) (turn : Turn) → does old new turn → LeadsOne language heard (peer_of old) (view old) (view new) turn)
       (stays : (old new : S) (turn : Turn) → does old new turn → peer_of new ≡ peer_of old) where
-    pub led_all : (turns : List Turn) (old new : S) → peer_of old ≡ peer → Follow does old turns new → LeadsAll language flow peer (view old) (view new) turns
-    led_all [] old new from same = subst (λ (s : S). LeadsAll language flow peer (view old) (view s) []) (sym same) (leads_none (view old))
+    pub led_all : (turns : List Turn) (old new : S) → peer_of old ≡ peer → Follow does old turns new → LeadsAll language heard peer (view old) (view new) turns
+    led_all [] old new from same = subst (λ (s : S). LeadsAll language heard peer (view old) (view s) []) (sym same) (leads_none (view old))
     led_all (turn ∷ turns) old new from follow =
         leads_then (view old) (view follow.0) (view new) turn turns
-        (subst (λ (p : List ℕ). LeadsOne language flow p (view old) (view follow.0) turn) from (gives old follow.0 turn follow.1))
+        (subst (λ (p : List ℕ). LeadsOne language heard p (view old) (view follow.0) turn) from (gives old follow.0 turn follow.1))
         (led_all turns follow.0 new (stays old follow.0 turn follow.1 ∙ from) follow.2)
 
 -- what holds of a responder at first, and stays behind each of its rounds, holds at last
@@ -113,13 +114,13 @@ holds_last does Holds keeps (turn ∷ turns) old new holds follow = holds_last d
 -- the last part of a connection that a server served
 module _ {R C G D K Q M : Type 0} {does : Server R C G D K Q M → Server R C G D K Q M → Turn → Type 0} (before after : Option Flow) (held left : List ℕ) (old new : Server R C G D K Q M) (ended : Ended)
     (told : Served does before after held left old new ended) where
-  pub is_served : {P L : Type 0} (language : Language P) (flow : L → Option Flow) (talks : D → Option (List (Talk L))) (readings words : K → Option Tape) (first : Stand L)
-      → ((s t : Server R C G D K Q M) (turn : Turn) → does s t turn → (t.peer ≡ s.peer) × LeadsOne language flow s.peer (stand_of talks readings words s) (stand_of talks readings words t) turn)
-      → stand_of talks readings words old ≡ first → held ≡ [] → IsServed language flow old.peer first (stand_of talks readings words new) before after ended
-  is_served {P} {L} language flow talks readings words first leads start empty = record {
+  pub is_served : {P L : Type 0} (language : Language P) (heard : L → LinkTold) (talks : D → Option (List (Talk L))) (dial_faults : D → ℕ) (readings words : K → Option Tape) (first : Stand L)
+      → ((s t : Server R C G D K Q M) (turn : Turn) → does s t turn → (t.peer ≡ s.peer) × LeadsOne language heard s.peer (stand_of talks dial_faults readings words s) (stand_of talks dial_faults readings words t) turn)
+      → stand_of talks dial_faults readings words old ≡ first → held ≡ [] → IsServed language heard old.peer first (stand_of talks dial_faults readings words new) before after ended
+  is_served {P} {L} language heard talks dial_faults readings words first leads start empty = record {
     turns = told.all;
-    led = subst (λ (x : Stand L). LeadsAll language flow old.peer x (stand_of talks readings words new) told.all) start
-        (led_all language flow old.peer does (λ (s : Server R C G D K Q M). stand_of talks readings words s) (λ (s : Server R C G D K Q M). s.peer) (λ s t turn done. (leads s t turn done).1)
+    led = subst (λ (x : Stand L). LeadsAll language heard old.peer x (stand_of talks dial_faults readings words new) told.all) start
+        (led_all language heard old.peer does (λ (s : Server R C G D K Q M). stand_of talks dial_faults readings words s) (λ (s : Server R C G D K Q M). s.peer) (λ s t turn done. (leads s t turn done).1)
         (λ s t turn done. (leads s t turn done).0) told.all old new refl told.went.follow);
     read = told.went.read;
     rest = told.rest;
@@ -143,13 +144,13 @@ abbrev pub as_turn : Asked → Request
 as_turn asked = (asked.head, asked.body)
 
 -- a round for which there was no memory
-pub unled : {P L : Type 0} → (language : Language P) (flow : L → Option Flow) (words : Option ℕ → Type 0) (readings : ℕ → Type 0) (k : CallerKnows) (talks : Option (List (Talk L))) (round : Round) → SeesLegal k
-    → round.numbers.items ≡ [] → round.exchanges.items ≡ [] → round.sent.items ≡ [] → LedBy language words readings flow k k talks talks round NoMemory
-unled language flow words readings k talks round legal no_place no_exchange nothing_sent = record {
+pub unled : {P L : Type 0} → (language : Language P) (heard : L → LinkTold) (words : Option ℕ → Type 0) (readings : ℕ → Type 0) (k : CallerKnows) (dialer : DialerTold L) (round : Round) → SeesLegal k
+    → round.numbers.items ≡ [] → round.exchanges.items ≡ [] → round.sent.items ≡ [] → LedBy language words readings heard k k dialer dialer round NoMemory
+unled language heard words readings k dialer round legal no_place no_exchange nothing_sent = record {
   beginning = legal.beginning;
   begins = legal.begins;
   called = subst (λ (places : List ℕ). HasCalled k k places) (sym no_place) (called_none k);
   talks = [];
-  added = adds_none talks;
+  gained = gains_none dialer;
   response = inr (inr (record { refused = tt; no_place = no_place; no_exchange = no_exchange; nothing_sent = nothing_sent; no_talk = refl }));
 }

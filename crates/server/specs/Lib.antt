@@ -1,2 +1,3 @@
 pub mod Transcripts
+pub mod Complete
 pub mod Serving

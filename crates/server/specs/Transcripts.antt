@@ -3,7 +3,7 @@ use Rattle.std.specs.Prelude.{◌≡◌, ◌⊎◌, ℕ, List, [], ◌∷◌, �
 use Rattle.std.specs.List.{flat_map}
 use Rattle.wire.specs.Flow.{Flow, Moves}
 use Rattle.wire.specs.Tapes.{Tape}
-use Rattle.wire.specs.Talks.{Adds}
+use Rattle.wire.specs.Telling.{LinkTold, DialerTold, Gains}
 use Rattle.wire.specs.declared.peer.Talk.{Talk}
 use Rattle.cache_law.specs.declared.call.Entry.{Entry}
 use Rattle.cache_law.specs.Beginning.{Beginning}
@@ -27,13 +27,13 @@ pub record IsOf (peer : List ℕ) (round : Round) (turn : Turn) : Type 0 where
   pub from : round.peer ≡ peer
   pub sent : round.sent.items ≡ turn.sent
 
-module _ {P L : Type 0} (language : Language P) (words : Option ℕ → Type 0) (readings : ℕ → Type 0) (flow : L → Option Flow) where
+module _ {P L : Type 0} (language : Language P) (words : Option ℕ → Type 0) (readings : ℕ → Type 0) (heard : L → LinkTold) where
   -- Each round is the response to the request of its turn, over the history; the talks are those of their exchanges, in order.
   abbrev pub AreResponses : Beginning → List Entry → ℕ → List ℕ → List Round → List Turn → List (Talk L) → Type 0
   AreResponses beginning history caller peer [] [] talks = talks ≡ []
   AreResponses beginning history caller peer (round ∷ rounds) (turn ∷ turns) talks =
       (first : List (Talk L)) × (rest : List (Talk L)) × (talks ≡ first ++ rest) × IsOf peer round turn
-      × IsResponse language words readings flow beginning history caller round first turn.answered
+      × IsResponse language words readings heard beginning history caller round first turn.answered
       × AreResponses beginning history caller peer rounds turns rest
   AreResponses beginning history caller peer rounds turns talks = ⊥
 
@@ -42,35 +42,35 @@ pub record Stand (L : Type 0) : Type 0 where
   pub known : CallerKnows
   pub readings : Option Tape
   pub words : Option Tape
-  pub talks : Option (List (Talk L))
+  pub dialer : DialerTold L
   pub rounds : List Round
 
 -- One round was led, for this turn.
-pub record LeadsOne {P L : Type 0} (language : Language P) (flow : L → Option Flow) (peer : List ℕ) (x y : Stand L) (turn : Turn) : Type 0 where
+pub record LeadsOne {P L : Type 0} (language : Language P) (heard : L → LinkTold) (peer : List ℕ) (x y : Stand L) (turn : Turn) : Type 0 where
   pub round : Round
   pub kept : y.rounds ≡ x.rounds ++ round ∷ []
   pub is : IsOf peer round turn
-  pub led : LedBy language (WasDrawn x.words y.words) (ToldIn x.readings y.readings) flow x.known y.known x.talks y.talks round turn.answered
+  pub led : LedBy language (WasDrawn x.words y.words) (ToldIn x.readings y.readings) heard x.known y.known x.dialer y.dialer round turn.answered
   pub read : Went x.readings y.readings
   pub drew : Went x.words y.words
 
 -- A round was led for each turn, in order.
-pub record LeadsAll {P L : Type 0} (language : Language P) (flow : L → Option Flow) (peer : List ℕ) (x y : Stand L) (turns : List Turn) : Type 0 where
+pub record LeadsAll {P L : Type 0} (language : Language P) (heard : L → LinkTold) (peer : List ℕ) (x y : Stand L) (turns : List Turn) : Type 0 where
   pub rounds : List Round
   pub kept : y.rounds ≡ x.rounds ++ rounds
   pub called : HasCalled x.known y.known (all_numbers rounds)
   pub talks : List (Talk L)
-  pub added : Adds x.talks y.talks talks
+  pub gained : Gains x.dialer y.dialer talks
   pub each : (beginning : Beginning) → y.known.setting ≡ Some beginning
-      → AreResponses language (WasDrawn x.words y.words) (ToldIn x.readings y.readings) flow beginning y.known.seen x.known.number peer rounds turns talks
+      → AreResponses language (WasDrawn x.words y.words) (ToldIn x.readings y.readings) heard beginning y.known.seen x.known.number peer rounds turns talks
   pub read : Went x.readings y.readings
   pub drew : Went x.words y.words
 
 -- A connection from a peer, from its first request to its end. What came over the link begins with the requests of the turns, and
 -- `rest` stands behind them; the link took what was sent for them, and then `extra`.
-pub record IsServed {P L : Type 0} (language : Language P) (flow : L → Option Flow) (peer : List ℕ) (x y : Stand L) (before after : Option Flow) (ended : Ended) : Type 0 where
+pub record IsServed {P L : Type 0} (language : Language P) (heard : L → LinkTold) (peer : List ℕ) (x y : Stand L) (before after : Option Flow) (ended : Ended) : Type 0 where
   pub turns : List Turn
-  pub led : LeadsAll language flow peer x y turns
+  pub led : LeadsAll language heard peer x y turns
   pub read : List ℕ
   pub rest : List ℕ
   pub extra : List ℕ

@@ -2,6 +2,7 @@
 ghost use Rattle.std.specs.Prelude.{◌≡◌, ◌<◌, ◌≤◌, ◌++◌, ◌∷◌, [], false, length, Option};
 ghost use Rattle.std.specs.Vec.{vec_capacity};
 ghost use Rattle.wire.specs.Causes.{Rose};
+ghost use Rattle.wire.specs.Telling.{told_by};
 
 use cache_law::CacheCore;
 use cache_law::rounds::Request;
@@ -88,8 +89,8 @@ where
     ghost ready = { λ server. IsReady server };
 
     ghost does = { λ old new turn. (new.site ≡ old.site) × (new.peer ≡ old.peer) × IsSound new
-        × LeadsOne (language_of P.of_text M.turns M.targets M.default_of P.backends) D.Link.flow old.peer
-        (stand_of D.talks K.readings K.words old) (stand_of D.talks K.readings K.words new) turn };
+        × LeadsOne (language_of P.of_text M.turns M.targets M.default_of P.backends) (told_by D.Link.flow D.Link.read_faults D.Link.write_faults D.Link.peer D.Link.is_open) old.peer
+        (stand_of D.talks D.dial_faults K.readings K.words old) (stand_of D.talks D.dial_faults K.readings K.words new) turn };
 
     fn respond(&mut self, alloc: Global, link: &mut L, head: RequestHead, body: Text) -> Answered {
         let request = Request { head, body };

@@ -1,6 +1,7 @@
 // A connection, served.
 ghost use Rattle.std.specs.Prelude.{◌≡◌, ◌≤◌, [], false};
 ghost use Rattle.wire.specs.Causes.{Rose};
+ghost use Rattle.wire.specs.Telling.{told_by};
 ghost use Rattle.turnstile.specs.Handles.{known};
 ghost use Rattle.shared_cache.specs.Passes.{IsPassOf};
 ghost use Rattle.shared_cache.specs.Sharing.{SeesLegal};
@@ -8,6 +9,7 @@ ghost use Rattle.vcl_runs.specs.Languages.{language_of};
 ghost use Rattle.round_lead.specs.Seen.{has_open};
 ghost use Rattle.server.specs.Serving.{stands};
 ghost use Rattle.server.specs.Transcripts.{IsServed};
+ghost use Rattle.server.specs.Complete.{IsComplete, IsUnhindered};
 
 use crate::Transcript;
 use crate::responding::Server;
@@ -43,8 +45,11 @@ where
     requires pass { IsPassOf site.shared.now shift.pass }
     requires idle { has_open (known shift.pass) ≡ false }
     requires legal { SeesLegal (known shift.pass) }
-    ensures served { IsServed (language_of P.of_text M.turns M.targets M.default_of P.backends) D.Link.flow peer
-        (stands D.talks K.readings K.words shift []) (stands D.talks K.readings K.words result.0 result.1.rounds.items) (L.flow link.old) (L.flow link.new) result.1.ended }
+    ensures served { IsServed (language_of P.of_text M.turns M.targets M.default_of P.backends) (told_by D.Link.flow D.Link.read_faults D.Link.write_faults D.Link.peer D.Link.is_open) peer
+        (stands D.talks D.dial_faults K.readings K.words shift []) (stands D.talks D.dial_faults K.readings K.words result.0 result.1.rounds.items) (L.flow link.old) (L.flow link.new) result.1.ended }
+    ensures complete { IsUnhindered (L.read_faults link.old) (L.read_faults link.new) (L.write_faults link.old) (L.write_faults link.new) result.1.ended
+        → IsComplete (language_of P.of_text M.turns M.targets M.default_of P.backends) (told_by D.Link.flow D.Link.read_faults D.Link.write_faults D.Link.peer D.Link.is_open) peer
+        (stands D.talks D.dial_faults K.readings K.words shift []) (stands D.talks D.dial_faults K.readings K.words result.0 result.1.rounds.items) (L.flow link.old) }
     ensures pass { IsPassOf site.entry.shared.now result.0.pass }
     ensures idle { has_open (known result.0.pass) ≡ false }
     ensures legal { SeesLegal (known result.0.pass) }

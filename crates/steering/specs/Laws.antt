@@ -1,7 +1,6 @@
 -- What a host over rounds that VCL steers keeps to.
 use Rattle.std.proofs.Common.{◌≡◌, ℕ, false, List, [], ◌∷◌, ◌++◌, Option, Some, sym, ap, ◌∙◌, subst}
 use Rattle.std.specs.Option.{option_map_or}
-use Rattle.wire.specs.Flow.{Flow}
 use Rattle.wire.specs.Tapes.{Tape}
 use Rattle.wire.specs.declared.peer.Talk.{Talk}
 use Rattle.cache_law.specs.declared.call.Entry.{Entry}
@@ -13,7 +12,7 @@ use Rattle.turnstile.specs.Handles.{known}
 use Rattle.shared_cache.specs.declared.sharing.SharedCache.{SharedCache}
 use Rattle.shared_cache.specs.Passes.{IsPassOf}
 use Rattle.shared_cache.specs.Sharing.{CallerKnows, SeesLegal}
-use Rattle.entrance.specs.Arriving.{LinkTold}
+use Rattle.wire.specs.Telling.{LinkTold}
 use Rattle.world.specs.declared.kit.Kit.{Kit}
 use Rattle.connection.specs.Serving.{Round as Turn}
 use Rattle.round_lead.specs.declared.keeping.Round.{Round}
@@ -24,6 +23,7 @@ use Rattle.round_lead.specs.Tapes.{ToldIn, WasDrawn}
 use Rattle.round_lead.proofs.Stays.{response_more}
 use Rattle.server.specs.declared.transcript.Transcript.{Transcript}
 use Rattle.server.specs.Transcripts.{AreResponses, all_numbers}
+use Rattle.server.proofs.Completing.{all_answered}
 use Rattle.steering.specs.Serving.{IsReady, Serves}
 use Rattle.steering.specs.Telling.{Tells}
 use Rattle.crew.specs.Calls.{HasCalled}
@@ -53,8 +53,8 @@ starts cache shift pass start = record {
 
 -- ---- serving
 
-module _ {P D K Q L : Type 0} (language : Language P) (flow : L → Option Flow) (talks : D → Option (List (Talk L))) (readings words : K → Option Tape)
-    (old new : Shift D K Q) (opening closing : LinkTold) (transcript : Transcript) (serves : Serves language flow talks readings words old new opening closing transcript) where
+module _ {P D K Q L : Type 0} (language : Language P) (heard : L → LinkTold) (talks : D → Option (List (Talk L))) (dial_faults : D → ℕ) (readings words : K → Option Tape)
+    (old new : Shift D K Q) (opening closing : LinkTold) (transcript : Transcript) (serves : Serves language heard talks dial_faults readings words old new opening closing transcript) where
   pub calls_of : HasCalled (known old.pass) (known new.pass) (all_numbers transcript.rounds.items)
   calls_of =
       let all = serves.served.led in
@@ -62,7 +62,7 @@ module _ {P D K Q L : Type 0} (language : Language P) (flow : L → Option Flow)
       record { between = called.between; knows = called.knows; gained = called.gained }
 
   pub tells_of : (beginning : Beginning) → (known new.pass).setting ≡ Some beginning
-      → Tells language flow talks readings words beginning (known new.pass).seen (known old.pass).number old.kit new.kit opening closing transcript
+      → Tells language heard talks dial_faults readings words beginning (known new.pass).seen (known old.pass).number old.kit new.kit opening closing transcript
   tells_of beginning begins =
       let served = serves.served in
       let all = served.led in
@@ -71,22 +71,23 @@ module _ {P D K Q L : Type 0} (language : Language P) (flow : L → Option Flow)
         from = serves.from;
         stays = serves.stays;
         turns = served.turns;
-        gained = all.talks;
-        added = all.added;
-        responses = subst (λ (rounds : List Round). AreResponses language (WasDrawn (words old.kit.clock) (words new.kit.clock)) (ToldIn (readings old.kit.clock) (readings new.kit.clock)) flow
+        talked = all.talks;
+        gained = all.gained;
+        responses = subst (λ (rounds : List Round). AreResponses language (WasDrawn (words old.kit.clock) (words new.kit.clock)) (ToldIn (readings old.kit.clock) (readings new.kit.clock)) heard
             beginning (known new.pass).seen (known old.pass).number serves.address rounds served.turns all.talks) (sym all.kept) (all.each beginning begins);
         reads = all.read;
         draws = all.drew;
-        heard = record { read = served.read; rest = served.rest; extra = served.extra; moves = served.moves; requests = served.requests; left = served.left; ends = served.ends };
+        link = record { read = served.read; rest = served.rest; extra = served.extra; moves = served.moves; requests = served.requests; left = served.left; ends = served.ends };
         faults = serves.faults;
+        complete = λ free. all_answered _ _ _ _ _ _ _ _ served _ _ _ _ serves.faults.reads serves.faults.writes free;
       }
 
 -- ---- a longer history
 
-module _ {P L : Type 0} (language : Language P) (flow : L → Option Flow) (words : Option ℕ → Type 0) (readings : ℕ → Type 0) (beginning : Beginning) (history more : List Entry)
+module _ {P L : Type 0} (language : Language P) (heard : L → LinkTold) (words : Option ℕ → Type 0) (readings : ℕ → Type 0) (beginning : Beginning) (history more : List Entry)
     (caller : ℕ) (peer : List ℕ) where
-  responses_more : (rounds : List Round) (turns : List Turn) (talks : List (Talk L)) → AreResponses language words readings flow beginning history caller peer rounds turns talks
-      → AreResponses language words readings flow beginning (history ++ more) caller peer rounds turns talks
+  responses_more : (rounds : List Round) (turns : List Turn) (talks : List (Talk L)) → AreResponses language words readings heard beginning history caller peer rounds turns talks
+      → AreResponses language words readings heard beginning (history ++ more) caller peer rounds turns talks
   responses_more [] [] talks are = are
   responses_more [] (turn ∷ turns) talks are = absurd are
   responses_more (round ∷ rounds) [] talks are = absurd are
@@ -95,26 +96,27 @@ module _ {P L : Type 0} (language : Language P) (flow : L → Option Flow) (word
     are.1,
     are.2,
     are.3,
-    response_more language flow words words readings readings (λ word drawn. drawn) (λ reading read. read) beginning history more caller round are.0 turn.answered are.4,
+    response_more language heard words words readings readings (λ word drawn. drawn) (λ reading read. read) beginning history more caller round are.0 turn.answered are.4,
     responses_more rounds turns are.1 are.5,
   )
 
-pub longer_of : {P D K L : Type 0} (language : Language P) (flow : L → Option Flow) (talks : D → Option (List (Talk L))) (readings words : K → Option Tape)
+pub longer_of : {P D K L : Type 0} (language : Language P) (heard : L → LinkTold) (talks : D → Option (List (Talk L))) (dial_faults : D → ℕ) (readings words : K → Option Tape)
     (beginning : Beginning) (history more : List Entry) (number : ℕ) (before after : Kit D K) (opening closing : LinkTold) (transcript : Transcript)
-    → Tells language flow talks readings words beginning history number before after opening closing transcript
-    → Tells language flow talks readings words beginning (history ++ more) number before after opening closing transcript
-longer_of language flow talks readings words beginning history more number before after opening closing transcript tells =
+    → Tells language heard talks dial_faults readings words beginning history number before after opening closing transcript
+    → Tells language heard talks dial_faults readings words beginning (history ++ more) number before after opening closing transcript
+longer_of language heard talks dial_faults readings words beginning history more number before after opening closing transcript tells =
     record {
       address = tells.address;
       from = tells.from;
       stays = tells.stays;
       turns = tells.turns;
+      talked = tells.talked;
       gained = tells.gained;
-      added = tells.added;
-      responses = responses_more language flow (WasDrawn (words before.clock) (words after.clock)) (ToldIn (readings before.clock) (readings after.clock)) beginning history more number
-          tells.address transcript.rounds.items tells.turns tells.gained tells.responses;
+      responses = responses_more language heard (WasDrawn (words before.clock) (words after.clock)) (ToldIn (readings before.clock) (readings after.clock)) beginning history more number
+          tells.address transcript.rounds.items tells.turns tells.talked tells.responses;
       reads = tells.reads;
       draws = tells.draws;
-      heard = tells.heard;
+      link = tells.link;
       faults = tells.faults;
+      complete = tells.complete;
     }

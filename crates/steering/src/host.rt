@@ -1,5 +1,6 @@
 // What workers begin with, and what they leave.
 ghost use Rattle.std.specs.Prelude.{◌≡◌};
+ghost use Rattle.wire.specs.Telling.{told_by};
 
 use crate::service::Steering;
 use crate::stock::Stock;
@@ -39,17 +40,17 @@ where
 
     ghost places = { λ transcript. all_numbers transcript.rounds.items };
 
-    ghost Tells = { λ _ beginning history number before after opening closing transcript. Tells (language_of P.of_text M.turns M.targets M.default_of P.backends) D.Link.flow D.talks K.readings K.words beginning history number before after opening closing transcript };
+    ghost Tells = { λ _ beginning history number before after opening closing transcript. Tells (language_of P.of_text M.turns M.targets M.default_of P.backends) (told_by D.Link.flow D.Link.read_faults D.Link.write_faults D.Link.peer D.Link.is_open) D.talks D.dial_faults K.readings K.words beginning history number before after opening closing transcript };
 
     ghost ready = { λ host cache shift pass start. starts cache shift pass start };
 
     ghost pass = { λ host cache shift ready. ready.pass };
 
-    ghost calls = { λ host cache old new opening closing transcript serves. calls_of (language_of P.of_text M.turns M.targets M.default_of P.backends) D.Link.flow D.talks K.readings K.words old new opening closing transcript serves };
+    ghost calls = { λ host cache old new opening closing transcript serves. calls_of (language_of P.of_text M.turns M.targets M.default_of P.backends) (told_by D.Link.flow D.Link.read_faults D.Link.write_faults D.Link.peer D.Link.is_open) D.talks D.dial_faults K.readings K.words old new opening closing transcript serves };
 
-    ghost tells = { λ host cache old new opening closing transcript beginning serves begins. tells_of (language_of P.of_text M.turns M.targets M.default_of P.backends) D.Link.flow D.talks K.readings K.words old new opening closing transcript serves beginning begins };
+    ghost tells = { λ host cache old new opening closing transcript beginning serves begins. tells_of (language_of P.of_text M.turns M.targets M.default_of P.backends) (told_by D.Link.flow D.Link.read_faults D.Link.write_faults D.Link.peer D.Link.is_open) D.talks D.dial_faults K.readings K.words old new opening closing transcript serves beginning begins };
 
-    ghost longer = { λ host beginning history more number before after opening closing transcript tells. longer_of (language_of P.of_text M.turns M.targets M.default_of P.backends) D.Link.flow D.talks K.readings K.words beginning history more number before after opening closing transcript tells };
+    ghost longer = { λ host beginning history more number before after opening closing transcript tells. longer_of (language_of P.of_text M.turns M.targets M.default_of P.backends) (told_by D.Link.flow D.Link.read_faults D.Link.write_faults D.Link.peer D.Link.is_open) D.talks D.dial_faults K.readings K.words beginning history more number before after opening closing transcript tells };
 
     fn outfit(&self, alloc: Global) -> Result<P, AllocError> {
         self.stock.programs(alloc)

@@ -1,5 +1,6 @@
 // Connections, served.
 ghost use Rattle.std.specs.Prelude.{◌≡◌};
+ghost use Rattle.wire.specs.Telling.{told_by};
 
 use cache_law::CacheCore;
 use round_lead::{Shift, Site};
@@ -66,7 +67,7 @@ where
 
     ghost Ready = { λ _ cache shift. IsReady cache shift };
 
-    ghost Serves = { λ _ cache old new opening closing transcript. Serves (language_of P.of_text M.turns M.targets M.default_of P.backends) D.Link.flow D.talks K.readings K.words old new opening closing transcript };
+    ghost Serves = { λ _ cache old new opening closing transcript. Serves (language_of P.of_text M.turns M.targets M.default_of P.backends) (told_by D.Link.flow D.Link.read_faults D.Link.write_faults D.Link.peer D.Link.is_open) D.talks D.dial_faults K.readings K.words old new opening closing transcript };
 
     fn serve<R: Wait>(
         &self,

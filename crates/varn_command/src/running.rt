@@ -3,14 +3,14 @@ ghost use Rattle.std.specs.Prelude.{◌≡◌, ◌≤◌, ◌⊎◌, length, opt
 ghost use Rattle.std.specs.List.{list_any};
 ghost use Rattle.cache_law.specs.declared.setting.Params.{Params as Limits};
 ghost use Rattle.crew.specs.Hiring.{IsUnused};
-ghost use Rattle.entrance.specs.Arriving.{told_by};
+ghost use Rattle.wire.specs.Telling.{told_by};
 ghost use Rattle.vcl_library.specs.Functions.{std_functions};
 ghost use Rattle.vcl_library.specs.Functions.{std_functions as replay_functions};
 ghost use Rattle.varn_program.specs.Run.{Ends, IsComplete};
 ghost use Rattle.varn_program.specs.Words.{AsksReplay};
 ghost use Rattle.varn_program.specs.declared.outcome.Status.TheVariants as replay_status;
 ghost use Rattle.varn_serve.specs.Endings.{is_full};
-ghost use Rattle.varn_serve.specs.Run.{CameTo, EndsAs, GaveFor, RanBy, is_full_status};
+ghost use Rattle.varn_serve.specs.Run.{CameTo, EndsAs, GaveFor, IsComplete as IsWhole, RanBy, is_full_status};
 ghost use Rattle.varn_command.specs.Asking.{Does, code_of, options_of};
 ghost use Rattle.wire.specs.Causes.{Rose};
 ghost use Rattle.world.specs.Keeping.{MayAdd};
@@ -92,7 +92,7 @@ where
         × (outcome.status ≡ replay_status.WriteFault → Rose (K.faults sink.old) (K.faults sink.new))
         × (world.new ≡ world.old))
         (λ order served. CameTo (RanBy (IsUnused W.Dialer.talks W.Dialer.dial_faults W.Dialer.read_faults W.Dialer.write_faults W.Clock.readings W.Clock.words)
-        W.Dialer.Link.flow W.Dialer.talks W.Clock.readings W.Clock.words (told_by W.Listener.Link.flow W.Listener.Link.read_faults W.Listener.Link.write_faults W.Listener.Link.peer W.Listener.Link.is_open)
+        (told_by W.Dialer.Link.flow W.Dialer.Link.read_faults W.Dialer.Link.write_faults W.Dialer.Link.peer W.Dialer.Link.is_open) W.Dialer.talks W.Dialer.dial_faults W.Clock.readings W.Clock.words (told_by W.Listener.Link.flow W.Listener.Link.read_faults W.Listener.Link.write_faults W.Listener.Link.peer W.Listener.Link.is_open)
         (record { links = W.links world.old; kept = W.kept world.old; kits = W.kits world.old }) (record { links = W.links world.new; kept = W.kept world.new; kits = W.kits world.new }))
         (record { links = W.links world.old; kept = W.kept world.old; kits = W.kits world.old }) (record { links = W.links world.new; kept = W.kept world.new; kits = W.kits world.new })
         (W.files world.old) std_functions order served
@@ -104,6 +104,14 @@ where
           held = K.held sink.old;
           holds = K.held sink.new;
         }) (W.files world.old) std_functions order served served.status
+        × IsWhole (record {
+          read_failed = Rose (W.shelf_faults world.old) (W.shelf_faults world.new);
+          listen_failed = Rose (W.listen_faults world.old) (W.listen_faults world.new);
+          write_failed = Rose (K.faults sink.old) (K.faults sink.new);
+          ended = W.ended world.new;
+          held = K.held sink.old;
+          holds = K.held sink.new;
+        }) (W.files world.old) std_functions order served
         × (length served.transcripts ≤ order.conns)
         × (is_full_status served.status ≡ list_any is_full served.transcripts)
         × MayAdd (W.ports world.old) (W.ports world.new) order.port

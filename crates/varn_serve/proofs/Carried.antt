@@ -4,7 +4,6 @@ use Rattle.vcl_tree.specs.declared.item.Tree.{Tree}
 use Rattle.vmod_host.specs.declared.signature.Stored.{Stored}
 use Rattle.vcl_library.specs.Meaning.{by_trees, meant, vcl}
 use Rattle.http_heads.specs.declared.exchange.Backend.{Backend}
-use Rattle.wire.specs.Flow.{Flow}
 use Rattle.wire.specs.Tapes.{Tape}
 use Rattle.wire.specs.declared.peer.Talk.{Talk}
 use Rattle.cache_law.specs.declared.call.Entry.{Entry}
@@ -12,7 +11,7 @@ use Rattle.cache_law.specs.Beginning.{Beginning}
 use Rattle.connection.specs.declared.ended.Answered.{Answered}
 use Rattle.connection.specs.declared.ended.Answered.TheVariants as answered
 use Rattle.connection.specs.Serving.{Round as Turn}
-use Rattle.entrance.specs.Arriving.{LinkTold}
+use Rattle.wire.specs.Telling.{LinkTold}
 use Rattle.world.specs.declared.kit.Kit.{Kit}
 use Rattle.vcl_runs.specs.Evaluators.{Evaluator}
 use Rattle.round_task.specs.Happened.{behind}
@@ -38,11 +37,11 @@ pub record MeansAs {P Q : Type 0} (one : Language P) (other : Language Q) (f : P
   pub evaluators : (text : List ℕ) (p : P) → one.programs text p → one.evaluator p ≡ other.evaluator (f p)
   pub places : (p : P) → one.backends p ≡ other.backends (f p)
 
-module _ {P Q L : Type 0} (one : Language P) (other : Language Q) (f : P → Q) (means : MeansAs one other f) (flow : L → Option Flow) where
+module _ {P Q L : Type 0} (one : Language P) (other : Language Q) (f : P → Q) (means : MeansAs one other f) (heard : L → LinkTold) where
   -- ---- rounds
 
   module _ (words : Option ℕ → Type 0) (readings : ℕ → Type 0) (beginning : Beginning) (history : List Entry) (caller : ℕ) where
-    tells_as : (round : Round) (talks : List (Talk L)) (closes : Bool) → Tells one words readings flow history caller round talks closes → Tells other words readings flow history caller round talks closes
+    tells_as : (round : Round) (talks : List (Talk L)) (closes : Bool) → Tells one words readings heard history caller round talks closes → Tells other words readings heard history caller round talks closes
     tells_as round talks closes t = record {
       program = f t.program;
       steps = t.steps;
@@ -56,11 +55,11 @@ module _ {P Q L : Type 0} (one : Language P) (other : Language Q) (f : P → Q) 
       exchanges_are = t.exchanges_are;
       sent_is = t.sent_is;
       timed = t.timed;
-      talked = subst (λ (b : List ℕ → Backend). TalksOf flow b t.steps talks) (means.places t.program) t.talked;
+      talked = subst (λ (b : List ℕ → Backend). TalksOf heard b t.steps talks) (means.places t.program) t.talked;
       closes_is = t.closes_is;
     }
 
-    cut_as : (round : Round) (talks : List (Talk L)) (cut : _) → TellsCut one words readings flow beginning history caller round talks cut → TellsCut other words readings flow beginning history caller round talks cut
+    cut_as : (round : Round) (talks : List (Talk L)) (cut : _) → TellsCut one words readings heard beginning history caller round talks cut → TellsCut other words readings heard beginning history caller round talks cut
     cut_as round talks cut t = record {
       program = f t.program;
       steps = t.steps;
@@ -80,15 +79,15 @@ module _ {P Q L : Type 0} (one : Language P) (other : Language Q) (f : P → Q) 
       exchanges_are = t.exchanges_are;
       sent_is = t.sent_is;
       timed = t.timed;
-      talked = subst (λ (b : List ℕ → Backend). TalksOf flow b (t.steps ++ t.extra) talks) (means.places t.program) t.talked;
+      talked = subst (λ (b : List ℕ → Backend). TalksOf heard b (t.steps ++ t.extra) talks) (means.places t.program) t.talked;
     }
 
-    never_as : (round : Round) (talks : List (Talk L)) (cut : _) → NeverBegan one words readings flow beginning history caller round talks cut
-        → NeverBegan other words readings flow beginning history caller round talks cut
+    never_as : (round : Round) (talks : List (Talk L)) (cut : _) → NeverBegan one words readings heard beginning history caller round talks cut
+        → NeverBegan other words readings heard beginning history caller round talks cut
     never_as round talks cut n = record { refused = n.refused; no_place = n.no_place; no_exchange = n.no_exchange; nothing_sent = n.nothing_sent; no_talk = n.no_talk }
 
-    response_as : (round : Round) (talks : List (Talk L)) (how : Answered) → IsResponse one words readings flow beginning history caller round talks how
-        → IsResponse other words readings flow beginning history caller round talks how
+    response_as : (round : Round) (talks : List (Talk L)) (how : Answered) → IsResponse one words readings heard beginning history caller round talks how
+        → IsResponse other words readings heard beginning history caller round talks how
     response_as round talks answered.Kept r = tells_as round talks _ r
     response_as round talks answered.Closes r = tells_as round talks _ r
     response_as round talks answered.WriteFault r = cut_as round talks _ r
@@ -110,8 +109,8 @@ module _ {P Q L : Type 0} (one : Language P) (other : Language Q) (f : P → Q) 
     }))
     response_as round talks answered.NoMemory (inr (inr r)) = inr (inr (never_as round talks _ r))
 
-    responses_as : (peer : List ℕ) (rounds : List Round) (turns : List Turn) (talks : List (Talk L)) → AreResponses one words readings flow beginning history caller peer rounds turns talks
-        → AreResponses other words readings flow beginning history caller peer rounds turns talks
+    responses_as : (peer : List ℕ) (rounds : List Round) (turns : List Turn) (talks : List (Talk L)) → AreResponses one words readings heard beginning history caller peer rounds turns talks
+        → AreResponses other words readings heard beginning history caller peer rounds turns talks
     responses_as peer [] [] talks are = are
     responses_as peer [] (turn ∷ turns) talks are = absurd are
     responses_as peer (round ∷ rounds) [] talks are = absurd are
@@ -120,38 +119,39 @@ module _ {P Q L : Type 0} (one : Language P) (other : Language Q) (f : P → Q) 
 
   -- ---- connections
 
-  module _ {D K : Type 0} (talks : D → Option (List (Talk L))) (readings words : K → Option Tape) (beginning : Beginning) (history : List Entry) where
+  module _ {D K : Type 0} (talks : D → Option (List (Talk L))) (dial_faults : D → ℕ) (readings words : K → Option Tape) (beginning : Beginning) (history : List Entry) where
     told_as : (number : ℕ) (before after : Kit D K) (opening closing : LinkTold) (transcript : Transcript)
-        → TellsOf one flow talks readings words beginning history number before after opening closing transcript
-        → TellsOf other flow talks readings words beginning history number before after opening closing transcript
+        → TellsOf one heard talks dial_faults readings words beginning history number before after opening closing transcript
+        → TellsOf other heard talks dial_faults readings words beginning history number before after opening closing transcript
     told_as number before after opening closing transcript t = record {
       address = t.address;
       from = t.from;
       stays = t.stays;
       turns = t.turns;
+      talked = t.talked;
       gained = t.gained;
-      added = t.added;
       responses = responses_as (WasDrawn (words before.clock) (words after.clock)) (ToldIn (readings before.clock) (readings after.clock)) beginning history number
-          t.address transcript.rounds.items t.turns t.gained t.responses;
+          t.address transcript.rounds.items t.turns t.talked t.responses;
       reads = t.reads;
       draws = t.draws;
-      heard = t.heard;
+      link = t.link;
       faults = t.faults;
+      complete = t.complete;
     }
 
     -- ---- workers
 
     module _ {N : Type 0} (unused : Kit D K → Type 0) (places_of : Transcript → List ℕ) (told : N → LinkTold) where
       whole_as : (parts : List (Part (Kit D K) N Transcript))
-          → AllWhole unused places_of (λ number before after opening closing transcript. TellsOf one flow talks readings words beginning history number before after opening closing transcript) told history parts
-          → AllWhole unused places_of (λ number before after opening closing transcript. TellsOf other flow talks readings words beginning history number before after opening closing transcript) told history parts
+          → AllWhole unused places_of (λ number before after opening closing transcript. TellsOf one heard talks dial_faults readings words beginning history number before after opening closing transcript) told history parts
+          → AllWhole unused places_of (λ number before after opening closing transcript. TellsOf other heard talks dial_faults readings words beginning history number before after opening closing transcript) told history parts
       whole_as [] whole = whole
       whole_as (part ∷ parts) whole = (
         record {
           unused = whole.0.unused;
           is_told = all_wider places_of
-              (λ number before after opening closing transcript. TellsOf one flow talks readings words beginning history number before after opening closing transcript)
-              (λ number before after opening closing transcript. TellsOf other flow talks readings words beginning history number before after opening closing transcript)
+              (λ number before after opening closing transcript. TellsOf one heard talks dial_faults readings words beginning history number before after opening closing transcript)
+              (λ number before after opening closing transcript. TellsOf other heard talks dial_faults readings words beginning history number before after opening closing transcript)
               told told_as part.number (record { kit = part.first; seen = [] }) (record { kit = part.last; seen = part.seen }) part.links part.transcripts whole.0.is_told;
           front = whole.0.front;
           places = whole.0.places;
@@ -160,8 +160,8 @@ module _ {P Q L : Type 0} (one : Language P) (other : Language Q) (f : P → Q) 
       )
 
       pub ran_as : (before after : Held N (Kit D K)) (transcripts : List Transcript)
-          → Ran unused places_of (λ began seen number first last opening closing transcript. TellsOf one flow talks readings words began seen number first last opening closing transcript) told beginning history before after transcripts
-          → Ran unused places_of (λ began seen number first last opening closing transcript. TellsOf other flow talks readings words began seen number first last opening closing transcript) told beginning history before after transcripts
+          → Ran unused places_of (λ began seen number first last opening closing transcript. TellsOf one heard talks dial_faults readings words began seen number first last opening closing transcript) told beginning history before after transcripts
+          → Ran unused places_of (λ began seen number first last opening closing transcript. TellsOf other heard talks dial_faults readings words began seen number first last opening closing transcript) told beginning history before after transcripts
       ran_as before after transcripts r = record {
         legal = r.legal;
         parts = r.parts;
@@ -183,9 +183,9 @@ trees_mean tree_of stored_of = record {
 }
 
 -- a run that such programs steer is one that VCL steers
-pub by_vcl : {P N D K L : Type 0} (tree_of : P → Tree) (stored_of : P → List Stored) (unused : Kit D K → Type 0) (flow : L → Option Flow) (talks : D → Option (List (Talk L)))
+pub by_vcl : {P N D K L : Type 0} (tree_of : P → Tree) (stored_of : P → List Stored) (unused : Kit D K → Type 0) (heard : L → LinkTold) (talks : D → Option (List (Talk L))) (dial_faults : D → ℕ)
     (readings words : K → Option Tape) (told : N → LinkTold) (before after : Held N (Kit D K)) (beginning : Beginning) (history : List Entry) (transcripts : List Transcript)
-    → RanIn (by_trees tree_of stored_of) unused flow talks readings words told before after beginning history transcripts
-    → RanBy unused flow talks readings words told before after beginning history transcripts
-by_vcl tree_of stored_of unused flow talks readings words told before after beginning history transcripts ran =
-    ran_as (by_trees tree_of stored_of) vcl tree_of (trees_mean tree_of stored_of) flow talks readings words beginning history unused (λ (t : Transcript). all_numbers t.rounds.items) told before after transcripts ran
+    → RanIn (by_trees tree_of stored_of) unused heard talks dial_faults readings words told before after beginning history transcripts
+    → RanBy unused heard talks dial_faults readings words told before after beginning history transcripts
+by_vcl tree_of stored_of unused heard talks dial_faults readings words told before after beginning history transcripts ran =
+    ran_as (by_trees tree_of stored_of) vcl tree_of (trees_mean tree_of stored_of) heard talks dial_faults readings words beginning history unused (λ (t : Transcript). all_numbers t.rounds.items) told before after transcripts ran

@@ -1,5 +1,6 @@
 -- How a run ends in which nothing was served.
-use Rattle.std.proofs.Common.{◌≡◌, ℕ, Bool, true, List, [], Option, refl, sym, ◌∙◌, ap, subst}
+use Rattle.std.proofs.Common.{◌≡◌, ◌⊎◌, inl, inr, ℕ, Bool, true, false, List, [], Option, refl, sym, ◌∙◌, ap, subst}
+use Rattle.std.specs.List.{list_any}
 use Rattle.vmod_host.specs.declared.signature.Stored.{Stored}
 use Rattle.world.specs.declared.file.File.{File}
 use Rattle.command_line.specs.declared.order.ServeOptions.{ServeOptions}
@@ -11,7 +12,8 @@ use Rattle.varn_serve.specs.declared.ending.Served.{Served}
 use Rattle.varn_serve.specs.declared.ending.VclNote.{VclNote}
 use Rattle.varn_serve.specs.declared.ending.Status.{Status}
 use Rattle.varn_serve.specs.declared.ending.Status.TheVariants.{Done, ReadFault, WriteFault, NoMemory, ListenFault, Vcl, HistoryFull}
-use Rattle.varn_serve.specs.Run.{EndsAs, Halts, IsIdle, is_unserved, unbooted_status, unbooted_note}
+use Rattle.varn_serve.specs.Endings.{is_full}
+use Rattle.varn_serve.specs.Run.{EndsAs, Halts, IsAccepted, IsComplete, IsIdle, Outside, is_full_status, is_unserved, unbooted_status, unbooted_note}
 
 module _ (read listen write : Type 0) (ended : Bool) (held : Option (List ℕ)) (files : Option (List File)) (stored : List Stored) (order : ServeOptions) where
   pub unbooted_ends : (error : BootError) → Why files order.file stored read error
@@ -65,3 +67,20 @@ pub idle_unbooted : {L K : Type 0} (before after : Held L K) (served : Served) �
     → served ≡ record { status = unbooted_status error; note = unbooted_note error; history = []; transcripts = [] } → IsIdle before after served
 idle_unbooted before after served links kept kits error same =
     idle_of before after served links kept kits (unbooted_status error) (unbooted_note error) same (unbooted_unserved error)
+
+-- ---- a run that nothing hindered
+
+module _ (outside : Outside) (files : Option (List File)) (stored : List Stored) (order : ServeOptions) (served : Served) where
+  complete_as : (status : Status) → EndsAs outside files stored order served status → is_full_status status ≡ list_any is_full served.transcripts
+      → ¬ outside.read_failed → ¬ outside.listen_failed → ¬ outside.write_failed → IsAccepted files stored order.file → list_any is_full served.transcripts ≡ false
+      → (status ≡ Done) ⊎ (status ≡ NoMemory)
+  complete_as Done ends full read listen write accepted fits = inl refl
+  complete_as NoMemory ends full read listen write accepted fits = inr refl
+  complete_as ReadFault ends full read listen write accepted fits = absurd (read ends.1)
+  complete_as WriteFault ends full read listen write accepted fits = absurd (write ends.2)
+  complete_as ListenFault ends full read listen write accepted fits = absurd (listen ends.1)
+  complete_as Vcl ends full read listen write accepted fits = absurd (accepted served.note ends.0)
+  complete_as HistoryFull ends full read listen write accepted fits = absurd (let never : true ≡ false = full ∙ fits in cc)
+
+  pub is_complete : EndsAs outside files stored order served served.status → is_full_status served.status ≡ list_any is_full served.transcripts → IsComplete outside files stored order served
+  is_complete ends full = λ read listen write accepted fits. complete_as served.status ends full read listen write accepted fits

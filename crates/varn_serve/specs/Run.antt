@@ -1,6 +1,7 @@
 -- What a server's run comes to.
 use Rattle.std.specs.Prelude.{◌≡◌, ◌⊎◌, ℕ, Bool, true, false, List, [], Option, Some, None, length}
 use Rattle.std.specs.Io.KnownBytes.{Appends}
+use Rattle.std.specs.List.{list_any}
 use Rattle.cache_law.specs.declared.call.Entry.{Entry}
 use Rattle.cache_law.specs.declared.setting.Boot.{Boot}
 use Rattle.cache_law.specs.declared.setting.Params.{Params}
@@ -17,12 +18,11 @@ use Rattle.command_line.specs.declared.order.ServeOptions.{ServeOptions}
 use Rattle.server.specs.declared.transcript.Transcript.{Transcript}
 use Rattle.server.specs.Transcripts.{all_numbers}
 use Rattle.crew.specs.Running.{Held, Ran}
-use Rattle.entrance.specs.Arriving.{LinkTold}
+use Rattle.wire.specs.Telling.{LinkTold}
 use Rattle.vcl_runs.specs.Languages.{Language}
 use Rattle.vcl_library.specs.Meaning.{vcl}
 use Rattle.steering.specs.Telling.{Tells}
 use Rattle.wire.specs.Calls.{joined_count}
-use Rattle.wire.specs.Flow.{Flow}
 use Rattle.wire.specs.Tapes.{Tape}
 use Rattle.wire.specs.declared.peer.Talk.{Talk}
 use Rattle.world.specs.declared.kit.Kit.{Kit}
@@ -30,7 +30,7 @@ use Rattle.varn_serve.specs.declared.ending.Served.{Served}
 use Rattle.varn_serve.specs.declared.ending.Status.{Status}
 use Rattle.varn_serve.specs.declared.ending.Status.TheVariants.{Done, ReadFault, WriteFault, NoMemory, ListenFault, Vcl, HistoryFull}
 use Rattle.varn_serve.specs.declared.ending.VclNote.{VclNote}
-use Rattle.varn_serve.specs.Endings.{rounds_in, rounds_line}
+use Rattle.varn_serve.specs.Endings.{is_full, rounds_in, rounds_line}
 
 abbrev pub limits_of : ServeOptions → Params
 limits_of order = record { room = order.room; history = order.history; segments = false }
@@ -65,18 +65,18 @@ abbrev pub CameTo : {L K : Type 0} → (Beginning → List Entry → List Transc
 CameTo Ran before after files stored order served = IsIdle before after served ⊎ Runs Ran files stored order served
 
 -- What a run of workers comes to whose rounds this language steers: one legal history, of which each round is a response.
-abbrev pub RanIn : {P L D K DL : Type 0} → Language P → (Kit D K → Type 0) → (DL → Option Flow) → (D → Option (List (Talk DL))) → (K → Option Tape) → (K → Option Tape)
+abbrev pub RanIn : {P L D K DL : Type 0} → Language P → (Kit D K → Type 0) → (DL → LinkTold) → (D → Option (List (Talk DL))) → (D → ℕ) → (K → Option Tape) → (K → Option Tape)
     → (L → LinkTold) → Held L (Kit D K) → Held L (Kit D K) → Beginning → List Entry → List Transcript → Type 0
-RanIn language unused flow talks readings words told before after beginning history transcripts =
+RanIn language unused heard talks dial_faults readings words told before after beginning history transcripts =
     Ran unused (λ transcript. all_numbers transcript.rounds.items)
-    (λ began seen number first last opening closing transcript. Tells language flow talks readings words began seen number first last opening closing transcript)
+    (λ began seen number first last opening closing transcript. Tells language heard talks dial_faults readings words began seen number first last opening closing transcript)
     told beginning history before after transcripts
 
 -- The same where VCL steers the rounds.
-abbrev pub RanBy : {L D K DL : Type 0} → (Kit D K → Type 0) → (DL → Option Flow) → (D → Option (List (Talk DL))) → (K → Option Tape) → (K → Option Tape) → (L → LinkTold)
+abbrev pub RanBy : {L D K DL : Type 0} → (Kit D K → Type 0) → (DL → LinkTold) → (D → Option (List (Talk DL))) → (D → ℕ) → (K → Option Tape) → (K → Option Tape) → (L → LinkTold)
     → Held L (Kit D K) → Held L (Kit D K) → Beginning → List Entry → List Transcript → Type 0
-RanBy unused flow talks readings words told before after beginning history transcripts =
-    RanIn vcl unused flow talks readings words told before after beginning history transcripts
+RanBy unused heard talks dial_faults readings words told before after beginning history transcripts =
+    RanIn vcl unused heard talks dial_faults readings words told before after beginning history transcripts
 
 -- The listeners gave this many connections, none of which was thrown away; where nothing was served there may be no listener.
 abbrev pub GaveFor : ℕ → ℕ → ℕ → Type 0
@@ -113,6 +113,17 @@ EndsAs outside files stored order served ListenFault = (served.note ≡ None) ×
 EndsAs outside files stored order served Vcl = IsWithoutVcl files stored order.file served.note × (outside.holds ≡ outside.held)
 EndsAs outside files stored order served HistoryFull = (served.note ≡ None) × (outside.holds ≡ outside.held)
 EndsAs outside files stored order served NoMemory = (served.note ≡ None) × (outside.holds ≡ outside.held)
+
+-- there is such a file, and its text is refused at no place
+abbrev pub IsAccepted : Option (List File) → List Stored → List ℕ → Type 0
+IsAccepted files stored name = (note : Option VclNote) → ¬ IsWithoutVcl files stored name note
+
+-- Where nothing failed outside, the file is accepted and no connection found the history full, the run is whole, or memory was
+-- wanting.
+abbrev pub IsComplete : Outside → Option (List File) → List Stored → ServeOptions → Served → Type 0
+IsComplete outside files stored order served =
+    ¬ outside.read_failed → ¬ outside.listen_failed → ¬ outside.write_failed → IsAccepted files stored order.file
+    → list_any is_full served.transcripts ≡ false → (served.status ≡ Done) ⊎ (served.status ≡ NoMemory)
 
 -- how a run ends in which nothing was served, though there is a VCL: memory was wanting, or listening failed
 abbrev pub Halts : Type 0 → Status → Type 0

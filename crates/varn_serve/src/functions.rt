@@ -2,12 +2,12 @@
 ghost use Rattle.std.specs.Prelude.{◌≡◌, ◌≤◌, IfOk, OnErr, length};
 ghost use Rattle.std.specs.List.{list_any};
 ghost use Rattle.crew.specs.Hiring.{IsUnused};
-ghost use Rattle.entrance.specs.Arriving.{told_by};
+ghost use Rattle.wire.specs.Telling.{told_by};
 ghost use Rattle.vcl_library.specs.Functions.{std_functions, std_signature};
 ghost use Rattle.wire.specs.Causes.{Rose};
 ghost use Rattle.world.specs.Keeping.{MayAdd};
 ghost use Rattle.varn_serve.specs.Endings.{is_full};
-ghost use Rattle.varn_serve.specs.Run.{CameTo, EndsAs, GaveFor, RanBy, is_full_status};
+ghost use Rattle.varn_serve.specs.Run.{CameTo, EndsAs, GaveFor, IsComplete, RanBy, is_full_status};
 
 use crate::ending::{Served, Status};
 use crate::programs::{SharedPrograms, stocked_boot};
@@ -55,7 +55,7 @@ where
     W::Clock: Sync,
     <W::Dialer as Dialer>::Link: Send,
     ensures came { IfOk result (λ served. CameTo (RanBy (IsUnused W.Dialer.talks W.Dialer.dial_faults W.Dialer.read_faults W.Dialer.write_faults W.Clock.readings W.Clock.words)
-        W.Dialer.Link.flow W.Dialer.talks W.Clock.readings W.Clock.words (told_by W.Listener.Link.flow W.Listener.Link.read_faults W.Listener.Link.write_faults W.Listener.Link.peer W.Listener.Link.is_open)
+        (told_by W.Dialer.Link.flow W.Dialer.Link.read_faults W.Dialer.Link.write_faults W.Dialer.Link.peer W.Dialer.Link.is_open) W.Dialer.talks W.Dialer.dial_faults W.Clock.readings W.Clock.words (told_by W.Listener.Link.flow W.Listener.Link.read_faults W.Listener.Link.write_faults W.Listener.Link.peer W.Listener.Link.is_open)
         (record { links = W.links world.old; kept = W.kept world.old; kits = W.kits world.old }) (record { links = W.links world.new; kept = W.kept world.new; kits = W.kits world.new }))
         (record { links = W.links world.old; kept = W.kept world.old; kits = W.kits world.old }) (record { links = W.links world.new; kept = W.kept world.new; kits = W.kits world.new })
         (W.files world.old) std_functions order.now served) }
@@ -138,7 +138,7 @@ where
     W::Clock: Sync,
     <W::Dialer as Dialer>::Link: Send,
     ensures came { CameTo (RanBy (IsUnused W.Dialer.talks W.Dialer.dial_faults W.Dialer.read_faults W.Dialer.write_faults W.Clock.readings W.Clock.words)
-        W.Dialer.Link.flow W.Dialer.talks W.Clock.readings W.Clock.words (told_by W.Listener.Link.flow W.Listener.Link.read_faults W.Listener.Link.write_faults W.Listener.Link.peer W.Listener.Link.is_open)
+        (told_by W.Dialer.Link.flow W.Dialer.Link.read_faults W.Dialer.Link.write_faults W.Dialer.Link.peer W.Dialer.Link.is_open) W.Dialer.talks W.Dialer.dial_faults W.Clock.readings W.Clock.words (told_by W.Listener.Link.flow W.Listener.Link.read_faults W.Listener.Link.write_faults W.Listener.Link.peer W.Listener.Link.is_open)
         (record { links = W.links world.old; kept = W.kept world.old; kits = W.kits world.old }) (record { links = W.links world.new; kept = W.kept world.new; kits = W.kits world.new }))
         (record { links = W.links world.old; kept = W.kept world.old; kits = W.kits world.old }) (record { links = W.links world.new; kept = W.kept world.new; kits = W.kits world.new })
         (W.files world.old) std_functions order.now result }
@@ -150,6 +150,14 @@ where
       held = S.held sink.old;
       holds = S.held sink.new;
     }) (W.files world.old) std_functions order.now result result.status }
+    ensures complete { IsComplete (record {
+      read_failed = Rose (W.shelf_faults world.old) (W.shelf_faults world.new);
+      listen_failed = Rose (W.listen_faults world.old) (W.listen_faults world.new);
+      write_failed = Rose (S.faults sink.old) (S.faults sink.new);
+      ended = W.ended world.new;
+      held = S.held sink.old;
+      holds = S.held sink.new;
+    }) (W.files world.old) std_functions order.now result }
     ensures within { length result.transcripts ≤ order.now.conns }
     ensures given { GaveFor (W.given world.old) (W.given world.new) (length result.transcripts) }
     ensures full { is_full_status result.status ≡ list_any is_full result.transcripts }

@@ -3,7 +3,7 @@ ghost use Rattle.std.specs.Prelude.{◌≡◌, ◌≤◌, [], None, IfErr, IfOk,
 ghost use Rattle.cache_law.specs.Beginning.{beginning_of};
 ghost use Rattle.crew.specs.Hiring.{IsUnused};
 ghost use Rattle.crew.specs.Running.{Stopped};
-ghost use Rattle.entrance.specs.Arriving.{told_by};
+ghost use Rattle.wire.specs.Telling.{told_by};
 ghost use Rattle.wire.specs.Calls.{joined_count};
 ghost use Rattle.wire.specs.Causes.{Rose};
 ghost use Rattle.world.specs.Keeping.{MayAdd};
@@ -104,7 +104,7 @@ where
     <W::Dialer as Dialer>::Link: Send,
     M::Program: Drop + Send + Sync,
     ensures ran { IfOk result (λ o. RanIn (language_of P.of_text M.turns M.targets M.default_of P.backends)
-        (IsUnused W.Dialer.talks W.Dialer.dial_faults W.Dialer.read_faults W.Dialer.write_faults W.Clock.readings W.Clock.words) W.Dialer.Link.flow W.Dialer.talks W.Clock.readings W.Clock.words
+        (IsUnused W.Dialer.talks W.Dialer.dial_faults W.Dialer.read_faults W.Dialer.write_faults W.Clock.readings W.Clock.words) (told_by W.Dialer.Link.flow W.Dialer.Link.read_faults W.Dialer.Link.write_faults W.Dialer.Link.peer W.Dialer.Link.is_open) W.Dialer.talks W.Dialer.dial_faults W.Clock.readings W.Clock.words
         (told_by W.Listener.Link.flow W.Listener.Link.read_faults W.Listener.Link.write_faults W.Listener.Link.peer W.Listener.Link.is_open) (record { links = W.links world.old; kept = W.kept world.old; kits = W.kits world.old })
         (record { links = W.links world.new; kept = W.kept world.new; kits = W.kits world.new }) (beginning_of (limits_of order.now) boot) o.history o.transcripts.items) }
     ensures stopped { IfOk result (λ o. Stopped o.reason order.now.conns (vec_len o.transcripts) (W.ended world.new) (W.listen_faults world.old) (W.listen_faults world.new)) }

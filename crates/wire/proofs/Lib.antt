@@ -1,3 +1,4 @@
 pub mod Settling
 pub mod Flowing
 pub mod Taping
+pub mod Gaining

@@ -4,6 +4,7 @@ pub mod Content
 pub mod Memory
 pub mod Flow
 pub mod Talks
+pub mod Telling
 pub mod Kept
 pub mod LinkMemory
 pub mod DialerMemory

@@ -2,7 +2,7 @@
 use Rattle.std.proofs.Common.{◌≡◌, List, [], ◌∷◌, ◌++◌, Option, Some, None, refl, sym, ap, ◌∙◌, subst}
 use Rattle.std.specs.Prelude.{IsSomeAnd}
 use Rattle.std.proofs.lemmas.List.{append-nil, append_assoc}
-use Rattle.entrance.specs.Arriving.{LinkTold}
+use Rattle.wire.specs.Telling.{LinkTold}
 use Rattle.workers.specs.Serving.{AllServed, Works}
 
 module _ {H K T : Type 0} (Serves : H → H → LinkTold → LinkTold → T → Type 0) (told : K → LinkTold) where

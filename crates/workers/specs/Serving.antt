@@ -1,6 +1,7 @@
 -- What workers do.
 use Rattle.std.specs.Prelude.{◌≡◌, ℕ, ◌+◌, false, List, [], ◌∷◌, ◌++◌, Option, Some}
-use Rattle.entrance.specs.Arriving.{LinkTold, IsNew}
+use Rattle.entrance.specs.Arriving.{IsNew}
+use Rattle.wire.specs.Telling.{LinkTold}
 
 -- Below, a connection is served in this way, and a link is told so.
 module _ {H K T : Type 0} (Serves : H → H → LinkTold → LinkTold → T → Type 0) (told : K → LinkTold) where

@@ -1,7 +1,7 @@
 -- What a worker has when it begins, when it has left, and in between.
 use Rattle.std.specs.Prelude.{◌≡◌, ◌<◌, ℕ, ◌+◌, Option, Some, None, Result, Ok, Err, IsSome, IsSomeAnd, vec_len}
 use Rattle.std.specs.declared.alloc.AllocError.{AllocError}
-use Rattle.entrance.specs.Arriving.{LinkTold}
+use Rattle.wire.specs.Telling.{LinkTold}
 use Rattle.workers.specs.Serving.{Works}
 use Rattle.workers.specs.declared.worker.Leave.{Leave}
 use Rattle.workers.specs.declared.worker.Worker.{Worker}

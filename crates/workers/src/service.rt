@@ -1,6 +1,7 @@
 // What workers do with connections.
 ghost use Rattle.std.specs.Prelude.{◌≡◌};
-ghost use Rattle.entrance.specs.Arriving.{LinkTold, IsNew, ended_so, told_by};
+ghost use Rattle.entrance.specs.Arriving.{IsNew, ended_so};
+ghost use Rattle.wire.specs.Telling.{LinkTold, told_by};
 
 use std::sync::Wait;
 use wire::Link;

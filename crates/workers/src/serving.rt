@@ -1,6 +1,7 @@
 // One worker's work.
 ghost use Rattle.std.specs.Prelude.{◌≡◌, ◌+◌, ◌<◌, None, vec_len, vec_capacity, IsSomeAnd, IfSome, IfNone, OnOk, OnErr};
-ghost use Rattle.entrance.specs.Arriving.{IsNew, told_by};
+ghost use Rattle.entrance.specs.Arriving.{IsNew};
+ghost use Rattle.wire.specs.Telling.{told_by};
 ghost use Rattle.workers.specs.Serving.{Works};
 
 use crate::service::Service;

@@ -1,7 +1,7 @@
 // All workers, side by side.
 ghost use Rattle.std.specs.Prelude.{◌≡◌, ◌<◌, ℕ, All, length, slice_index_or};
 ghost use denote.Param.Send.{IsSync, IsSend};
-ghost use Rattle.entrance.specs.Arriving.{told_by};
+ghost use Rattle.wire.specs.Telling.{told_by};
 ghost use Rattle.workers.specs.Working.{IsReady, HasWorked};
 
 use crate::service::Service;

@@ -5,7 +5,7 @@ use Rattle.wire.specs.Calls.{joined_count}
 use Rattle.turnstile.specs.Handles.{known}
 use Rattle.shared_cache.specs.Passes.{IsPassOf}
 use Rattle.shared_cache.specs.Sharing.{CallerKnows}
-use Rattle.entrance.specs.Arriving.{told_by}
+use Rattle.wire.specs.Telling.{told_by}
 use Rattle.crew.specs.Hiring.{IsUnused}
 use Rattle.crew.proofs.Hired.{have_left}
 use Rattle.crew.proofs.Left.{all_counted, all_closed, parts_joined, all_passes, all_idle, ran}

@@ -18,7 +18,7 @@ returns-clause-cut g c = λ over number.
     let untold = rw c.in-Ok.ensures at c.in-Err-exchange_on.ensures.untold in
     elim untold [
       | inl same ↦
-          untold_fails _ backends g.D.Dialer.talks g.K.Clock.readings g.K.Clock.words c.args.shift.now.kit c.exchange_on.new.kit _ over c.args.progress.now c.exchange_on.new.progress _ same
+          untold_fails _ backends g.D.Dialer.talks g.D.Dialer.dial_faults g.K.Clock.readings g.K.Clock.words c.args.shift.now.kit c.exchange_on.new.kit _ over c.args.progress.now c.exchange_on.new.progress _ same
       | inr made ↦
           exchange_fails _ backends _ over _ _ _ _ _ _ c.args.progress.now c.exchange_on.new.progress number c.args.name.now c.args.request.now made.0 c.in-Err-exchange_on.ensures.words made.1
     ]

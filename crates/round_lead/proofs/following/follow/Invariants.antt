@@ -7,6 +7,7 @@ use Rattle.turnstile.specs.Handles.{known}
 use Rattle.round_lead.specs.Seen.{has_open}
 use Rattle.round_lead.specs.Steps.{CanClose, stood}
 use Rattle.round_lead.specs.Onward.{Goes}
+use Rattle.wire.specs.Telling.{told_by}
 use Rattle.round_lead.proofs.following.follow.Given as goal
 
 abbrev pub invariant-wants : goal.invariant-wants
@@ -16,10 +17,10 @@ invariant-wants g l = record {
   is_open : l.progress.is_open ≡ true;
   room : CanClose l.progress;
   may : MayGoOn (λ run ran. g.M.Runner.stands run l.program ran) g.M.Runner.fits l.machine.place;
-  goes : Goes (evaluator g.M.Runner.turns g.M.Runner.targets g.M.Runner.default_of l.program) (λ run ran. g.M.Runner.stands run l.program ran) g.M.Runner.fits g.D.Link.Link.flow
+  goes : Goes (evaluator g.M.Runner.turns g.M.Runner.targets g.M.Runner.default_of l.program) (λ run ran. g.M.Runner.stands run l.program ran) g.M.Runner.fits (told_by g.D.Link.Link.flow g.D.Link.Link.read_faults g.D.Link.Link.write_faults g.D.Link.Link.peer g.D.Link.Link.is_open)
       (g.P.Programs.backends l.program) l.fn.machine.place l.fn.want
-      (stood g.D.Dialer.talks g.K.Clock.readings g.K.Clock.words l.fn.shift (g.L.Link.flow l.fn.link) l.fn.progress)
-      (stood g.D.Dialer.talks g.K.Clock.readings g.K.Clock.words l.shift (g.L.Link.flow l.link) l.progress) l.machine.place l.want;
+      (stood g.D.Dialer.talks g.D.Dialer.dial_faults g.K.Clock.readings g.K.Clock.words l.fn.shift (g.L.Link.flow l.fn.link) l.fn.progress)
+      (stood g.D.Dialer.talks g.D.Dialer.dial_faults g.K.Clock.readings g.K.Clock.words l.shift (g.L.Link.flow l.link) l.progress) l.machine.place l.want;
   later : g.L.Link.write_faults l.fn.link ≤ g.L.Link.write_faults l.link;
   other : g.L.Link.read_faults l.link ≡ g.L.Link.read_faults l.fn.link;
   peer : g.L.Link.peer l.link ≡ g.L.Link.peer l.fn.link;

@@ -5,6 +5,7 @@ use Rattle.vcl_runs.specs.Languages.{language_of}
 use Rattle.round_task.specs.declared.want.Want.TheVariants.{Done}
 use Rattle.round_lead.specs.Steps.{stood}
 use Rattle.round_lead.proofs.Going.{cut_at_once, whole_from, cuts_from}
+use Rattle.wire.specs.Telling.{told_by}
 use Rattle.round_lead.proofs.leading.run_on.Goals as goal
 
 pub resume-requires : goal.resume-requires
@@ -31,8 +32,8 @@ returns-in-Ok-clause-cut g c =
 pub returns-clause-cut : goal.returns-clause-cut
 returns-clause-cut g c =
     let program = c.args.program.now in
-    let first = stood g.D.Dialer.talks g.K.Clock.readings g.K.Clock.words c.args.shift.now (g.L.Link.flow c.args.link.now) c.args.progress.now in
+    let first = stood g.D.Dialer.talks g.D.Dialer.dial_faults g.K.Clock.readings g.K.Clock.words c.args.shift.now (g.L.Link.flow c.args.link.now) c.args.progress.now in
     rw c.word-word.ensures.readings (inl (cut_at_once
-    (language_of g.P.Programs.of_text g.M.Runner.turns g.M.Runner.targets g.M.Runner.default_of g.P.Programs.backends) g.D.Link.Link.flow
+    (language_of g.P.Programs.of_text g.M.Runner.turns g.M.Runner.targets g.M.Runner.default_of g.P.Programs.backends) (told_by g.D.Link.Link.flow g.D.Link.Link.read_faults g.D.Link.Link.write_faults g.D.Link.Link.peer g.D.Link.Link.is_open)
     (λ run ran. g.M.Runner.stands run program ran) g.M.Runner.fits c.args.request c.args.peer c.args.told program c.resume.new.self.place Done first first _ c.word-word.result
     c.word-word.ensures.word c.requires.ran))

@@ -1,8 +1,10 @@
 -- The rounds of a connection, from the first to the last.
-use Rattle.std.proofs.Common.{[], List, refl, ap, ◌∙◌, inr}
+use Rattle.std.proofs.Common.{[], List, refl, ap, ◌∙◌, inr, rules}
+use Rattle.wire.specs.Telling.{told_by}
 use Rattle.wire.proofs.Flowing.{Moves-none}
 use Rattle.round_lead.specs.declared.keeping.Round.{Round}
 use Rattle.server.specs.Serving.{stands}
+use Rattle.server.proofs.Completing.{is_complete}
 use Rattle.server.proofs.Leads.{leads_none, is_served, sound_last, pass_last}
 use Rattle.server.proofs.serving.serve_connection.Goals as goal
 
@@ -22,9 +24,16 @@ returns-then-is_err-clause-served g c =
 
 pub returns-clause-served : goal.returns-clause-served
 returns-clause-served g c =
-    rw c.into_parts-shift.ensures (is_served _ _ c.new-held.result c.serve-ended.new.held _ c.serve-ended.new.responder c.serve-ended.result c.serve-ended.ensures.told _ g.D.Link.Link.flow g.D.Dialer.talks
+    rw c.into_parts-shift.ensures (is_served _ _ c.new-held.result c.serve-ended.new.held _ c.serve-ended.new.responder c.serve-ended.result c.serve-ended.ensures.told _ (told_by g.D.Link.Link.flow g.D.Link.Link.read_faults g.D.Link.Link.write_faults g.D.Link.Link.peer g.D.Link.Link.is_open) g.D.Dialer.talks g.D.Dialer.dial_faults
     g.K.Clock.readings g.K.Clock.words _ (λ s t turn done. (done.1, done.3))
-    (ap (λ (rounds : List Round). stands g.D.Dialer.talks g.K.Clock.readings g.K.Clock.words c.args.shift rounds) (c.reserve.ensures.items ∙ c.new-rounds.ensures.items)) c.new-held.ensures)
+    (ap (λ (rounds : List Round). stands g.D.Dialer.talks g.D.Dialer.dial_faults g.K.Clock.readings g.K.Clock.words c.args.shift rounds) (c.reserve.ensures.items ∙ c.new-rounds.ensures.items)) c.new-held.ensures)
+
+pub returns-then-is_err-clause-complete : goal.returns-then-is_err-clause-complete
+returns-then-is_err-clause-complete g c free = absurd (free.memory refl)
+
+pub returns-clause-complete : goal.returns-clause-complete
+returns-clause-complete g c =
+    is_complete _ _ _ _ _ _ _ c.serve-ended.result (returns-clause-served g c) _ _ _ _ (λ is. search rules) (λ is. search rules)
 
 pub returns-clause-pass : goal.returns-clause-pass
 returns-clause-pass g c =

@@ -45,7 +45,7 @@ returns-in-Ok-serve_stocked-clause-came g c =
       boot = c.in-Ok-stocked_boot.stocked.0;
       boots = rw same at c.in-Ok-stocked_boot.ensures.boot;
       ran = rw (c.finished.ensures.history, c.finished.ensures.transcripts, ← c.stocked_boot.ensures.links, ← c.stocked_boot.ensures.kept, ← c.stocked_boot.ensures.kits)
-          (by_vcl _ _ _ _ _ _ _ _ _ _ _ _ _ c.in-Ok-serve_stocked.ensures.ran);
+          (by_vcl _ _ _ _ _ _ _ _ _ _ _ _ _ _ c.in-Ok-serve_stocked.ensures.ran);
     })
 
 pub returns-in-Err-clause-came : goal.returns-in-Err-clause-came

@@ -1,7 +1,7 @@
 -- What the worker has done so far.
 use Rattle.std.proofs.Common.{◌≡◌, ◌+◌}
 use Rattle.std.specs.Prelude.{IsSomeAnd, vec_len}
-use Rattle.entrance.specs.Arriving.{told_by}
+use Rattle.wire.specs.Telling.{told_by}
 use Rattle.workers.specs.Serving.{Works}
 use Rattle.workers.proofs.serving.serve_worker.Given as goal
 
