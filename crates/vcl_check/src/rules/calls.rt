@@ -103,14 +103,19 @@ fn mistyped_at(slot: Slot, argument: Option<Argument>) -> Option<u32>
     }
 }
 
-fn leftmost_mistyped(takes: Takes, arguments: Arguments) -> Option<u32>
-    ensures { result ≡ leftmost_mistyped takes arguments }
+fn leftmost_mistyped(takes: &[Slot], arguments: &[Option<Argument>]) -> Option<u32>
+    ensures { result ≡ leftmost_mistyped takes.now arguments.now }
 {
-    let [first, second, third] = takes;
-    let [a, b, c, _] = arguments;
-    let last = or_else(mistyped_at(third, c), None);
-    let behind = or_else(mistyped_at(second, b), last);
-    or_else(mistyped_at(first, a), behind)
+    match takes {
+        [] => None,
+        [slot, slots @ ..] => match arguments {
+            [] => None,
+            [argument, behind @ ..] => or_else(
+                mistyped_at(*slot, *argument),
+                leftmost_mistyped(slots, behind),
+            ),
+        },
+    }
 }
 
 fn unwritten_at(slot: Slot, argument: Option<Argument>) -> Option<u32>
@@ -122,21 +127,26 @@ fn unwritten_at(slot: Slot, argument: Option<Argument>) -> Option<u32>
     }
 }
 
-pub fn leftmost_unwritten(takes: Takes, arguments: Arguments) -> Option<u32>
-    ensures { result ≡ leftmost_unwritten takes arguments }
+pub fn leftmost_unwritten(takes: &[Slot], arguments: &[Option<Argument>]) -> Option<u32>
+    ensures { result ≡ leftmost_unwritten takes.now arguments.now }
 {
-    let [first, second, third] = takes;
-    let [a, b, c, _] = arguments;
-    let last = or_else(unwritten_at(third, c), None);
-    let behind = or_else(unwritten_at(second, b), last);
-    or_else(unwritten_at(first, a), behind)
+    match takes {
+        [] => None,
+        [slot, slots @ ..] => match arguments {
+            [] => None,
+            [argument, behind @ ..] => or_else(
+                unwritten_at(*slot, *argument),
+                leftmost_unwritten(slots, behind),
+            ),
+        },
+    }
 }
 
 pub fn ill_called(takes: Takes, arguments: Arguments, place: u32) -> Option<u32>
     ensures { result ≡ ill_called takes arguments place }
 {
     if takes_so_many(takes, arguments) {
-        leftmost_mistyped(takes, arguments)
+        leftmost_mistyped(&takes, &arguments)
     } else {
         Some(place)
     }

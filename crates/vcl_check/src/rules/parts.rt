@@ -210,7 +210,10 @@ fn unwritten_call(meaning: Meaning, given: Arguments) -> Option<u32>
     ensures { result ≡ unwritten_call meaning given }
 {
     match meaning {
-        Meaning::Function(function) => leftmost_unwritten(function.takes, given),
+        Meaning::Function(function) => {
+            let takes = function.takes;
+            leftmost_unwritten(&takes, &given)
+        }
         _ => None,
     }
 }
