@@ -1,12 +1,10 @@
 -- Arguments, and what functions take.
-use Rattle.std.specs.Prelude.{ℕ, Bool, true, false, Option, Some, None, if◌then◌else◌}
-use Rattle.vcl_language.specs.declared.functions.Takes.{Takes}
-use Rattle.vcl_language.specs.declared.functions.Takes.TheVariants as takes
+use Rattle.std.specs.Prelude.{ℕ, Bool, true, false, not, ◌&&◌, List, [], ◌∷◌, Option, Some, None, is_some, if◌then◌else◌}
+use Rattle.vcl_language.specs.declared.functions.Slot.{Slot}
+use Rattle.vcl_language.specs.declared.functions.Slot.TheVariants.{Closed, Needed, Optional}
 use Rattle.vcl_language.specs.declared.functions.Parameter.{Parameter}
 use Rattle.vcl_language.specs.declared.functions.Parameter.TheVariants as parameter
 use Rattle.vcl_check.specs.declared.seen.Argument.{Argument}
-use Rattle.vcl_check.specs.declared.seen.Arguments.{Arguments}
-use Rattle.vcl_check.specs.declared.seen.Arguments.TheVariants.{Zero, One, Two, Three, More}
 use Rattle.vcl_check.specs.declared.seen.Literal.{Literal}
 use Rattle.vcl_check.specs.declared.seen.Literal.TheVariants as literal
 use Rattle.vcl_check.specs.Kinds.{accepts}
@@ -16,12 +14,11 @@ abbrev pub unless : Bool → ℕ → Option ℕ
 unless true place = None
 unless false place = Some place
 
-abbrev pub with_argument : Arguments → Argument → Arguments
-with_argument Zero a = One a
-with_argument (One a) b = Two a b
-with_argument (Two a b) c = Three a b c
-with_argument (Three a b c) d = More
-with_argument More d = More
+-- in the first place that is free
+abbrev pub with_argument : List (Option Argument) → Argument → List (Option Argument)
+with_argument [] a = []
+with_argument (None ∷ more) a = Some a ∷ more
+with_argument (Some b ∷ more) a = Some b ∷ with_argument more a
 
 abbrev pub is_string : Literal → Bool
 is_string literal.String = true
@@ -31,38 +28,22 @@ abbrev pub is_weight : Literal → Bool
 is_weight literal.Weight = true
 is_weight _ = false
 
+-- an argument may stand in a place, or be lacking there
+abbrev pub may_be : Slot → Option Argument → Bool
+may_be Closed argument = not (is_some argument)
+may_be (Needed p) argument = is_some argument
+may_be (Optional p) argument = true
+
 -- so many arguments are taken
-abbrev pub takes_so_many : Takes → Arguments → Bool
-takes_so_many takes.Nothing Zero = true
-takes_so_many (takes.One p) (One a) = true
-takes_so_many (takes.OneOrTwo p q) (One a) = true
-takes_so_many (takes.OneOrTwo p q) (Two a b) = true
-takes_so_many (takes.UpToTwo p q) Zero = true
-takes_so_many (takes.UpToTwo p q) (One a) = true
-takes_so_many (takes.UpToTwo p q) (Two a b) = true
-takes_so_many (takes.Two p q) (Two a b) = true
-takes_so_many (takes.Three p q r) (Three a b c) = true
-takes_so_many _ _ = false
+abbrev pub takes_so_many : List Slot → List (Option Argument) → Bool
+takes_so_many (slot ∷ slots) (a ∷ given) = may_be slot a && takes_so_many slots given
+takes_so_many [] (a ∷ given) = not (is_some a) && takes_so_many [] given
+takes_so_many slots [] = true
 
-abbrev pub first_of : Takes → Option Parameter
-first_of takes.Nothing = None
-first_of (takes.One p) = Some p
-first_of (takes.OneOrTwo p q) = Some p
-first_of (takes.UpToTwo p q) = Some p
-first_of (takes.Two p q) = Some p
-first_of (takes.Three p q r) = Some p
-
-abbrev pub second_of : Takes → Option Parameter
-second_of takes.Nothing = None
-second_of (takes.One p) = None
-second_of (takes.OneOrTwo p q) = Some q
-second_of (takes.UpToTwo p q) = Some q
-second_of (takes.Two p q) = Some q
-second_of (takes.Three p q r) = Some q
-
-abbrev pub third_of : Takes → Option Parameter
-third_of (takes.Three p q r) = Some r
-third_of _ = None
+abbrev pub wanted : Slot → Option Parameter
+wanted Closed = None
+wanted (Needed p) = Some p
+wanted (Optional p) = Some p
 
 -- the argument isn't of the type, or isn't a weight
 abbrev pub mistyped : Option Parameter → Argument → Option ℕ
@@ -81,19 +62,23 @@ or_else (Some place) other = Some place
 or_else None other = other
 
 -- the leftmost argument of another type
-abbrev pub leftmost_mistyped : Takes → Arguments → Option ℕ
-leftmost_mistyped t (One a) = mistyped (first_of t) a
-leftmost_mistyped t (Two a b) = or_else (mistyped (first_of t) a) (mistyped (second_of t) b)
-leftmost_mistyped t (Three a b c) = or_else (mistyped (first_of t) a) (or_else (mistyped (second_of t) b) (mistyped (third_of t) c))
-leftmost_mistyped t _ = None
+abbrev pub mistyped_at : Slot → Option Argument → Option ℕ
+mistyped_at slot None = None
+mistyped_at slot (Some a) = mistyped (wanted slot) a
+
+abbrev pub leftmost_mistyped : List Slot → List (Option Argument) → Option ℕ
+leftmost_mistyped (slot ∷ slots) (a ∷ given) = or_else (mistyped_at slot a) (leftmost_mistyped slots given)
+leftmost_mistyped _ _ = None
 
 -- the leftmost argument that isn't the pattern that it must be
-abbrev pub leftmost_unwritten : Takes → Arguments → Option ℕ
-leftmost_unwritten t (One a) = unwritten (first_of t) a
-leftmost_unwritten t (Two a b) = or_else (unwritten (first_of t) a) (unwritten (second_of t) b)
-leftmost_unwritten t (Three a b c) = or_else (unwritten (first_of t) a) (or_else (unwritten (second_of t) b) (unwritten (third_of t) c))
-leftmost_unwritten t _ = None
+abbrev pub unwritten_at : Slot → Option Argument → Option ℕ
+unwritten_at slot None = None
+unwritten_at slot (Some a) = unwritten (wanted slot) a
+
+abbrev pub leftmost_unwritten : List Slot → List (Option Argument) → Option ℕ
+leftmost_unwritten (slot ∷ slots) (a ∷ given) = or_else (unwritten_at slot a) (leftmost_unwritten slots given)
+leftmost_unwritten _ _ = None
 
 -- another number of arguments, at the place of what is called; or the leftmost of another type
-abbrev pub ill_called : Takes → Arguments → ℕ → Option ℕ
+abbrev pub ill_called : List Slot → List (Option Argument) → ℕ → Option ℕ
 ill_called t a place = if takes_so_many t a then leftmost_mistyped t a else Some place

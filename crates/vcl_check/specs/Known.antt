@@ -1,5 +1,5 @@
 -- What the names of a text stand for by what they are used for.
-use Rattle.std.specs.Prelude.{ℕ, Bool, true, false, List, [], ◌∷◌, Option, Some, None, is_some, option_and_then, slice_get, codes, if◌then◌else◌}
+use Rattle.std.specs.Prelude.{ℕ, zero, suc, Bool, true, false, List, [], ◌∷◌, Option, Some, None, is_some, option_and_then, slice_get, codes, if◌then◌else◌}
 use Rattle.std.specs.Str.{bytes_eq}
 use Rattle.directors.specs.declared.director.DirectorKind.{DirectorKind}
 use Rattle.vcl_tree.specs.Endings.{ends_in}
@@ -15,8 +15,8 @@ use Rattle.vcl_language.specs.declared.functions.Method.{Method}
 use Rattle.vcl_language.specs.declared.functions.Method.TheVariants as method
 use Rattle.vcl_language.specs.declared.modules.Module.{Module}
 use Rattle.vcl_language.specs.declared.modules.Module.TheVariants.{Language, Xkey}
-use Rattle.vcl_language.specs.declared.functions.Takes.{Takes}
-use Rattle.vcl_language.specs.declared.functions.Takes.TheVariants as takes
+use Rattle.vcl_language.specs.declared.functions.Slot.{Slot}
+use Rattle.vcl_language.specs.declared.functions.Slot.TheVariants.{Closed, Needed}
 use Rattle.vcl_language.specs.declared.functions.Parameter.TheVariants.{Value}
 use Rattle.vcl_language.specs.declared.scope.Scope.TheVariants.{Traffic}
 use Rattle.vcl_values.specs.declared.value.Kind.{Kind}
@@ -66,14 +66,19 @@ of_method known name =
     of_object method.Backend (object_named known (codes ".backend") name)
 
 -- a stored function takes up to three values
-abbrev pub takes_values : List Kind → Option Takes
-takes_values [] = Some takes.Nothing
-takes_values (a ∷ []) = Some (takes.One (Value a))
-takes_values (a ∷ b ∷ []) = Some (takes.Two (Value a) (Value b))
-takes_values (a ∷ b ∷ c ∷ []) = Some (takes.Three (Value a) (Value b) (Value c))
-takes_values (a ∷ b ∷ c ∷ d ∷ more) = None
+abbrev pub value : Kind → Slot
+value kind = Needed (Value kind)
 
-abbrev pub giving : Kind → Option Takes → Option Function
+abbrev pub values : ℕ → List Kind → List Slot
+values zero kinds = []
+values (suc n) [] = Closed ∷ values n []
+values (suc n) (kind ∷ kinds) = value kind ∷ values n kinds
+
+abbrev pub takes_values : List Kind → Option (List Slot)
+takes_values (a ∷ b ∷ c ∷ d ∷ more) = None
+takes_values kinds = Some (values 3 kinds)
+
+abbrev pub giving : Kind → Option (List Slot) → Option Function
 giving kind None = None
 giving kind (Some t) = Some (record { takes = t; gives = Some kind; scope = Traffic; «module» = Language })
 

@@ -10,9 +10,8 @@ use Rattle.vcl_tree.specs.declared.item.Item.{Item}
 use Rattle.vcl_tree.specs.declared.item.Item.TheVariants as item
 use Rattle.vcl_language.specs.Functions.{function_named}
 use Rattle.vcl_language.specs.declared.functions.Function.{Function}
-use Rattle.vcl_language.specs.declared.functions.Takes.{Takes}
-use Rattle.vcl_language.specs.declared.functions.Takes.TheVariants.{Three}
-use Rattle.vcl_language.specs.declared.functions.Parameter.{Parameter}
+use Rattle.vcl_language.specs.declared.functions.Slot.{Slot}
+use Rattle.vcl_language.specs.declared.functions.Slot.TheVariants.{Needed}
 use Rattle.vcl_language.specs.declared.functions.Parameter.TheVariants.{Pattern}
 use Rattle.vcl_check.specs.declared.mentions.MentionKind.{MentionKind}
 use Rattle.vcl_check.specs.declared.mentions.MentionKind.TheVariants as kind
@@ -36,13 +35,9 @@ abbrev pub said_string : Phrase → Option Said
 said_string (phrase.String place text) = Some (said kind.Pattern place text [])
 said_string _ = None
 
-abbrev pub is_pattern : Parameter → Bool
-is_pattern Pattern = true
-is_pattern _ = false
-
 -- functions whose second argument is a pattern
-abbrev pub takes_pattern : Takes → Bool
-takes_pattern (Three p q r) = is_pattern q
+abbrev pub takes_pattern : List Slot → Bool
+takes_pattern (first ∷ Needed Pattern ∷ more) = true
 takes_pattern _ = false
 
 abbrev pub has_pattern : Option Function → Bool

@@ -8,8 +8,8 @@ use Rattle.vcl_language.specs.declared.scope.Scope.{Scope}
 use Rattle.vcl_language.specs.declared.scope.Scope.TheVariants as scope
 use Rattle.vcl_language.specs.declared.scope.Subroutine.{Subroutine}
 use Rattle.vcl_language.specs.declared.words.Word.{Word}
-use Rattle.vcl_language.specs.declared.functions.Takes.{Takes}
-use Rattle.vcl_language.specs.declared.functions.Takes.TheVariants.{One}
+use Rattle.vcl_language.specs.Functions.{one}
+use Rattle.vcl_language.specs.declared.functions.Slot.{Slot}
 use Rattle.vcl_language.specs.declared.functions.Parameter.TheVariants.{Value}
 use Rattle.vcl_check.specs.declared.form.Use.{Use}
 use Rattle.vcl_check.specs.declared.form.Use.TheVariants as use'
@@ -17,8 +17,7 @@ use Rattle.vcl_check.specs.declared.form.Form.{Form}
 use Rattle.vcl_check.specs.declared.form.Form.TheVariants as form
 use Rattle.vcl_check.specs.declared.seen.Meaning.{Meaning}
 use Rattle.vcl_check.specs.declared.seen.Meaning.TheVariants as meaning
-use Rattle.vcl_check.specs.declared.seen.Arguments.{Arguments}
-use Rattle.vcl_check.specs.declared.seen.Arguments.TheVariants as arguments
+use Rattle.vcl_check.specs.declared.seen.Argument.{Argument}
 use Rattle.vcl_check.specs.declared.seen.Seen.{Seen}
 use Rattle.vcl_check.specs.Kinds.{is_value, is_condition, is_ordered, alike, may_add, accepts, is_ip, is_acl, is_searched, is_text}
 use Rattle.vcl_check.specs.Calls.{unless, is_string, ill_called, leftmost_unwritten}
@@ -61,12 +60,12 @@ abbrev pub both_fit : Bool → Bool → Seen → Seen → Option ℕ
 both_fit left right a b = if left then unless right b.first else Some a.first
 
 -- a function's or a word's arguments
-abbrev pub ill_function : Meaning → Arguments → ℕ → Option ℕ
+abbrev pub ill_function : Meaning → List (Option Argument) → ℕ → Option ℕ
 ill_function (meaning.Function f) given place = ill_called f.takes given place
 ill_function _ given place = None
 
-abbrev pub is_one : Arguments → Bool
-is_one (arguments.One a) = true
+abbrev pub is_one : List (Option Argument) → Bool
+is_one (Some a ∷ None ∷ more) = true
 is_one _ = false
 
 abbrev pub is_nowhere : Scope → Bool
@@ -74,17 +73,17 @@ is_nowhere scope.Nowhere = true
 is_nowhere _ = false
 
 -- the word is used with a DURATION, as it is in some subroutines
-abbrev pub is_timed : Word → Arguments → Bool
+abbrev pub is_timed : Word → List (Option Argument) → Bool
 is_timed w given = is_one given && not (is_nowhere w.timed)
 
-abbrev pub answer_takes : Word → Arguments → Takes
-answer_takes w given = if is_timed w given then One (Value kind.Duration) else w.takes
+abbrev pub answer_takes : Word → List (Option Argument) → List Slot
+answer_takes w given = if is_timed w given then one (Value kind.Duration) else w.takes
 
 -- where the word takes other arguments than it is used with
-abbrev pub other_scope : Word → Arguments → Scope
+abbrev pub other_scope : Word → List (Option Argument) → Scope
 other_scope w given = if is_timed w given then w.scope else w.timed
 
-abbrev pub ill_answer : List Subroutine → Meaning → Arguments → ℕ → Option ℕ
+abbrev pub ill_answer : List Subroutine → Meaning → List (Option Argument) → ℕ → Option ℕ
 ill_answer roots (meaning.Word w) given place =
     if list_any (λ s. has (other_scope w given) s) roots then Some place else ill_called (answer_takes w given) given place
 ill_answer roots _ given place = None
@@ -100,8 +99,8 @@ ill_appended (meaning.Variable v) b = unless (is_text v.kind && is_value b.sort)
 ill_appended _ b = None
 
 -- a maker takes nothing
-abbrev pub is_zero : Arguments → Bool
-is_zero arguments.Zero = true
+abbrev pub is_zero : List (Option Argument) → Bool
+is_zero (None ∷ more) = true
 is_zero _ = false
 
 abbrev pub ill_made : Meaning → Seen → Option ℕ
@@ -158,7 +157,7 @@ abbrev pub misplaced : List Subroutine → Form → Seen → Seen → Option ℕ
 misplaced roots form a b = unless (may_stand_in roots form b.meaning) a.first
 
 -- the function's arguments that must be patterns
-abbrev pub unwritten_call : Meaning → Arguments → Option ℕ
+abbrev pub unwritten_call : Meaning → List (Option Argument) → Option ℕ
 unwritten_call (meaning.Function f) given = leftmost_unwritten f.takes given
 unwritten_call _ given = None
 

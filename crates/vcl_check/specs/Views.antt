@@ -15,7 +15,7 @@ use Rattle.vcl_check.specs.declared.seen.Meaning.TheVariants as meaning
 use Rattle.vcl_check.specs.declared.seen.Literal.{Literal}
 use Rattle.vcl_check.specs.declared.seen.Literal.TheVariants as literal
 use Rattle.vcl_check.specs.declared.seen.Argument.{Argument}
-use Rattle.vcl_check.specs.declared.seen.Arguments.TheVariants.{Zero}
+use Rattle.vcl_check.specs.declared.seen.TheConstants.{NO_ARGUMENTS}
 use Rattle.vcl_check.specs.declared.seen.Seen.{Seen}
 use Rattle.vcl_check.specs.Kinds.{sum_sort, difference_sort, grouped_sort}
 use Rattle.vcl_check.specs.Calls.{with_argument}
@@ -25,7 +25,7 @@ use Rattle.vcl_check.specs.Roles.{Role, use_in, left_role, right_role, form_of}
 
 -- a part of which its place alone is seen
 abbrev pub at_place : ℕ → Seen
-at_place place = record { sort = sort.Unknown; first = place; second = 0; meaning = meaning.Unknown; literal = literal.Other; arguments = Zero }
+at_place place = record { sort = sort.Value None; first = place; second = 0; meaning = meaning.Unknown; literal = literal.Other; arguments = NO_ARGUMENTS }
 
 -- an expression
 abbrev pub of_sort : Sort → ℕ → Seen
@@ -33,16 +33,16 @@ of_sort s place = record (at_place place) { sort = s }
 
 -- a literal
 abbrev pub written : Kind → Literal → ℕ → Seen
-written k l place = record (at_place place) { sort = sort.Value k; literal = l }
+written k l place = record (at_place place) { sort = sort.Value (Some k); literal = l }
 
 -- what a name gives
 abbrev pub sort_of : Meaning → Sort
-sort_of (meaning.Variable v) = sort.Value v.kind
-sort_of meaning.Truth = sort.Value kind.Bool
-sort_of meaning.Backend = sort.Value kind.Backend
+sort_of (meaning.Variable v) = sort.Value (Some v.kind)
+sort_of meaning.Truth = sort.Value (Some kind.Bool)
+sort_of meaning.Backend = sort.Value (Some kind.Backend)
 sort_of meaning.Acl = sort.Acl
 sort_of meaning.NoValue = sort.Nothing
-sort_of _ = sort.Unknown
+sort_of _ = sort.Value None
 
 abbrev pub name_seen : ℕ → Meaning → Seen
 name_seen place m = record (at_place place) { sort = sort_of m; meaning = m }
@@ -50,11 +50,11 @@ name_seen place m = record (at_place place) { sort = sort_of m; meaning = m }
 -- what a call gives
 abbrev pub given_sort : Option Kind → Sort
 given_sort None = sort.Nothing
-given_sort (Some k) = sort.Value k
+given_sort (Some k) = sort.Value (Some k)
 
 abbrev pub call_sort : Meaning → Sort
 call_sort (meaning.Function f) = given_sort f.gives
-call_sort _ = sort.Unknown
+call_sort _ = sort.Value None
 
 -- the number that the digits before a point spell, where one over 1,000 counts as 1,001
 abbrev pub whole_part : ℕ → List ℕ → ℕ
@@ -87,11 +87,11 @@ argument_of s = record { sort = s.sort; place = s.first; literal = s.literal }
 
 -- what is seen of two parts together
 abbrev pub seen_together : Form → Seen → Seen → Seen
-seen_together form.Junction a b = of_sort (sort.Value kind.Bool) a.first
-seen_together (form.Compared how) a b = of_sort (sort.Value kind.Bool) a.first
+seen_together form.Junction a b = of_sort (sort.Value (Some kind.Bool)) a.first
+seen_together (form.Compared how) a b = of_sort (sort.Value (Some kind.Bool)) a.first
 seen_together form.Added a b = of_sort (sum_sort a.sort b.sort) a.first
 seen_together form.Subtracted a b = of_sort (difference_sort a.sort b.sort) a.first
-seen_together form.Inverted a b = of_sort (sort.Value kind.Bool) a.first
+seen_together form.Inverted a b = of_sort (sort.Value (Some kind.Bool)) a.first
 seen_together form.Grouped a b = of_sort (grouped_sort b.sort) a.first
 seen_together form.Call a b = of_sort (call_sort a.meaning) a.first
 seen_together form.Argument a b = record (at_place a.first) { arguments = with_argument a.arguments (argument_of b) }

@@ -1,13 +1,13 @@
 // What the names of a text stand for by what they are used for.
 ghost use Rattle.std.specs.Prelude.{◌≡◌};
-ghost use Rattle.vcl_check.specs.Known.{is_truth, of_variable, of_read_symbol, of_declared, of_read, of_object, of_method, stored_named, of_stored, takes_values, function_of, function_at, is_available, of_function, of_maker, of_word, of_called, meaning_of};
+ghost use Rattle.vcl_check.specs.Known.{is_truth, of_variable, of_read_symbol, of_declared, of_read, of_object, of_method, stored_named, of_stored, value, takes_values, function_of, function_at, is_available, of_function, of_maker, of_word, of_called, meaning_of};
 
 use crate::form::Use;
 use crate::seen::Meaning;
 use directors::DirectorKind;
 use vcl_language::{
-    Function, Method, Module, Parameter, Scope, Takes, Variable, Word, function_named, maker_named,
-    method_of, subroutine_named, variable_named, word_named,
+    Function, Method, Module, NOTHING, Parameter, Scope, Slot, Takes, Variable, Word,
+    function_named, maker_named, method_of, subroutine_named, variable_named, word_named,
 };
 use vcl_symbols::{Symbol, SymbolTable};
 use vcl_tree::ends_in;
@@ -202,14 +202,16 @@ fn takes_values(kinds: &[Kind]) -> Option<Takes>
     ensures { result ≡ takes_values kinds.now }
 {
     match kinds {
-        [] => Some(Takes::Nothing),
-        [a] => Some(Takes::One(Parameter::Value(*a))),
-        [a, b] => Some(Takes::Two(Parameter::Value(*a), Parameter::Value(*b))),
-        [a, b, c] => Some(Takes::Three(
-            Parameter::Value(*a),
-            Parameter::Value(*b),
-            Parameter::Value(*c),
-        )),
+        [] => Some(NOTHING),
+        [a] => Some([value(*a), Slot::Closed, Slot::Closed]),
+        [a, b] => Some([value(*a), value(*b), Slot::Closed]),
+        [a, b, c] => Some([value(*a), value(*b), value(*c)]),
         _ => None,
     }
+}
+
+fn value(kind: Kind) -> Slot
+    ensures { result ≡ value kind }
+{
+    Slot::Needed(Parameter::Value(kind))
 }

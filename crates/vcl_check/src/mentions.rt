@@ -8,7 +8,7 @@ ghost use Rattle.vcl_check.specs.Mentions.{said, said_of, said_string, called_st
 use std::alloc::{AllocError, Global};
 use std::marker::Model;
 use units::Text;
-use vcl_language::{Parameter, Takes, function_named};
+use vcl_language::{Parameter, Slot, function_named};
 use vcl_tree::{
     Action, Addend, Block, Branch, Comparison, Expression, Item, Name, Operation, Statement,
 };
@@ -99,7 +99,7 @@ fn has_pattern(name: &[u8]) -> bool
 {
     match function_named(name) {
         None => false,
-        Some(function) => matches!(function.takes, Takes::Three(_, Parameter::Pattern, _)),
+        Some(function) => matches!(function.takes, [_, Slot::Needed(Parameter::Pattern), _]),
     }
 }
 

@@ -7,15 +7,14 @@ use vcl_values::Kind;
 /// What an expression gives.
 #[derive(Clone, Copy)]
 pub enum Sort {
-    Value(Kind),
+    /// A value of this type. Where it has a fault, its type is unknown, and it fits everywhere.
+    Value(Option<Kind>),
     /// It is the name of an ACL.
     Acl,
     /// It is a decimal: a weight, which a director takes and nothing else.
     Weight,
     /// It is no value: a call of a function without one, or a name that is declared as something else.
     Nothing,
-    /// It has a fault, and fits everywhere.
-    Unknown,
 }
 
 /// What a name stands for where it is used.
@@ -55,15 +54,10 @@ pub struct Argument {
     pub literal: Literal,
 }
 
-/// The arguments of a call. No function takes more than three.
-#[derive(Clone, Copy)]
-pub enum Arguments {
-    Zero,
-    One(Argument),
-    Two(Argument, Argument),
-    Three(Argument, Argument, Argument),
-    More,
-}
+/// The arguments of a call, from the left. No function takes more than three, so a fourth stands for all behind it.
+pub type Arguments = [Option<Argument>; 4];
+
+pub const NO_ARGUMENTS: Arguments = [None, None, None, None];
 
 /// What is seen of a part.
 #[derive(Clone, Copy)]

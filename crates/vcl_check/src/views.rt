@@ -4,7 +4,7 @@ ghost use Rattle.vcl_check.specs.Views.{at_place, of_sort, written, sort_of, nam
 
 use crate::form::Form;
 use crate::rules::{difference_sort, grouped_sort, sum_sort, with_argument};
-use crate::seen::{Argument, Arguments, Literal, Meaning, Seen, Sort};
+use crate::seen::{Argument, Literal, Meaning, NO_ARGUMENTS, Seen, Sort};
 use vcl_values::Kind;
 
 /// A part of which its place alone is seen.
@@ -12,12 +12,12 @@ pub fn at_place(place: u32) -> Seen
     ensures { result ≡ at_place place }
 {
     Seen {
-        sort: Sort::Unknown,
+        sort: Sort::Value(None),
         first: place,
         second: 0,
         meaning: Meaning::Unknown,
         literal: Literal::Other,
-        arguments: Arguments::Zero,
+        arguments: NO_ARGUMENTS,
     }
 }
 
@@ -26,11 +26,7 @@ fn of_sort(sort: Sort, place: u32) -> Seen
 {
     Seen {
         sort,
-        first: place,
-        second: 0,
-        meaning: Meaning::Unknown,
-        literal: Literal::Other,
-        arguments: Arguments::Zero,
+        ..at_place(place)
     }
 }
 
@@ -39,12 +35,9 @@ pub fn written(kind: Kind, literal: Literal, place: u32) -> Seen
     ensures { result ≡ written kind literal place }
 {
     Seen {
-        sort: Sort::Value(kind),
-        first: place,
-        second: 0,
-        meaning: Meaning::Unknown,
+        sort: Sort::Value(Some(kind)),
         literal,
-        arguments: Arguments::Zero,
+        ..at_place(place)
     }
 }
 
@@ -52,12 +45,12 @@ fn sort_of(meaning: Meaning) -> Sort
     ensures { result ≡ sort_of meaning }
 {
     match meaning {
-        Meaning::Variable(variable) => Sort::Value(variable.kind),
-        Meaning::Truth => Sort::Value(Kind::Bool),
-        Meaning::Backend => Sort::Value(Kind::Backend),
+        Meaning::Variable(variable) => Sort::Value(Some(variable.kind)),
+        Meaning::Truth => Sort::Value(Some(Kind::Bool)),
+        Meaning::Backend => Sort::Value(Some(Kind::Backend)),
         Meaning::Acl => Sort::Acl,
         Meaning::NoValue => Sort::Nothing,
-        _ => Sort::Unknown,
+        _ => Sort::Value(None),
     }
 }
 
@@ -67,11 +60,8 @@ pub fn name_seen(place: u32, meaning: Meaning) -> Seen
 {
     Seen {
         sort: sort_of(meaning),
-        first: place,
-        second: 0,
         meaning,
-        literal: Literal::Other,
-        arguments: Arguments::Zero,
+        ..at_place(place)
     }
 }
 
@@ -81,9 +71,9 @@ fn call_sort(meaning: Meaning) -> Sort
     match meaning {
         Meaning::Function(function) => match function.gives {
             None => Sort::Nothing,
-            Some(kind) => Sort::Value(kind),
+            Some(kind) => Sort::Value(Some(kind)),
         },
-        _ => Sort::Unknown,
+        _ => Sort::Value(None),
     }
 }
 
@@ -171,8 +161,9 @@ fn argument_of(seen: Seen) -> Argument
 fn with_one_more(a: Seen, b: Seen) -> Seen
     ensures { result ≡ seen_together Form.Argument a b }
 {
+    let arguments = with_argument(a.arguments, argument_of(b));
     Seen {
-        arguments: with_argument(a.arguments, argument_of(b)),
+        arguments,
         ..at_place(a.first)
     }
 }
@@ -191,9 +182,10 @@ fn assigned(a: Seen, b: Seen) -> Seen
 fn applied(a: Seen, b: Seen) -> Seen
     ensures { result ≡ seen_together Form.Applied a b }
 {
+    let arguments = b.arguments;
     Seen {
         meaning: a.meaning,
-        arguments: b.arguments,
+        arguments,
         ..at_place(a.first)
     }
 }
@@ -203,11 +195,11 @@ pub fn seen_together(form: Form, a: Seen, b: Seen) -> Seen
     ensures { result ≡ seen_together form a b }
 {
     match form {
-        Form::Junction => of_sort(Sort::Value(Kind::Bool), a.first),
-        Form::Compared(_) => of_sort(Sort::Value(Kind::Bool), a.first),
+        Form::Junction => of_sort(Sort::Value(Some(Kind::Bool)), a.first),
+        Form::Compared(_) => of_sort(Sort::Value(Some(Kind::Bool)), a.first),
         Form::Added => of_sort(sum_sort(a.sort, b.sort), a.first),
         Form::Subtracted => of_sort(difference_sort(a.sort, b.sort), a.first),
-        Form::Inverted => of_sort(Sort::Value(Kind::Bool), a.first),
+        Form::Inverted => of_sort(Sort::Value(Some(Kind::Bool)), a.first),
         Form::Grouped => of_sort(grouped_sort(b.sort), a.first),
         Form::Call => of_sort(call_sort(a.meaning), a.first),
         Form::Argument => with_one_more(a, b),

@@ -10,8 +10,9 @@ use Rattle.vcl_language.specs.declared.attributes.AttributeKind.TheVariants as a
 use Rattle.vcl_language.specs.declared.functions.Function.{Function}
 use Rattle.vcl_language.specs.declared.functions.Parameter.{Parameter}
 use Rattle.vcl_language.specs.declared.functions.Parameter.TheVariants.{Value, Pattern}
-use Rattle.vcl_language.specs.declared.functions.Takes.{Takes}
-use Rattle.vcl_language.specs.declared.functions.Takes.TheVariants.{Nothing, One, OneOrTwo, UpToTwo, Three}
+use Rattle.vcl_language.specs.declared.functions.Slot.{Slot}
+use Rattle.vcl_language.specs.declared.functions.Slot.TheVariants.{Closed, Needed, Optional}
+use Rattle.vcl_language.specs.Functions.{nothing, one}
 use Rattle.vcl_language.specs.declared.modules.Module.{Module}
 use Rattle.vcl_language.specs.declared.modules.Module.TheVariants.{Language, Xkey}
 use Rattle.vcl_language.specs.declared.scope.Scope.{Scope}
@@ -91,7 +92,7 @@ fields =
     []
 
 -- a function: what it takes and gives, where it stands, and the module that it needs
-abbrev pub function : List ℕ → Takes → Option Kind → Scope → Module → List ℕ × Function
+abbrev pub function : List ℕ → List Slot → Option Kind → Scope → Module → List ℕ × Function
 function name takes gives scope needs = (name, record { takes = takes; gives = gives; scope = scope; «module» = needs })
 
 abbrev pub text : Parameter
@@ -102,34 +103,34 @@ number = Value kind.Int
 
 abbrev pub functions : List (List ℕ × Function)
 functions =
-    function (codes "hash_data") (One text) None Hash Language ∷
-    function (codes "synthetic") (One text) None SynthBackendError Language ∷
-    function (codes "ban") (One text) None Client Language ∷
-    function (codes "regsub") (Three text Pattern text) (Some kind.String) Traffic Language ∷
-    function (codes "regsuball") (Three text Pattern text) (Some kind.String) Traffic Language ∷
-    function (codes "xkey.purge") (One text) (Some kind.Int) Client Xkey ∷
-    function (codes "xkey.softpurge") (One text) (Some kind.Int) Client Xkey ∷
+    function (codes "hash_data") (one text) None Hash Language ∷
+    function (codes "synthetic") (one text) None SynthBackendError Language ∷
+    function (codes "ban") (one text) None Client Language ∷
+    function (codes "regsub") (Needed text ∷ Needed Pattern ∷ Needed text ∷ []) (Some kind.String) Traffic Language ∷
+    function (codes "regsuball") (Needed text ∷ Needed Pattern ∷ Needed text ∷ []) (Some kind.String) Traffic Language ∷
+    function (codes "xkey.purge") (one text) (Some kind.Int) Client Xkey ∷
+    function (codes "xkey.softpurge") (one text) (Some kind.Int) Client Xkey ∷
     []
 
 -- a word of return: what it takes, where it stands, and where it takes a DURATION; `fail` alone fails
-abbrev pub word : List ℕ → Takes → Scope → Scope → Bool → List ℕ × Word
+abbrev pub word : List ℕ → List Slot → Scope → Scope → Bool → List ℕ × Word
 word name takes scope timed fails = (name, record { takes = takes; scope = scope; timed = timed; fails = fails })
 
 abbrev pub words : List (List ℕ × Word)
 words =
-    word (codes "hash") Nothing Recv Nowhere false ∷
-    word (codes "pass") Nothing RecvHitMiss BackendResponse false ∷
-    word (codes "purge") Nothing Recv Nowhere false ∷
-    word (codes "synth") (OneOrTwo number text) Synthesizing Nowhere false ∷
-    word (codes "restart") Nothing Restarting Nowhere false ∷
-    word (codes "fail") Nothing AllButFini Nowhere true ∷
-    word (codes "lookup") Nothing Hash Nowhere false ∷
-    word (codes "deliver") Nothing Delivering Nowhere false ∷
-    word (codes "fetch") Nothing MissPassFetch Nowhere false ∷
-    word (codes "error") (UpToTwo number text) FetchResponse Nowhere false ∷
-    word (codes "abandon") Nothing Backend Nowhere false ∷
-    word (codes "retry") Nothing Response Nowhere false ∷
-    word (codes "ok") Nothing InitFini Nowhere false ∷
+    word (codes "hash") nothing Recv Nowhere false ∷
+    word (codes "pass") nothing RecvHitMiss BackendResponse false ∷
+    word (codes "purge") nothing Recv Nowhere false ∷
+    word (codes "synth") (Needed number ∷ Optional text ∷ Closed ∷ []) Synthesizing Nowhere false ∷
+    word (codes "restart") nothing Restarting Nowhere false ∷
+    word (codes "fail") nothing AllButFini Nowhere true ∷
+    word (codes "lookup") nothing Hash Nowhere false ∷
+    word (codes "deliver") nothing Delivering Nowhere false ∷
+    word (codes "fetch") nothing MissPassFetch Nowhere false ∷
+    word (codes "error") (Optional number ∷ Optional text ∷ Closed ∷ []) FetchResponse Nowhere false ∷
+    word (codes "abandon") nothing Backend Nowhere false ∷
+    word (codes "retry") nothing Response Nowhere false ∷
+    word (codes "ok") nothing InitFini Nowhere false ∷
     []
 
 abbrev pub backend_attributes : List (List ℕ × AttributeKind)

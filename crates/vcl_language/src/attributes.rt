@@ -14,7 +14,7 @@ pub enum AttributeKind {
 }
 
 /// What has attributes.
-#[derive(Clone, Copy, Debug, PartialEq, Eq)]
+#[derive(Clone, Copy)]
 pub enum Owner {
     Backend,
     Probe,

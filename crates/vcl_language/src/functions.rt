@@ -9,7 +9,7 @@ use directors::DirectorKind;
 use vcl_values::Kind;
 
 /// What a function wants in one place.
-#[derive(Clone, Copy, Debug, PartialEq, Eq)]
+#[derive(Clone, Copy, Debug)]
 pub enum Parameter {
     /// A value of this type; of any type where it is STRING.
     Value(Kind),
@@ -19,19 +19,20 @@ pub enum Parameter {
     Weight,
 }
 
-/// What a function or a word of return takes.
-#[derive(Clone, Copy, Debug, PartialEq, Eq)]
-pub enum Takes {
-    Nothing,
-    One(Parameter),
-    OneOrTwo(Parameter, Parameter),
-    UpToTwo(Parameter, Parameter),
-    Two(Parameter, Parameter),
-    Three(Parameter, Parameter, Parameter),
+/// A place for an argument.
+#[derive(Clone, Copy, Debug)]
+pub enum Slot {
+    /// Nothing may stand there.
+    Closed,
+    Needed(Parameter),
+    Optional(Parameter),
 }
 
+/// What a function or a word of return takes, from the left: no more than three arguments.
+pub type Takes = [Slot; 3];
+
 /// A function: what it takes and gives, where it may stand, and the module that it needs.
-#[derive(Clone, Copy, Debug, PartialEq, Eq)]
+#[derive(Clone, Copy)]
 pub struct Function {
     pub takes: Takes,
     pub gives: Option<Kind>,
@@ -47,29 +48,41 @@ pub const INT: Option<Kind> = Some(Kind::Int);
 
 pub const NO_VALUE: Option<Kind> = None;
 
+pub const NOTHING: Takes = [Slot::Closed, Slot::Closed, Slot::Closed];
+
+pub const ONE_TEXT: Takes = [Slot::Needed(TEXT), Slot::Closed, Slot::Closed];
+
+pub const TEXT_PATTERN_TEXT: Takes = [
+    Slot::Needed(TEXT),
+    Slot::Needed(Parameter::Pattern),
+    Slot::Needed(TEXT),
+];
+
+const BACKEND: Slot = Slot::Needed(Parameter::Value(Kind::Backend));
+
 // the name, what it takes, what it gives, where it stands, its module
 macro_rules! functions {
     ($column:ident) => {
         $column! {
-            "hash_data" One(TEXT) NO_VALUE Hash Language;
-            "synthetic" One(TEXT) NO_VALUE SynthBackendError Language;
-            "ban" One(TEXT) NO_VALUE Client Language;
-            "regsub" Three(TEXT, Parameter::Pattern, TEXT) STRING Traffic Language;
-            "regsuball" Three(TEXT, Parameter::Pattern, TEXT) STRING Traffic Language;
-            "xkey.purge" One(TEXT) INT Client Xkey;
-            "xkey.softpurge" One(TEXT) INT Client Xkey;
+            "hash_data" ONE_TEXT NO_VALUE Hash Language;
+            "synthetic" ONE_TEXT NO_VALUE SynthBackendError Language;
+            "ban" ONE_TEXT NO_VALUE Client Language;
+            "regsub" TEXT_PATTERN_TEXT STRING Traffic Language;
+            "regsuball" TEXT_PATTERN_TEXT STRING Traffic Language;
+            "xkey.purge" ONE_TEXT INT Client Xkey;
+            "xkey.softpurge" ONE_TEXT INT Client Xkey;
         }
     };
 }
 
 macro_rules! names {
-    ($($name:literal $takes:ident($($parameter:expr),*) $gives:ident $scope:ident $module:ident;)*) => { [$($name),*] };
+    ($($name:literal $takes:ident $gives:ident $scope:ident $module:ident;)*) => { [$($name),*] };
 }
 
 macro_rules! entries {
-    ($($name:literal $takes:ident($($parameter:expr),*) $gives:ident $scope:ident $module:ident;)*) => {
+    ($($name:literal $takes:ident $gives:ident $scope:ident $module:ident;)*) => {
         [$(Function {
-            takes: Takes::$takes($($parameter),*),
+            takes: $takes,
             gives: $gives,
             scope: Scope::$scope,
             module: Module::$module,
@@ -86,7 +99,9 @@ pub static FUNCTIONS: [Function; 7] = functions!(entries);
 pub fn function_named(name: &[u8]) -> Option<Function>
     ensures { result ≡ function_named name.now }
 {
-    entry_at(&FUNCTIONS, row_of(&FUNCTION_NAMES, name))
+    // A static that holds arrays isn't borrowed where it stands.
+    let functions = FUNCTIONS;
+    entry_at(&functions, row_of(&FUNCTION_NAMES, name))
 }
 
 /// What may be called of a director.
@@ -117,9 +132,9 @@ pub fn method_of(kind: DirectorKind, method: Method) -> Function
         Method::AddBackend => Function {
             takes: match kind {
                 DirectorKind::Random | DirectorKind::Hash => {
-                    Takes::OneOrTwo(Parameter::Value(Kind::Backend), Parameter::Weight)
+                    [BACKEND, Slot::Optional(Parameter::Weight), Slot::Closed]
                 }
-                _ => Takes::One(Parameter::Value(Kind::Backend)),
+                _ => [BACKEND, Slot::Closed, Slot::Closed],
             },
             gives: None,
             scope: Scope::Init,
@@ -127,8 +142,8 @@ pub fn method_of(kind: DirectorKind, method: Method) -> Function
         },
         Method::Backend => Function {
             takes: match kind {
-                DirectorKind::Hash => Takes::One(TEXT),
-                _ => Takes::Nothing,
+                DirectorKind::Hash => ONE_TEXT,
+                _ => NOTHING,
             },
             gives: Some(Kind::Backend),
             scope: Scope::Traffic,

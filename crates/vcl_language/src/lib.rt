@@ -15,7 +15,9 @@ mod variables;
 mod words;
 
 pub use attributes::{AttributeKind, Owner, attribute_named};
-pub use functions::{Function, Method, Parameter, Takes, function_named, method_named, method_of};
+pub use functions::{
+    Function, Method, NOTHING, Parameter, Slot, Takes, function_named, method_named, method_of,
+};
 pub use laws::{
     backend_attributes_are_those, fields_are_those, functions_are_those, makers_are_those,
     modules_are_those, probe_attributes_are_those, subroutines_are_those, variables_are_those,

@@ -7,7 +7,7 @@ use crate::scope::Scope;
 use vcl_values::Kind;
 
 /// A variable: its type, and the subroutines in which it may be read, set with `=`, set with `+=`, and unset.
-#[derive(Clone, Copy, Debug, PartialEq, Eq)]
+#[derive(Clone, Copy)]
 pub struct Variable {
     pub kind: Kind,
     pub read: Scope,

@@ -175,12 +175,12 @@ then-there P f (Some (Some v)) h k = k v h
 then-there P f (Some None) h k = tt
 then-there P f None h k = h
 
-pub variable-set : (w : Variable) → is_set w ≡ true → (k : Kind) → takes_sort (kind_of_variable w) (sort.Value k) ≡ true → (v : Value) → IsOf k v → (c : Context) → IsDue (set_to w v c)
+pub variable-set : (w : Variable) → is_set w ≡ true → (k : Kind) → takes_sort (kind_of_variable w) (sort.Value (Some k)) ≡ true → (v : Value) → IsOf k v → (c : Context) → IsDue (set_to w v c)
 variable-set w h k a v e c =
     then-there (IsOf (kind_of_variable w)) (set_fitted w c) (fitted (kind_of_variable w) v) (fitted-makes (kind_of_variable w) k v e a) (λ x p. fitted-set w h x p c)
 
-text-accepted : (k : Kind) → k ≡ kind.String → takes_sort k (sort.Value kind.String) ≡ true
-text-accepted k e = subst (λ (x : Kind). takes_sort x (sort.Value kind.String) ≡ true) (sym e) refl
+text-accepted : (k : Kind) → k ≡ kind.String → takes_sort k (sort.Value (Some kind.String)) ≡ true
+text-accepted k e = subst (λ (x : Kind). takes_sort x (sort.Value (Some kind.String)) ≡ true) (sym e) refl
 
 pub variable-appended : (w : Variable) → is_set w ≡ true → kind_of_variable w ≡ kind.String → (v : Value) (c : Context) → IsDue (append_to w v c)
 variable-appended w h t v c =

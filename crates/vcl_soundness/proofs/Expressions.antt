@@ -1,5 +1,5 @@
 -- By the grammar, an expression without a fault comes to a value of its type, and isn't stuck.
-use Rattle.std.proofs.Common.{◌≡◌, ℕ, Bool, true, not, ◌||◌, List, [], ◌∷◌, refl, sym, ap, ◌∙◌, subst, Option, Some, None, slice_get, ◌<◌, length, slice_index_or}
+use Rattle.std.proofs.Common.{◌≡◌, ℕ, zero, suc, Bool, true, not, ◌||◌, List, [], ◌∷◌, ◌++◌, refl, sym, ap, ◌∙◌, subst, Option, Some, None, slice_get, ◌<◌, ◌≤◌, length, slice_index_or, arith}
 use Rattle.std.specs.List.{list_all}
 use Rattle.std.specs.Prelude.{Contains}
 use Rattle.std.proofs.lemmas.Option.{none-some, same_Some, slice_get-get_or}
@@ -14,24 +14,22 @@ use Rattle.vcl_tree.specs.declared.token.Token.{Token}
 use Rattle.vcl_tree.specs.ExpressionGrammar as grammar
 use Rattle.vcl_tree.specs.ExpressionGrammar.{IsExpression, IsConjunction, IsNegation, IsComparison, IsSum, IsTerm, IsArguments, IsArgumentList}
 use Rattle.vcl_tree.specs.Tokens.{IsName, plain_name, word_name}
-use Rattle.vcl_language.specs.Functions.{method_of}
+use Rattle.vcl_language.specs.Functions.{method_of, nothing, one}
 use Rattle.vcl_language.specs.declared.functions.Function.{Function}
 use Rattle.vcl_language.specs.declared.functions.Method.TheVariants as method
 use Rattle.vcl_language.specs.declared.functions.Parameter.TheVariants as parameter
-use Rattle.vcl_language.specs.declared.functions.Takes.{Takes}
-use Rattle.vcl_language.specs.declared.functions.Takes.TheVariants as takes
+use Rattle.vcl_language.specs.declared.functions.Slot.{Slot}
 use Rattle.vcl_language.specs.declared.scope.Subroutine.{Subroutine}
 use Rattle.vmod_host.specs.declared.signature.Stored.{Stored}
 use Rattle.vcl_check.specs.declared.form.Use.TheVariants as use'
 use Rattle.vcl_check.specs.declared.seen.Argument.{Argument}
-use Rattle.vcl_check.specs.declared.seen.Arguments.{Arguments as Seens}
 use Rattle.vcl_check.specs.declared.seen.Meaning.{Meaning}
 use Rattle.vcl_check.specs.declared.seen.Meaning.TheVariants as meaning
 use Rattle.vcl_check.specs.declared.seen.Sort.{Sort}
 use Rattle.vcl_check.specs.declared.seen.Sort.TheVariants as sort
-use Rattle.vcl_check.specs.Calls.{is_string, mistyped, unwritten, or_else, leftmost_unwritten, ill_called}
+use Rattle.vcl_check.specs.Calls.{is_string, with_argument, takes_so_many, mistyped, unwritten, or_else, leftmost_mistyped, leftmost_unwritten, ill_called}
 use Rattle.vcl_check.specs.Kinds.{is_value, is_condition, is_ordered, same_kind, alike, adds, may_add, sum_kind, sum_sort, difference_kind, difference_sort, accepts, grouped_sort, is_ip, is_acl, is_searched}
-use Rattle.vcl_check.specs.Known.{meaning_of, takes_values, giving, function_of}
+use Rattle.vcl_check.specs.Known.{meaning_of, values, takes_values, giving, function_of}
 use Rattle.vcl_check.specs.Roles.{Name, Value, Arguments}
 use Rattle.vcl_check.specs.Rules.{may_use, is_reached, is_for_init, may_be_used, both_fit, ill_function, unwritten_call}
 use Rattle.vcl_check.specs.Views.{sort_of, given_sort, call_sort, integer_weight, argument_of, view_of}
@@ -46,12 +44,12 @@ use Rattle.vcl_program.specs.declared.code.Director.{Director}
 use Rattle.vcl_operands.specs.Meaning.{Scene, Operand, value_of, operands_of}
 use Rattle.vcl_soundness.proofs.Rows.{false-true, both-true, takes_of, gives_of, passes}
 use Rattle.vcl_soundness.proofs.Clean.{Clean, left-clean, right-clean, fits, written, known-name, used-name}
-use Rattle.vcl_soundness.proofs.TooMany.{not-none, too-many, four-are-more}
-use Rattle.vcl_soundness.proofs.NoFault.{unless-none, both-fits, or-none, weight-no-string}
+use Rattle.vcl_soundness.proofs.Places.{not-none, placed, one-placed, AreFour, four-placed, values-are}
+use Rattle.vcl_soundness.proofs.NoFault.{unless-none, if-none, both-fits, or-none, weight-no-string}
 use Rattle.vcl_soundness.proofs.Names as names
 use Rattle.vcl_soundness.proofs.Names.{Stands, AclNamed, ReadsAs, name-reads, Does, function-does}
 use Rattle.vcl_soundness.proofs.Typed as typed
-use Rattle.vcl_soundness.proofs.Typed.{AllGiven, Typed, CallWorth, Sought, stored-worth, xkey-worth, substitute-worth, director-worth, hash-worth, string-typed, integer-typed, duration-typed, named-typed, group-typed, either-typed, both-typed, not-typed, equal-typed, unequal-typed, less-typed, less-or-equal-typed, greater-typed, greater-or-equal-typed, sum-typed, difference-typed, match-typed, mismatch-typed, called-typed}
+use Rattle.vcl_soundness.proofs.Typed.{Given, AllGiven, Typed, CallWorth, Sought, stored-worth, xkey-worth, substitute-worth, director-worth, hash-worth, string-typed, integer-typed, duration-typed, named-typed, group-typed, either-typed, both-typed, not-typed, equal-typed, unequal-typed, less-typed, less-or-equal-typed, greater-typed, greater-or-equal-typed, sum-typed, difference-typed, match-typed, mismatch-typed, called-typed}
 
 -- the text of a string
 string-text : (known : Known) (e : Phrase) → is_string (view_of known Value e).literal ≡ true → (place : ℕ) × (text : List ℕ) × (e ≡ String place text)
@@ -79,45 +77,6 @@ string-text known (Node label a b) h = absurd (no-string label h)
     no-string _ h = false-true h
 
 -- what is no ACL's name
-sum-no-acl : (s t : Sort) → is_acl (sum_sort s t) ≡ true → ⊥
-sum-no-acl (sort.Value k) (sort.Value l) h = kinds k l h
-  where
-    kinds : (k l : Kind) → is_acl (sum_kind k l) ≡ true → ⊥
-    kinds kind.String l h = false-true h
-    kinds kind.Int kind.String h = false-true h
-    kinds kind.Int kind.Int h = false-true h
-    kinds kind.Int _ h = false-true h
-    kinds kind.Duration kind.String h = false-true h
-    kinds kind.Duration kind.Duration h = false-true h
-    kinds kind.Duration _ h = false-true h
-    kinds kind.Bool kind.String h = false-true h
-    kinds kind.Bool _ h = false-true h
-    kinds kind.Ip kind.String h = false-true h
-    kinds kind.Ip _ h = false-true h
-    kinds kind.Backend kind.String h = false-true h
-    kinds kind.Backend _ h = false-true h
-sum-no-acl (sort.Value k) _ h = false-true h
-sum-no-acl _ t h = false-true h
-
-difference-no-acl : (s t : Sort) → is_acl (difference_sort s t) ≡ true → ⊥
-difference-no-acl (sort.Value k) (sort.Value l) h = kinds k l h
-  where
-    kinds : (k l : Kind) → is_acl (difference_kind k l) ≡ true → ⊥
-    kinds kind.Int kind.Int h = false-true h
-    kinds kind.Int _ h = false-true h
-    kinds kind.Duration kind.Duration h = false-true h
-    kinds kind.Duration _ h = false-true h
-    kinds kind.String l h = false-true h
-    kinds kind.Bool l h = false-true h
-    kinds kind.Ip l h = false-true h
-    kinds kind.Backend l h = false-true h
-difference-no-acl (sort.Value k) _ h = false-true h
-difference-no-acl _ t h = false-true h
-
-group-no-acl : (s : Sort) → is_acl (grouped_sort s) ≡ true → ⊥
-group-no-acl (sort.Value k) h = false-true h
-group-no-acl _ h = false-true h
-
 given-no-acl : (s : Option Kind) → is_acl (given_sort s) ≡ true → ⊥
 given-no-acl None h = false-true h
 given-no-acl (Some k) h = false-true h
@@ -147,8 +106,8 @@ module _ (known : Known) (scene : Scene) (stands : Stands known scene) (roots : 
     (reached : Contains roots root) where
   -- a value is one of its type; what is no value may be none
   abbrev Good : Sort → Phrase → Type 0
-  Good (sort.Value k) e = Typed scene known k e
-  Good sort.Unknown e = ⊥
+  Good (sort.Value (Some k)) e = Typed scene known k e
+  Good (sort.Value None) e = ⊥
   Good _ e = Unit {0}
 
   abbrev SortOf : Phrase → Sort
@@ -163,42 +122,28 @@ module _ (known : Known) (scene : Scene) (stands : Stands known scene) (roots : 
 
   -- a value, by its type
   abbrev pub Valued : Sort → Phrase → Type 0
-  Valued s e = (k : Kind) × (s ≡ sort.Value k) × Typed scene known k e
+  Valued s e = (k : Kind) × (s ≡ sort.Value (Some k)) × Typed scene known k e
 
   pub valued : (s : Sort) (e : Phrase) → is_value s ≡ true → Good s e → Valued s e
-  valued (sort.Value k) e h g = (k, refl, g)
-  valued sort.Acl e h g = absurd (false-true h)
-  valued sort.Weight e h g = absurd (false-true h)
-  valued sort.Nothing e h g = absurd (false-true h)
-  valued sort.Unknown e h g = absurd g
+  valued (sort.Value (Some k)) e h g = (k, refl, g)
+  valued (sort.Value None) e h g = absurd g
+  valued _ e h g = absurd (false-true h)
 
   condition-value : (s : Sort) → is_condition s ≡ true → is_value s ≡ true
   condition-value (sort.Value k) h = refl
-  condition-value sort.Unknown h = refl
-  condition-value sort.Acl h = absurd (false-true h)
-  condition-value sort.Weight h = absurd (false-true h)
-  condition-value sort.Nothing h = absurd (false-true h)
+  condition-value _ h = absurd (false-true h)
 
   ordered-value : (s : Sort) → is_ordered s ≡ true → is_value s ≡ true
   ordered-value (sort.Value k) h = refl
-  ordered-value sort.Unknown h = refl
-  ordered-value sort.Acl h = absurd (false-true h)
-  ordered-value sort.Weight h = absurd (false-true h)
-  ordered-value sort.Nothing h = absurd (false-true h)
+  ordered-value _ h = absurd (false-true h)
 
-  alike-value : (k : Kind) (t : Sort) → alike (sort.Value k) t ≡ true → is_value t ≡ true
+  alike-value : (k : Kind) (t : Sort) → alike (sort.Value (Some k)) t ≡ true → is_value t ≡ true
   alike-value k (sort.Value l) h = refl
-  alike-value k sort.Unknown h = refl
-  alike-value k sort.Acl h = absurd (false-true h)
-  alike-value k sort.Weight h = absurd (false-true h)
-  alike-value k sort.Nothing h = absurd (false-true h)
+  alike-value k _ h = absurd (false-true h)
 
-  add-value : (k : Kind) (t : Sort) → may_add (sort.Value k) t ≡ true → is_value t ≡ true
+  add-value : (k : Kind) (t : Sort) → may_add (sort.Value (Some k)) t ≡ true → is_value t ≡ true
   add-value k (sort.Value l) h = refl
-  add-value k sort.Unknown h = refl
-  add-value k sort.Acl h = absurd (false-true h)
-  add-value k sort.Weight h = absurd (false-true h)
-  add-value k sort.Nothing h = absurd (false-true h)
+  add-value k _ h = absurd (false-true h)
 
   accepts-value : (k : Kind) (t : Sort) → accepts k t ≡ true → is_value t ≡ true
   accepts-value kind.String t h = h
@@ -210,7 +155,7 @@ module _ (known : Known) (scene : Scene) (stands : Stands known scene) (roots : 
 
   -- a value in a condition
   abbrev pub Conditional : Sort → Phrase → Type 0
-  Conditional s e = (k : Kind) × (is_condition (sort.Value k) ≡ true) × Typed scene known k e
+  Conditional s e = (k : Kind) × (is_condition (sort.Value (Some k)) ≡ true) × Typed scene known k e
 
   pub conditional : (s : Sort) (e : Phrase) → is_condition s ≡ true → Good s e → Conditional s e
   conditional s e h g =
@@ -218,13 +163,13 @@ module _ (known : Known) (scene : Scene) (stands : Stands known scene) (roots : 
       (v.0, subst (λ (x : Sort). is_condition x ≡ true) v.1 h, v.2)
 
   -- a value that is taken where one of a type is wanted
-  pub accepted : (wanted : Kind) (s : Sort) (e : Phrase) → accepts wanted s ≡ true → Good s e → (k : Kind) × (accepts wanted (sort.Value k) ≡ true) × Typed scene known k e
+  pub accepted : (wanted : Kind) (s : Sort) (e : Phrase) → accepts wanted s ≡ true → Good s e → (k : Kind) × (accepts wanted (sort.Value (Some k)) ≡ true) × Typed scene known k e
   accepted wanted s e h g =
       let v = valued s e (accepts-value wanted s h) g in
       (v.0, subst (λ (x : Sort). accepts wanted x ≡ true) v.1 h, v.2)
 
   -- arguments
-  abbrev pub Listed : Phrase → Seens
+  abbrev pub Listed : Phrase → List (Option Argument)
   Listed l = (view_of known Arguments l).arguments
 
   abbrev Taken : List Kind → Phrase → Type 0
@@ -234,85 +179,85 @@ module _ (known : Known) (scene : Scene) (stands : Stands known scene) (roots : 
   Seen e = argument_of (view_of known Value e)
 
   argument-given : (wanted : Kind) (e : Phrase) → mistyped (Some (parameter.Value wanted)) (Seen e) ≡ None → Good (SortOf e) e
-      → (k : Kind) × (accepts wanted (sort.Value k) ≡ true) × Typed scene known k e
+      → (k : Kind) × (accepts wanted (sort.Value (Some k)) ≡ true) × Typed scene known k e
   argument-given wanted e m g = accepted wanted (SortOf e) e (unless-none (accepts wanted (SortOf e)) (view_of known Value e).first m) g
 
-  zero-given : {l : Phrase} → AreFine l → (at : ℕ) → ill_called takes.Nothing (Listed l) at ≡ None → Taken [] l
-  unfolding operands_of
-  zero-given none at i = tt
-  zero-given (more none f) at i = absurd (not-none at i)
-  zero-given (more (more none f) g) at i = absurd (not-none at i)
-  zero-given (more (more (more none f) g) h) at i = absurd (not-none at i)
-  zero-given (more {e = z} (more {e = y} (more {e = x} (more {l = l} {e = w} m d) f) g) h) at i =
-      let P : Seens → Type 0 = λ s. ill_called takes.Nothing s at ≡ None in
-      absurd (too-many takes.Nothing at (subst P (four-are-more (Listed l) (Seen w) (Seen x) (Seen y) (Seen z)) i))
+  -- an argument is given as an operand
+  abbrev IsGiven : Argument → Operand → Type 0
+  IsGiven a x = (wanted : Kind) → mistyped (Some (parameter.Value wanted)) a ≡ None → Given wanted x
 
-  pub one-given : (a : Kind) {l : Phrase} → AreFine l → Clean known roots Arguments l → (at : ℕ) → ill_called (takes.One (parameter.Value a)) (Listed l) at ≡ None → Taken (a ∷ []) l
-  unfolding operands_of
-  one-given a none c at i = absurd (not-none at i)
-  one-given a (more {e = x} none f) c at i = (argument-given a x i (f (right-clean known roots Arguments More Nothing x c)), tt)
-  one-given a (more (more none f) g) c at i = absurd (not-none at i)
-  one-given a (more (more (more none f) g) h) c at i = absurd (not-none at i)
-  one-given a (more {e = z} (more {e = y} (more {e = x} (more {l = l} {e = w} m d) f) g) h) c at i =
-      let P : Seens → Type 0 = λ s. ill_called (takes.One (parameter.Value a)) s at ≡ None in
-      absurd (too-many (takes.One (parameter.Value a)) at (subst P (four-are-more (Listed l) (Seen w) (Seen x) (Seen y) (Seen z)) i))
+  abbrev AreGiven : List Argument → List Operand → Type 0
+  AreGiven [] [] = Unit {0}
+  AreGiven (a ∷ as') (x ∷ xs) = IsGiven a x × AreGiven as' xs
+  AreGiven _ _ = ⊥
 
-  pub two-given : (a b : Kind) {l : Phrase} → AreFine l → Clean known roots Arguments l → (at : ℕ) → ill_called (takes.Two (parameter.Value a) (parameter.Value b)) (Listed l) at ≡ None
-      → Taken (a ∷ b ∷ []) l
-  unfolding operands_of
-  two-given a b none c at i = absurd (not-none at i)
-  two-given a b (more none f) c at i = absurd (not-none at i)
-  two-given a b (more {e = y} (more {e = x} none f) g) c at i =
-      let front = left-clean known roots Arguments More (Node More Nothing x) y c in
-      let m = or-none (mistyped (Some (parameter.Value a)) (Seen x)) (mistyped (Some (parameter.Value b)) (Seen y)) i in (
-        argument-given a x m.0 (f (right-clean known roots Arguments More Nothing x front)),
-        (argument-given b y m.1 (g (right-clean known roots Arguments More (Node More Nothing x) y c)), tt),
-      )
-  two-given a b (more (more (more none f) g) h) c at i = absurd (not-none at i)
-  two-given a b (more {e = z} (more {e = y} (more {e = x} (more {l = l} {e = w} m d) f) g) h) c at i =
-      let T : Takes = takes.Two (parameter.Value a) (parameter.Value b) in
-      let P : Seens → Type 0 = λ s. ill_called T s at ≡ None in
-      absurd (too-many T at (subst P (four-are-more (Listed l) (Seen w) (Seen x) (Seen y) (Seen z)) i))
+  one-more : (as' : List Argument) (xs : List Operand) (a : Argument) (x : Operand) → AreGiven as' xs → IsGiven a x → AreGiven (as' ++ a ∷ []) (xs ++ x ∷ [])
+  one-more [] [] a x h g = (g, tt)
+  one-more (b ∷ as') (y ∷ ys) a x h g = (h.0, one-more as' ys a x h.1 g)
+  one-more [] (y ∷ ys) a x h g = absurd h
+  one-more (b ∷ as') [] a x h g = absurd h
 
-  three-given : (a b e : Kind) {l : Phrase} → AreFine l → Clean known roots Arguments l → (at : ℕ)
-      → ill_called (takes.Three (parameter.Value a) (parameter.Value b) (parameter.Value e)) (Listed l) at ≡ None → Taken (a ∷ b ∷ e ∷ []) l
-  unfolding operands_of
-  three-given a b e none c at i = absurd (not-none at i)
-  three-given a b e (more none f) c at i = absurd (not-none at i)
-  three-given a b e (more (more none f) g) c at i = absurd (not-none at i)
-  three-given a b e (more {e = z} (more {e = y} (more {e = x} none f) g) h) c at i =
-      let two = Node More (Node More Nothing x) y in
-      let front = left-clean known roots Arguments More two z c in
-      let first = left-clean known roots Arguments More (Node More Nothing x) y front in
-      let A = mistyped (Some (parameter.Value a)) (Seen x) in
-      let B = mistyped (Some (parameter.Value b)) (Seen y) in
-      let E = mistyped (Some (parameter.Value e)) (Seen z) in
-      let m = or-none A (or_else B E) i in
-      let n = or-none B E m.1 in (
-        argument-given a x m.0 (f (right-clean known roots Arguments More Nothing x first)),
-        (
-          argument-given b y n.0 (g (right-clean known roots Arguments More (Node More Nothing x) y front)),
-          (argument-given e z n.1 (h (right-clean known roots Arguments More two z c)), tt),
-        ),
-      )
-  three-given a b e (more {e = z} (more {e = y} (more {e = x} (more {l = l} {e = w} m d) f) g) h) c at i =
-      let T : Takes = takes.Three (parameter.Value a) (parameter.Value b) (parameter.Value e) in
-      let P : Seens → Type 0 = λ s. ill_called T s at ≡ None in
-      absurd (too-many T at (subst P (four-are-more (Listed l) (Seen w) (Seen x) (Seen y) (Seen z)) i))
+  record AreListed (l : Phrase) : Type 0 where
+    pub arguments : List Argument
+    pub listed : Listed l ≡ placed 4 arguments
+    pub given : AreGiven arguments (operands_of known scene l)
 
-  values-given : (kinds : List Kind) (t : Takes) → takes_values kinds ≡ Some t → {l : Phrase} → AreFine l → Clean known roots Arguments l → (at : ℕ) → ill_called t (Listed l) at ≡ None
+  are-listed : {l : Phrase} → AreFine l → Clean known roots Arguments l → AreListed l
+  unfolding operands_of
+  are-listed none c = record { arguments = []; listed = refl; given = tt }
+  are-listed (more {l = l} {e = e} f g) c =
+      let front = are-listed f (left-clean known roots Arguments More l e c) in
+      let good = g (right-clean known roots Arguments More l e c) in
+      record {
+        arguments = front.arguments ++ Seen e ∷ [];
+        listed = ap (λ (xs : List (Option Argument)). with_argument xs (Seen e)) front.listed ∙ one-placed 4 front.arguments (Seen e);
+        given = one-more front.arguments (operands_of known scene l) (Seen e) (value_of known scene e) front.given (λ wanted m. argument-given wanted e m good);
+      }
+
+  -- each is of its type, where none of the leftmost is told
+  all-given : (n m : ℕ) (ks : List Kind) (as' : List Argument) (xs : List Operand) → takes_so_many (values n ks) (placed m as') ≡ true → leftmost_mistyped (values n ks) (placed m as') ≡ None
+      → length ks ≤ n → n < m → AreGiven as' xs → AllGiven ks xs
+  all-given n zero ks as' xs s i low high g = absurd (omega (arith, high))
+  all-given zero (suc m) [] [] [] s i low high g = tt
+  all-given zero (suc m) [] (a ∷ as') xs s i low high g = absurd (false-true s)
+  all-given zero (suc m) (k ∷ ks) as' xs s i low high g = absurd (omega (arith, low))
+  all-given (suc n) (suc m) [] [] [] s i low high g = tt
+  all-given (suc n) (suc m) [] (a ∷ as') xs s i low high g = absurd (false-true s)
+  all-given (suc n) (suc m) (k ∷ ks) [] xs s i low high g = absurd (false-true s)
+  all-given (suc n) (suc m) (k ∷ ks) (a ∷ as') (x ∷ xs) s i low high g =
+      let o = or-none (mistyped (Some (parameter.Value k)) a) (leftmost_mistyped (values n ks) (placed m as')) i in
+      (g.0 k o.0, all-given n m ks as' xs s o.1 (omega (arith, low)) (omega (arith, high)) g.1)
+  all-given n m ks [] (x ∷ xs) s i low high g = absurd g
+  all-given n m ks (a ∷ as') [] s i low high g = absurd g
+
+  given-values : (ks : List Kind) → length ks ≤ 3 → {l : Phrase} → AreFine l → Clean known roots Arguments l → (at : ℕ) → ill_called (values 3 ks) (Listed l) at ≡ None → Taken ks l
+  given-values ks low {l} f c at i =
+      let are = are-listed f c in
+      let P : List (Option Argument) → Type 0 = λ given. ill_called (values 3 ks) given at ≡ None in
+      let b = if-none (takes_so_many (values 3 ks) (placed 4 are.arguments)) (leftmost_mistyped (values 3 ks) (placed 4 are.arguments)) at (subst P are.listed i) in
+      all-given 3 4 ks are.arguments (operands_of known scene l) b.0 b.1 low (omega arith) are.given
+
+  zero-given : {l : Phrase} → AreFine l → Clean known roots Arguments l → (at : ℕ) → ill_called nothing (Listed l) at ≡ None → Taken [] l
+  zero-given f c at i = given-values [] (omega arith) f c at i
+
+  pub one-given : (a : Kind) {l : Phrase} → AreFine l → Clean known roots Arguments l → (at : ℕ) → ill_called (one (parameter.Value a)) (Listed l) at ≡ None → Taken (a ∷ []) l
+  one-given a f c at i = given-values (a ∷ []) (omega arith) f c at i
+
+  pub are-four : {l w x y z : Phrase} → AreFine l → Clean known roots Arguments (Node More (Node More (Node More (Node More l w) x) y) z)
+      → AreFour (Listed (Node More (Node More (Node More (Node More l w) x) y) z))
+  are-four {l} {w} {x} {y} {z} f c =
+      let one' = Node More l w in
+      let two = Node More one' x in
+      let three = Node More two y in
+      let front = left-clean known roots Arguments More one' x (left-clean known roots Arguments More two y (left-clean known roots Arguments More three z c)) in
+      let are = are-listed f (left-clean known roots Arguments More l w front) in
+      let four = four-placed are.arguments (Seen w) (Seen x) (Seen y) (Seen z) in
+      let with_all : List (Option Argument) → List (Option Argument) = λ xs. with_argument (with_argument (with_argument (with_argument xs (Seen w)) (Seen x)) (Seen y)) (Seen z) in
+      (four.0, four.1, four.2, four.3, ap with_all are.listed ∙ four.4)
+
+  values-given : (kinds : List Kind) (t : List Slot) → takes_values kinds ≡ Some t → {l : Phrase} → AreFine l → Clean known roots Arguments l → (at : ℕ) → ill_called t (Listed l) at ≡ None
       → Taken kinds l
-  values-given kinds t e {l} g c at i = by-count kinds e
-    where
-      found : (x : Takes) → Some x ≡ Some t → ill_called x (Listed l) at ≡ None
-      found x e = subst (λ (y : Takes). ill_called y (Listed l) at ≡ None) (sym (same_Some x t e)) i
-
-      by-count : (kinds : List Kind) → takes_values kinds ≡ Some t → Taken kinds l
-      by-count [] e = zero-given g at (found takes.Nothing e)
-      by-count (a ∷ []) e = one-given a g c at (found (takes.One (parameter.Value a)) e)
-      by-count (a ∷ b ∷ []) e = two-given a b g c at (found (takes.Two (parameter.Value a) (parameter.Value b)) e)
-      by-count (a ∷ b ∷ d ∷ []) e = three-given a b d g c at (found (takes.Three (parameter.Value a) (parameter.Value b) (parameter.Value d)) e)
-      by-count (a ∷ b ∷ d ∷ f ∷ rest) e = absurd (none-some t e)
+  values-given kinds t e {l} g c at i = let v = values-are kinds t e in given-values kinds v.0 g c at (subst (λ (y : List Slot). ill_called y (Listed l) at ≡ None) (sym v.1) i)
 
   abbrev Agrees : Kind → Callee → Phrase → Type 0
   Agrees k c l = CallWorth scene k c (second_string l) (operands_of known scene l)
@@ -331,27 +276,27 @@ module _ (known : Known) (scene : Scene) (stands : Stands known scene) (roots : 
       let first = left-clean known roots Arguments More (Node More Nothing x) y front in
       let T : Option _ = Some (parameter.Value kind.String) in
       let P : Option _ = Some parameter.Pattern in
-      let m = or-none (mistyped T (Seen x)) (or_else (mistyped P (Seen y)) (mistyped T (Seen z))) i in
-      let n = or-none (mistyped P (Seen y)) (mistyped T (Seen z)) m.1 in
-      let o = or-none (unwritten T (Seen x)) (or_else (unwritten P (Seen y)) (unwritten T (Seen z))) u in
-      let w = or-none (unwritten P (Seen y)) (unwritten T (Seen z)) o.1 in
+      let m = or-none (mistyped T (Seen x)) (or_else (mistyped P (Seen y)) (or_else (mistyped T (Seen z)) None)) i in
+      let n = or-none (mistyped P (Seen y)) (or_else (mistyped T (Seen z)) None) m.1 in
+      let t = or-none (mistyped T (Seen z)) None n.1 in
+      let o = or-none (unwritten T (Seen x)) (or_else (unwritten P (Seen y)) (or_else (unwritten T (Seen z)) None)) u in
+      let w = or-none (unwritten P (Seen y)) (or_else (unwritten T (Seen z)) None) o.1 in
       let text = string-text known y (unless-none (is_string (view_of known Value y).literal) (view_of known Value y).first w.0) in
       let left = argument-given kind.String x m.0 (f (right-clean known roots Arguments More Nothing x first)) in
-      let right = argument-given kind.String z n.1 (h (right-clean known roots Arguments More two z c)) in
+      let right = argument-given kind.String z t.0 (h (right-clean known roots Arguments More two z c)) in
       let by : Phrase → Operand = λ p. value_of known scene p in
       let C : Option (List ℕ) → Type 0 = λ q. CallWorth scene kind.String (callee.Builtin (builtin.Substitute all)) q (operands_of known scene l) in
       subst C (sym (ap string_of text.2)) (substitute-worth scene all left.0 right.0 text.1 (by x) (by y) (by z) left.2 right.2)
-  substituted all (more {e = z} (more {e = y} (more {e = x} (more {l = l} {e = w} m d) f) g) h) c at i u =
-      let T : Takes = takes_of (builtin.Substitute all) in
-      let P : Seens → Type 0 = λ s. ill_called T s at ≡ None in
-      absurd (too-many T at (subst P (four-are-more (Listed l) (Seen w) (Seen x) (Seen y) (Seen z)) i))
+  substituted all (more (more (more (more m d) f) g) h) c at i u =
+      let P : List (Option Argument) → Type 0 = λ given. ill_called (takes_of (builtin.Substitute all)) given at ≡ None in
+      absurd (not-none at (subst P (are-four m c).4 i))
 
   directed : (k : ℕ) (d : Director) → slice_get scene.directors k ≡ Some d → (way : DirectorKind) {l : Phrase} → AreFine l → Clean known roots Arguments l → (at : ℕ)
       → ill_called (method_of way method.Backend).takes (Listed l) at ≡ None → Agrees kind.Backend (callee.Director k) l
-  directed k d e director.One {l} g c at i = director-worth scene k d e (second_string l) (operands_of known scene l) (zero-given g at i)
-  directed k d e director.RoundRobin {l} g c at i = director-worth scene k d e (second_string l) (operands_of known scene l) (zero-given g at i)
-  directed k d e director.Fallback {l} g c at i = director-worth scene k d e (second_string l) (operands_of known scene l) (zero-given g at i)
-  directed k d e director.Random {l} g c at i = director-worth scene k d e (second_string l) (operands_of known scene l) (zero-given g at i)
+  directed k d e director.One {l} g c at i = director-worth scene k d e (second_string l) (operands_of known scene l) (zero-given g c at i)
+  directed k d e director.RoundRobin {l} g c at i = director-worth scene k d e (second_string l) (operands_of known scene l) (zero-given g c at i)
+  directed k d e director.Fallback {l} g c at i = director-worth scene k d e (second_string l) (operands_of known scene l) (zero-given g c at i)
+  directed k d e director.Random {l} g c at i = director-worth scene k d e (second_string l) (operands_of known scene l) (zero-given g c at i)
   directed k d e director.Hash {l} g c at i = hash-worth scene k d e kind.String (second_string l) (operands_of known scene l) (one-given kind.String g c at i)
 
   -- What a call of a function does: something by the text of one value, or it gives a value.
@@ -369,7 +314,7 @@ module _ (known : Known) (scene : Scene) (stands : Stands known scene) (roots : 
   built builtin.Synthetic f name g c at e v i u = does (callee.Builtin builtin.Synthetic) e tt v (one-given kind.String g c at i)
   built builtin.Ban f name g c at e v i u = does (callee.Builtin builtin.Ban) e tt v (one-given kind.String g c at i)
 
-  given-function : (of : Kind) (o : Option Takes) (f : Function) → giving of o ≡ Some f → (t : Takes) × (o ≡ Some t) × (f.takes ≡ t) × (f.gives ≡ Some of)
+  given-function : (of : Kind) (o : Option (List Slot)) (f : Function) → giving of o ≡ Some f → (t : List Slot) × (o ≡ Some t) × (f.takes ≡ t) × (f.gives ≡ Some of)
   given-function of None f e = absurd (none-some f e)
   given-function of (Some t) f e =
       let same = same_Some _ f e in
@@ -381,13 +326,13 @@ module _ (known : Known) (scene : Scene) (stands : Stands known scene) (roots : 
       let x = given-function entry.signature.gives (takes_values entry.signature.takes) f is in
       let m = stands.meant k entry there in
       let found = ap (λ (xs : List Stored). slice_get xs k) stands.stored ∙ there in
-      let taken = values-given entry.signature.takes x.0 x.1 g c at (subst (λ (t : Takes). ill_called t (Listed l) at ≡ None) x.2 i) in
+      let taken = values-given entry.signature.takes x.0 x.1 g c at (subst (λ (t : List Slot). ill_called t (Listed l) at ≡ None) x.2 i) in
       yields entry.signature.gives (callee.Stored k) e tt x.3 (stored-worth scene k entry found m.1 m.0 (second_string l) (operands_of known scene l) taken)
 
   pub calls : (f : Function) (name : List ℕ) {l : Phrase} → Does known scene stands name f → AreFine l → Clean known roots Arguments l → (at : ℕ)
       → ill_called f.takes (Listed l) at ≡ None → leftmost_unwritten f.takes (Listed l) ≡ None → Call f name l
   calls f name {l} (names.of_language b e row) g c at i u =
-      built b f name g c at e row.gives (subst (λ (t : Takes). ill_called t (Listed l) at ≡ None) row.takes i) (subst (λ (t : Takes). leftmost_unwritten t (Listed l) ≡ None) row.takes u)
+      built b f name g c at e row.gives (subst (λ (t : List Slot). ill_called t (Listed l) at ≡ None) row.takes i) (subst (λ (t : List Slot). leftmost_unwritten t (Listed l) ≡ None) row.takes u)
   calls f name {l} (names.of_table k entry e there is) g c at i u = stored-call k entry f name g c at e there is i
   calls f name {l} (names.of_director k d way e there same) g c at i u =
       let I : Function → Type 0 = λ x. ill_called x.takes (Listed l) at ≡ None in
@@ -413,11 +358,11 @@ module _ (known : Known) (scene : Scene) (stands : Stands known scene) (roots : 
 
   -- a name that is read
   named-good : (s : Sort) (place : ℕ) (name : List ℕ) → ReadsAs known scene name s → Good s (Named place name)
-  named-good (sort.Value k) place name h = named-typed scene known k place name h
+  named-good (sort.Value (Some k)) place name h = named-typed scene known k place name h
+  named-good (sort.Value None) place name h = absurd h
   named-good sort.Acl place name h = tt
   named-good sort.Weight place name h = absurd h
   named-good sort.Nothing place name h = tt
-  named-good sort.Unknown place name h = absurd h
 
   reads : (place : ℕ) (name : List ℕ) → Clean known roots Value (Named place name) → ReadsAs known scene name (sort_of (meaning_of known use'.Read name))
   reads place name c =
@@ -432,10 +377,7 @@ module _ (known : Known) (scene : Scene) (stands : Stands known scene) (roots : 
   -- the right side of a match
   acl-named : (s : Sort) (name : List ℕ) → ReadsAs known scene name s → is_acl s ≡ true → AclNamed known scene name
   acl-named sort.Acl name r h = r
-  acl-named (sort.Value k) name r h = absurd (false-true h)
-  acl-named sort.Weight name r h = absurd (false-true h)
-  acl-named sort.Nothing name r h = absurd (false-true h)
-  acl-named sort.Unknown name r h = absurd (false-true h)
+  acl-named _ name r h = absurd (false-true h)
 
   acl-sought : (e : Phrase) → is_acl (SortOf e) ≡ true → Clean known roots Value e → Sought scene known kind.Ip e
   acl-sought (Named place name) h c = typed.acl_named place name refl (acl-named (sort_of (meaning_of known use'.Read name)) name (reads place name c) h)
@@ -445,16 +387,13 @@ module _ (known : Known) (scene : Scene) (stands : Stands known scene) (roots : 
   acl-sought (Duration place n) h c = absurd (false-true h)
   acl-sought Nothing h c = absurd (false-true h)
   acl-sought (At place) h c = absurd (false-true h)
-  acl-sought (Node Added a b) h c = absurd (sum-no-acl (SortOf a) (SortOf b) h)
-  acl-sought (Node Subtracted a b) h c = absurd (difference-no-acl (SortOf a) (SortOf b) h)
-  acl-sought (Node Group a b) h c = absurd (group-no-acl (SortOf b) h)
   acl-sought (Node Called a b) h c = absurd (call-no-acl (view_of known (Name use'.Function) a).meaning h)
   acl-sought (Node _ a b) h c = absurd (false-true h)
 
   string-sought : (k : Kind) (e : Phrase) → is_string (view_of known Value e).literal ≡ true → Sought scene known k e
   string-sought k e w = let t = string-text known e w in subst (λ (x : Phrase). Sought scene known k x) (sym t.2) (typed.pattern_of t.0 t.1)
 
-  right-sought : (k : Kind) (e : Phrase) → (not (is_ip (sort.Value k)) || is_acl (SortOf e)) ≡ true → (not (is_searched (sort.Value k)) || is_string (view_of known Value e).literal) ≡ true
+  right-sought : (k : Kind) (e : Phrase) → (not (is_ip (sort.Value (Some k))) || is_acl (SortOf e)) ≡ true → (not (is_searched (sort.Value (Some k))) || is_string (view_of known Value e).literal) ≡ true
       → Clean known roots Value e → Sought scene known k e
   right-sought kind.Ip e a w c = acl-sought e a c
   right-sought kind.String e a w c = string-sought kind.String e w
@@ -477,15 +416,15 @@ module _ (known : Known) (scene : Scene) (stands : Stands known scene) (roots : 
   SameKinds k l = same_kind k l ≡ true
 
   abbrev Ordered : Kind → Kind → Type 0
-  Ordered k l = (is_ordered (sort.Value k) ≡ true) × (same_kind k l ≡ true)
+  Ordered k l = (is_ordered (sort.Value (Some k)) ≡ true) × (same_kind k l ≡ true)
 
   two-alike : (d e : Phrase) → is_value (SortOf d) ≡ true → alike (SortOf d) (SortOf e) ≡ true → Good (SortOf d) d → Good (SortOf e) e
-      → (k : Kind) × (l : Kind) × (SortOf d ≡ sort.Value k) × (SortOf e ≡ sort.Value l) × SameKinds k l × Typed scene known k d × Typed scene known l e
+      → (k : Kind) × (l : Kind) × (SortOf d ≡ sort.Value (Some k)) × (SortOf e ≡ sort.Value (Some l)) × SameKinds k l × Typed scene known k d × Typed scene known l e
   two-alike d e v a f g =
       let x = valued (SortOf d) d v f in
-      let b : alike (sort.Value x.0) (SortOf e) ≡ true = subst (λ (s : Sort). alike s (SortOf e) ≡ true) x.1 a in
+      let b : alike (sort.Value (Some x.0)) (SortOf e) ≡ true = subst (λ (s : Sort). alike s (SortOf e) ≡ true) x.1 a in
       let y = valued (SortOf e) e (alike-value x.0 (SortOf e) b) g in
-      (x.0, y.0, x.1, y.1, subst (λ (s : Sort). alike (sort.Value x.0) s ≡ true) y.1 b, x.2, y.2)
+      (x.0, y.0, x.1, y.1, subst (λ (s : Sort). alike (sort.Value (Some x.0)) s ≡ true) y.1 b, x.2, y.2)
 
   equals : (d e : Phrase) → both_fit (is_value (SortOf d)) (alike (SortOf d) (SortOf e)) (view_of known Value d) (view_of known Value e) ≡ None → Good (SortOf d) d → Good (SortOf e) e
       → Two SameKinds d e
@@ -551,7 +490,7 @@ module _ (known : Known) (scene : Scene) (stands : Stands known scene) (roots : 
   compared-fine {d} {e} how f g c = compared-good how d e c (f (left-clean known roots Value (Compared how) d e c)) (g (right-clean known roots Value (Compared how) d e c))
 
   -- sums and differences
-  sum-good : (k l : Kind) (e : Phrase) → adds k l ≡ true → ((m : Kind) → sum_kind k l ≡ sort.Value m → Typed scene known m e) → Good (sum_kind k l) e
+  sum-good : (k l : Kind) (e : Phrase) → adds k l ≡ true → ((m : Kind) → sum_kind k l ≡ Some m → Typed scene known m e) → Good (sort.Value (sum_kind k l)) e
   sum-good kind.String l e h g = g kind.String refl
   sum-good kind.Int kind.String e h g = g kind.String refl
   sum-good kind.Int kind.Int e h g = g kind.Int refl
@@ -570,15 +509,15 @@ module _ (known : Known) (scene : Scene) (stands : Stands known scene) (roots : 
   added-fine {d} {e} f g c =
       let x = both-fits (is_value (SortOf d)) (may_add (SortOf d) (SortOf e)) (view_of known Value d) (view_of known Value e) (fits known roots Value Added d e c) in
       let v = valued (SortOf d) d x.0 (f (left-clean known roots Value Added d e c)) in
-      let a : may_add (sort.Value v.0) (SortOf e) ≡ true = subst (λ (s : Sort). may_add s (SortOf e) ≡ true) v.1 x.1 in
+      let a : may_add (sort.Value (Some v.0)) (SortOf e) ≡ true = subst (λ (s : Sort). may_add s (SortOf e) ≡ true) v.1 x.1 in
       let w = valued (SortOf e) e (add-value v.0 (SortOf e) a) (g (right-clean known roots Value Added d e c)) in
-      let b : adds v.0 w.0 ≡ true = subst (λ (s : Sort). may_add (sort.Value v.0) s ≡ true) w.1 a in
+      let b : adds v.0 w.0 ≡ true = subst (λ (s : Sort). may_add (sort.Value (Some v.0)) s ≡ true) w.1 a in
       let G : Sort → Sort → Type 0 = λ s t. Good (sum_sort s t) (Node Added d e) in
-      subst (λ (s : Sort). G s (SortOf e)) (sym v.1) (subst (λ (t : Sort). G (sort.Value v.0) t) (sym w.1)
+      subst (λ (s : Sort). G s (SortOf e)) (sym v.1) (subst (λ (t : Sort). G (sort.Value (Some v.0)) t) (sym w.1)
       (sum-good v.0 w.0 (Node Added d e) b (λ m z. sum-typed scene known v.0 w.0 m d e b z v.2 w.2)))
 
-  difference-good : (k l : Kind) (e : Phrase) → is_ordered (sort.Value k) ≡ true → same_kind k l ≡ true
-      → ((m : Kind) → difference_kind k l ≡ sort.Value m → Typed scene known m e) → Good (difference_kind k l) e
+  difference-good : (k l : Kind) (e : Phrase) → is_ordered (sort.Value (Some k)) ≡ true → same_kind k l ≡ true
+      → ((m : Kind) → difference_kind k l ≡ Some m → Typed scene known m e) → Good (sort.Value (difference_kind k l)) e
   difference-good kind.Int kind.Int e o h g = g kind.Int refl
   difference-good kind.Int _ e o h g = absurd (false-true h)
   difference-good kind.Duration kind.Duration e o h g = g kind.Duration refl
@@ -594,7 +533,7 @@ module _ (known : Known) (scene : Scene) (stands : Stands known scene) (roots : 
       let t = two-alike d e (ordered-value (SortOf d) x.0) x.1 (f (left-clean known roots Value Subtracted d e c)) (g (right-clean known roots Value Subtracted d e c)) in
       let o = subst (λ (s : Sort). is_ordered s ≡ true) t.2 x.0 in
       let G : Sort → Sort → Type 0 = λ s u. Good (difference_sort s u) (Node Subtracted d e) in
-      subst (λ (s : Sort). G s (SortOf e)) (sym t.2) (subst (λ (u : Sort). G (sort.Value t.0) u) (sym t.3)
+      subst (λ (s : Sort). G s (SortOf e)) (sym t.2) (subst (λ (u : Sort). G (sort.Value (Some t.0)) u) (sym t.3)
       (difference-good t.0 t.1 (Node Subtracted d e) o t.4 (λ m z. difference-typed scene known t.0 t.1 m d e o t.4 z t.5 t.6)))
 
   group-fine : (place : ℕ) {e : Phrase} → Fine e → Fine (Node Group (At place) e)

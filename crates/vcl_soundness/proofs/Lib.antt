@@ -8,6 +8,7 @@ pub mod Made
 pub mod Names
 pub mod NoFault
 pub mod Placed
+pub mod Places
 pub mod Reached
 pub mod Rows
 pub mod Said
@@ -15,9 +16,7 @@ pub mod Sets
 pub mod Standard
 pub mod Statements
 pub mod Tables
-pub mod TooMany
 pub mod Typed
 pub mod Values
-pub mod Weights
 pub mod Whole
 pub mod Words

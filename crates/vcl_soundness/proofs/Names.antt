@@ -61,7 +61,7 @@ abbrev pub ReadIs : Scene → Kind → Read → Type 0
 ReadIs scene k found = Makes (IsOf k) (named_value scene found)
 
 abbrev pub ReadsAs : Known → Scene → List ℕ → Sort → Type 0
-ReadsAs known scene name (sort.Value k) = ReadIs scene k (read_of known name)
+ReadsAs known scene name (sort.Value (Some k)) = ReadIs scene k (read_of known name)
 ReadsAs known scene name sort.Acl = AclNamed known scene name
 ReadsAs known scene name sort.Nothing = Unit {0}
 ReadsAs known scene name _ = ⊥
@@ -245,7 +245,7 @@ module _ (known : Known) (scene : Scene) (stands : Stands known scene) where
   function-does name h = let c = function-calls known stands.made name h in (c.0, c.1, by-call c.0 c.1 c.2)
     where
       by-call : (f : Function) → meaning_of known use'.Function name ≡ meaning.Function f → Calls known name f → Does name f
-      by-call f m (names.of_language b e row known-one) = of_language b e row
-      by-call f m (names.of_table k e w) = let t = of-table name k f m e in of_table k t.0 e t.1 t.2
+      by-call f m (names.of_language b e row) = of_language b e row
+      by-call f m (names.of_table k e) = let t = of-table name k f m e in of_table k t.0 e t.1 t.2
       by-call f m (names.of_director k kind e same) = let d = director-there name k e in of_director k d.0 kind e d.1 same
       by-call f m (names.to_director kind same) = to_director kind same

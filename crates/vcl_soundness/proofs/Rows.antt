@@ -6,13 +6,13 @@ use Rattle.std.proofs.lemmas.List.Quantifiers.{position-Some}
 use Rattle.std.proofs.lemmas.Option.{none-some, same_Some}
 use Rattle.vcl_values.specs.declared.value.Kind.{Kind}
 use Rattle.vcl_values.specs.declared.value.Kind.TheVariants as kind
-use Rattle.vcl_language.specs.Functions.{function_named}
+use Rattle.vcl_language.specs.Functions.{function_named, one}
 use Rattle.vcl_language.specs.Scopes.{has}
 use Rattle.vcl_language.specs.Variables.{is_field_of, plain_named, field_named, or_else, variable_named}
 use Rattle.vcl_language.specs.declared.functions.Function.{Function}
 use Rattle.vcl_language.specs.declared.functions.Parameter.TheVariants.{Value, Pattern}
-use Rattle.vcl_language.specs.declared.functions.Takes.{Takes}
-use Rattle.vcl_language.specs.declared.functions.Takes.TheVariants as takes
+use Rattle.vcl_language.specs.declared.functions.Slot.{Slot}
+use Rattle.vcl_language.specs.declared.functions.Slot.TheVariants.{Needed}
 use Rattle.vcl_language.specs.declared.functions.TheConstants.{FUNCTIONS}
 use Rattle.vcl_language.specs.declared.scope.Scope.{Scope}
 use Rattle.vcl_language.specs.declared.scope.Scope.TheVariants as scope
@@ -181,12 +181,12 @@ field-unset name v s e h = either-row name (plain_named name) (field_named name)
     either-row name None f p-is f-is e = let x = field-row name v (f-is ∙ e) in of-field (variable_of name) (field_of name) x.0 (no-plain-row name p-is) x.1
 
 -- what a function of the language takes and gives
-abbrev pub text_pattern_text : Takes
-text_pattern_text = takes.Three (Value kind.String) Pattern (Value kind.String)
+abbrev pub text_pattern_text : List Slot
+text_pattern_text = Needed (Value kind.String) ∷ Needed Pattern ∷ Needed (Value kind.String) ∷ []
 
-abbrev pub takes_of : Builtin → Takes
+abbrev pub takes_of : Builtin → List Slot
 takes_of (builtin.Substitute all) = text_pattern_text
-takes_of _ = takes.One (Value kind.String)
+takes_of _ = one (Value kind.String)
 
 abbrev pub gives_of : Builtin → Option Kind
 gives_of (builtin.Substitute all) = Some kind.String

@@ -19,8 +19,8 @@ use Rattle.vcl_language.specs.Variables.{variable_named}
 use Rattle.vcl_language.specs.Words.{word_named}
 use Rattle.vcl_language.specs.declared.functions.Function.{Function}
 use Rattle.vcl_language.specs.declared.functions.Parameter.TheVariants as parameter
-use Rattle.vcl_language.specs.declared.functions.Takes.{Takes}
-use Rattle.vcl_language.specs.declared.functions.Takes.TheVariants as takes
+use Rattle.vcl_language.specs.Functions.{one}
+use Rattle.vcl_language.specs.declared.functions.Slot.{Slot}
 use Rattle.vcl_language.specs.declared.scope.Scope.TheVariants as scope
 use Rattle.vcl_language.specs.declared.scope.Subroutine.{Subroutine}
 use Rattle.vcl_language.specs.declared.variables.Variable.{Variable as Row}
@@ -30,13 +30,12 @@ use Rattle.vcl_check.specs.declared.form.Form.TheVariants as form
 use Rattle.vcl_check.specs.declared.form.Use.{Use}
 use Rattle.vcl_check.specs.declared.form.Use.TheVariants as use'
 use Rattle.vcl_check.specs.declared.seen.Argument.{Argument}
-use Rattle.vcl_check.specs.declared.seen.Arguments.{Arguments as Seens}
-use Rattle.vcl_check.specs.declared.seen.Arguments.TheVariants as seens
+use Rattle.vcl_check.specs.declared.seen.TheConstants.{NO_ARGUMENTS}
 use Rattle.vcl_check.specs.declared.seen.Meaning.{Meaning}
 use Rattle.vcl_check.specs.declared.seen.Seen.{Seen}
 use Rattle.vcl_check.specs.declared.seen.Sort.{Sort}
 use Rattle.vcl_check.specs.declared.seen.Sort.TheVariants as sort
-use Rattle.vcl_check.specs.Calls.{mistyped, ill_called}
+use Rattle.vcl_check.specs.Calls.{mistyped, or_else, ill_called}
 use Rattle.vcl_check.specs.Kinds.{is_value, is_condition, same_kind, alike, accepts, is_text}
 use Rattle.vcl_check.specs.Known.{meaning_of, of_variable, of_word}
 use Rattle.vcl_check.specs.Roles.{Name, Value, Arguments, Block, Statement, Branch, Assignment, Object, Answer, Unread}
@@ -62,13 +61,13 @@ use Rattle.vcl_soundness.proofs.Rows.{false-true, both-true, IsField, field-unse
 use Rattle.vcl_soundness.proofs.Calls.{known-variable, known-subroutine}
 use Rattle.vcl_soundness.proofs.NoFault.{unless-none, or-none}
 use Rattle.vcl_soundness.proofs.Clean.{Clean, left-clean, right-clean, fits, placed, written, known-name, used-name}
-use Rattle.vcl_soundness.proofs.TooMany.{not-none, four-are-more, too-many}
+use Rattle.vcl_soundness.proofs.Places.{not-none}
 use Rattle.vcl_soundness.proofs.Holds.{Holds, IsOf, Done, Goes, bind-holds, then-goes, set-goes as context-goes, due-goes}
 use Rattle.vcl_soundness.proofs.Values.{truth-has}
 use Rattle.vcl_soundness.proofs.Tables.{TargetOf, target-is, is-set, is-set-too}
 use Rattle.vcl_soundness.proofs.Names.{Stands, function-does}
 use Rattle.vcl_soundness.proofs.Typed.{AllGiven, CallWorth, Typed}
-use Rattle.vcl_soundness.proofs.Expressions.{all-contained, Performs, Gives, Fine, AreFine, none, more, valued, conditional, accepted, Call, does, yields, enrols, calls, expression-fine, arguments-fine}
+use Rattle.vcl_soundness.proofs.Expressions.{all-contained, Performs, Gives, Fine, AreFine, none, more, are-four, valued, conditional, accepted, Call, does, yields, enrols, calls, expression-fine, arguments-fine}
 use Rattle.vcl_soundness.proofs.Changes.{variable-set, variable-appended, field-set, field-appended}
 use Rattle.vcl_soundness.proofs.Words.{takes_of, is_untimed, IsWord, word-found, TakesOne, TakesTwo, StandsAlone, returned-alone, returned-one, returned-two}
 
@@ -211,12 +210,12 @@ module _ (t : Text) (stands : (c : Context) → Stands t.known (scene_in t c)) (
 
   -- what is set and added to
   abbrev SetsTo : Row → Kind → Type 0
-  SetsTo v k = accepts v.kind (sort.Value k) ≡ true
+  SetsTo v k = accepts v.kind (sort.Value (Some k)) ≡ true
 
   set-target : (v : Row) (w : Target) (e : Phrase) → TargetOf v w → has v.set root ≡ true → ((c : Context) → (k : Kind) × SetsTo v k × TypedIn c k e) → Goes (set_target t w e)
   set-target v (Plain w) e is h typed s =
       with-goes (SetsTo v) e (λ x z. set_due (set_to w x z.context) z) typed
-      (λ k a x p z. due-goes (set_to w x z.context) (variable-set w (is-set v w root is h) k (subst (λ (l : Kind). accepts l (sort.Value k) ≡ true) (sym is.kind) a) x p z.context) z) s
+      (λ k a x p z. due-goes (set_to w x z.context) (variable-set w (is-set v w root is h) k (subst (λ (l : Kind). accepts l (sort.Value (Some k)) ≡ true) (sym is.kind) a) x p z.context) z) s
   set-target v (Field message name) e is h typed s =
       with-goes (SetsTo v) e (λ x z. set_due (field_to message name x z.context) z) typed (λ k a x p z. due-goes (field_to message name x z.context) (field-set message name x z.context) z) s
   set-target v NoTarget e is h typed s = absurd is
@@ -295,15 +294,15 @@ module _ (t : Text) (stands : (c : Context) → Stands t.known (scene_in t c)) (
   new-nowhere p b c = false-true (sym traffic ∙ stands-there form.New (view_of t.known Unread (At p)) (view_of t.known Object b) (placed t.known roots Statement New (At p) b c))
 
   -- words of return, by how many arguments they are used with
-  ill-answer : (o : Option Word) (w : Word) (r : ReturnWord) (given : Seens) (place : ℕ) → o ≡ Some w → IsWord w r → ill_answer roots (of_word o) given place ≡ None
-      → ill_called (if is_one given && not (is_untimed r) then takes.One (parameter.Value kind.Duration) else takes_of r) given place ≡ None
+  ill-answer : (o : Option Word) (w : Word) (r : ReturnWord) (given : List (Option Argument)) (place : ℕ) → o ≡ Some w → IsWord w r → ill_answer roots (of_word o) given place ≡ None
+      → ill_called (if is_one given && not (is_untimed r) then one (parameter.Value kind.Duration) else takes_of r) given place ≡ None
   ill-answer o w r given place e is h =
       let M : Option Word → Type 0 = λ x. ill_answer roots (of_word x) given place ≡ None in
       let i = not-other (list_any (λ x. has (other_scope w given) x) roots) place (ill_called (answer_takes w given) given place) (subst M e h) in
-      let T : Bool → Takes → Type 0 = λ b x. ill_called (if is_one given && not b then takes.One (parameter.Value kind.Duration) else x) given place ≡ None in
-      subst (λ (b : Bool). T b (takes_of r)) is.timed (subst (λ (x : Takes). T (is_nowhere w.timed) x) is.takes i)
+      let T : Bool → List Slot → Type 0 = λ b x. ill_called (if is_one given && not b then one (parameter.Value kind.Duration) else x) given place ≡ None in
+      subst (λ (b : Bool). T b (takes_of r)) is.timed (subst (λ (x : List Slot). T (is_nowhere w.timed) x) is.takes i)
 
-  stands-alone : (r : ReturnWord) (place : ℕ) → ill_called (takes_of r) seens.Zero place ≡ None → StandsAlone r
+  stands-alone : (r : ReturnWord) (place : ℕ) → ill_called (takes_of r) NO_ARGUMENTS place ≡ None → StandsAlone r
   stands-alone word.Synth place i = absurd (not-none place i)
   stands-alone _ place i = tt
 
@@ -314,42 +313,48 @@ module _ (t : Text) (stands : (c : Context) → Stands t.known (scene_in t c)) (
   abbrev Wanted : Kind → Phrase → Type 0
   Wanted k e = mistyped (Some (parameter.Value k)) (SeenOf e) ≡ None
 
-  exactly : (k : Kind) (e : Phrase) → ((s : Sort) → accepts k s ≡ alike (sort.Value k) s) → Wanted k e → (c : Context) → FineIn c e → Clean t.known roots Value e → TypedIn c k e
+  exactly : (k : Kind) (e : Phrase) → ((s : Sort) → accepts k s ≡ alike (sort.Value (Some k)) s) → Wanted k e → (c : Context) → FineIn c e → Clean t.known roots Value e → TypedIn c k e
   exactly k e strict m c f clean =
       let a = unless-none (accepts k (SortOf e)) (view_of t.known Value e).first m in
       let x = accepted t.known (scene_in t c) (stands c) roots root reached k (SortOf e) e a (f clean) in
-      let same : x.0 ≡ k = same-kind k x.0 (sym (strict (sort.Value x.0)) ∙ x.1) in
+      let same : x.0 ≡ k = same-kind k x.0 (sym (strict (sort.Value (Some x.0))) ∙ x.1) in
       subst (λ (l : Kind). TypedIn c l e) same x.2
 
-  one-wanted : (r : ReturnWord) (x : Argument) (place : ℕ) → ill_called (if not (is_untimed r) then takes.One (parameter.Value kind.Duration) else takes_of r) (seens.One x) place ≡ None
-      → (k : Kind) × ((s : Sort) → accepts k s ≡ alike (sort.Value k) s) × (mistyped (Some (parameter.Value k)) x ≡ None) × TakesOne r k
-  one-wanted word.Synth x place i = (kind.Int, λ s. refl, i, refl)
-  one-wanted word.Error x place i = (kind.Int, λ s. refl, i, refl)
-  one-wanted word.Pass x place i = (kind.Duration, λ s. refl, i, refl)
+  one-wanted : (r : ReturnWord) (x : Argument) (place : ℕ) → ill_called (if not (is_untimed r) then one (parameter.Value kind.Duration) else takes_of r) (Some x ∷ None ∷ None ∷ None ∷ []) place ≡ None
+      → (k : Kind) × ((s : Sort) → accepts k s ≡ alike (sort.Value (Some k)) s) × (mistyped (Some (parameter.Value k)) x ≡ None) × TakesOne r k
+  one-wanted word.Synth x place i = (kind.Int, λ s. refl, (or-none (mistyped (Some (parameter.Value kind.Int)) x) None i).0, refl)
+  one-wanted word.Error x place i = (kind.Int, λ s. refl, (or-none (mistyped (Some (parameter.Value kind.Int)) x) None i).0, refl)
+  one-wanted word.Pass x place i = (kind.Duration, λ s. refl, (or-none (mistyped (Some (parameter.Value kind.Duration)) x) None i).0, refl)
   one-wanted _ x place i = absurd (not-none place i)
 
-  two-wanted : (r : ReturnWord) (x y : Argument) (place : ℕ) → ill_called (takes_of r) (seens.Two x y) place ≡ None
+  both-wanted : (x y : Argument) → or_else (mistyped (Some (parameter.Value kind.Int)) x) (or_else (mistyped (Some (parameter.Value kind.String)) y) None) ≡ None
+      → (mistyped (Some (parameter.Value kind.Int)) x ≡ None) × (mistyped (Some (parameter.Value kind.String)) y ≡ None) × (kind.Int ≡ kind.Int)
+  both-wanted x y i =
+      let m = or-none (mistyped (Some (parameter.Value kind.Int)) x) (or_else (mistyped (Some (parameter.Value kind.String)) y) None) i in
+      (m.0, (or-none (mistyped (Some (parameter.Value kind.String)) y) None m.1).0, refl)
+
+  two-wanted : (r : ReturnWord) (x y : Argument) (place : ℕ) → ill_called (takes_of r) (Some x ∷ Some y ∷ None ∷ None ∷ []) place ≡ None
       → (mistyped (Some (parameter.Value kind.Int)) x ≡ None) × (mistyped (Some (parameter.Value kind.String)) y ≡ None) × TakesTwo r kind.Int
-  two-wanted word.Synth x y place i = let m = or-none (mistyped (Some (parameter.Value kind.Int)) x) (mistyped (Some (parameter.Value kind.String)) y) i in (m.0, m.1, refl)
-  two-wanted word.Error x y place i = let m = or-none (mistyped (Some (parameter.Value kind.Int)) x) (mistyped (Some (parameter.Value kind.String)) y) i in (m.0, m.1, refl)
+  two-wanted word.Synth x y place i = both-wanted x y i
+  two-wanted word.Error x y place i = both-wanted x y i
   two-wanted _ x y place i = absurd (not-none place i)
 
-  three-wanted : (r : ReturnWord) (x y z : Argument) (place : ℕ) → ill_called (takes_of r) (seens.Three x y z) place ≡ None → ⊥
-  three-wanted word.Synth x y z place i = not-none place i
-  three-wanted word.Error x y z place i = not-none place i
-  three-wanted _ x y z place i = not-none place i
+  three-wanted : (r : ReturnWord) (x y z : Argument) (last : Option Argument) (place : ℕ) → ill_called (takes_of r) (Some x ∷ Some y ∷ Some z ∷ last ∷ []) place ≡ None → ⊥
+  three-wanted word.Synth x y z last place i = not-none place i
+  three-wanted word.Error x y z last place i = not-none place i
+  three-wanted _ x y z last place i = not-none place i
 
   abbrev AreFines : Phrase → Type 0
   AreFines l = (c : Context) → AreFine t.known (scene_in t c) (stands c) roots root reached l
 
-  abbrev ListedOf : Phrase → Seens
+  abbrev ListedOf : Phrase → List (Option Argument)
   ListedOf l = (view_of t.known Arguments l).arguments
 
   abbrev ReturnedGoes : ReturnWord → Phrase → State → Type 0
   ReturnedGoes r l s = Holds Done (returned (Some r) (operands_of t.known (scene_in t s.context) l) s)
 
   with-arguments : (r : ReturnWord) (place : ℕ) (s : State) {l : Phrase} → AreFine t.known (scene_in t s.context) (stands s.context) roots root reached l → Clean t.known roots Arguments l
-      → ill_called (if is_one (ListedOf l) && not (is_untimed r) then takes.One (parameter.Value kind.Duration) else takes_of r) (ListedOf l) place ≡ None → ReturnedGoes r l s
+      → ill_called (if is_one (ListedOf l) && not (is_untimed r) then one (parameter.Value kind.Duration) else takes_of r) (ListedOf l) place ≡ None → ReturnedGoes r l s
   unfolding operands_of
   with-arguments r place s none c i = returned-alone r (stands-alone r place i) s
   with-arguments r place s (more {e = x} none f) c i =
@@ -364,10 +369,11 @@ module _ (t : Text) (stands : (c : Context) → Stands t.known (scene_in t c)) (
       (g (right-clean t.known roots Arguments More (Node More Nothing x) y c)) in
       let by : Phrase → Operand = λ p. value_of t.known (scene_in t s.context) p in
       returned-two r kind.Int b.0 (by x) (by y) m.2 a b.2 s
-  with-arguments r place s (more {e = z} (more {e = y} (more {e = x} none f) g) h) c i = absurd (three-wanted r (SeenOf x) (SeenOf y) (SeenOf z) place i)
-  with-arguments r place s (more {e = z} (more {e = y} (more {e = x} (more {l = l} {e = w} m d) f) g) h) c i =
-      let P : Seens → Type 0 = λ q. ill_called (if is_one q && not (is_untimed r) then takes.One (parameter.Value kind.Duration) else takes_of r) q place ≡ None in
-      absurd (too-many (takes_of r) place (subst P (four-are-more (ListedOf l) (SeenOf w) (SeenOf x) (SeenOf y) (SeenOf z)) i))
+  with-arguments r place s (more {e = z} (more {e = y} (more {e = x} none f) g) h) c i = absurd (three-wanted r (SeenOf x) (SeenOf y) (SeenOf z) None place i)
+  with-arguments r place s (more (more (more (more m d) f) g) h) c i =
+      let four = are-four t.known (scene_in t s.context) (stands s.context) roots root reached m c in
+      let P : List (Option Argument) → Type 0 = λ q. ill_called (if is_one q && not (is_untimed r) then one (parameter.Value kind.Duration) else takes_of r) q place ≡ None in
+      absurd (three-wanted r four.0 four.1 four.2 (Some four.3) place (subst P four.4 i))
 
   word-of : (o p : Option ReturnWord) (r : ReturnWord) → o ≡ Some r → (s : State) (xs : List Operand) → p ≡ o → Holds Done (returned (Some r) xs s) → Holds Done (returned p xs s)
   word-of o p r e s xs f h = subst (λ (q : Option ReturnWord). Holds Done (returned q xs s)) (sym (f ∙ e)) h
@@ -378,7 +384,7 @@ module _ (t : Text) (stands : (c : Context) → Stands t.known (scene_in t c)) (
       let name-clean = right-clean t.known roots Statement Answers (At p) (Named q name) c in
       let w = known-one (word_named name) (known-name t.known roots Answer use'.Word q name refl name-clean) in
       let r = word-found name w.0 w.1 in
-      let i = ill-answer (word_named name) w.0 r.0 seens.Zero q w.1 r.2 (fits t.known roots Statement Answers (At p) (Named q name) c) in
+      let i = ill-answer (word_named name) w.0 r.0 NO_ARGUMENTS q w.1 r.2 (fits t.known roots Statement Answers (At p) (Named q name) c) in
       word-of (word_of name) (word_of name) r.0 r.1 s [] refl (returned-alone r.0 (stands-alone r.0 q i) s)
 
   answer-goes : (p q : ℕ) (name : List ℕ) {l : Phrase} → AreFines l → Clean t.known roots Statement (Node Answers (At p) (Node Called (Named q name) l))
@@ -441,7 +447,7 @@ module _ (t : Text) (stands : (c : Context) → Stands t.known (scene_in t c)) (
   branch-fine {e} {b} f g c calls f' h s =
       let view = view_of t.known Value e in
       let fit = unless-none (is_condition view.sort) view.first (fits t.known roots Branch phrase.Branch e b c) in
-      let Q : Kind → Type 0 = λ k. is_condition (sort.Value k) ≡ true in
+      let Q : Kind → Type 0 = λ k. is_condition (sort.Value (Some k)) ≡ true in
       let block = g (right-clean t.known roots Branch phrase.Branch e b c) calls in
       with-goes Q e (λ v. either_by (truth_of v) (block_of t calls' b) f')
       (λ x. conditional t.known (scene_in t x) (stands x) roots root reached view.sort e fit (f x (left-clean t.known roots Branch phrase.Branch e b c)))

@@ -40,7 +40,7 @@ Worth k x = (s : List Answer) → Holds (IsOf k) (x s)
 
 -- operands, each of which is taken where a value of a type is wanted
 abbrev pub Given : Kind → Operand → Type 0
-Given wanted x = (k : Kind) × (accepts wanted (sort.Value k) ≡ true) × Worth k x
+Given wanted x = (k : Kind) × (accepts wanted (sort.Value (Some k)) ≡ true) × Worth k x
 
 abbrev pub AllGiven : List Kind → List Operand → Type 0
 AllGiven [] [] = Unit {0}
@@ -56,7 +56,7 @@ given-count (k ∷ ks) [] h = absurd h
 -- values that are taken
 abbrev AllTaken : List Kind → List Value → Type 0
 AllTaken [] [] = Unit {0}
-AllTaken (k ∷ ks) (v ∷ vs) = (accepts k (sort.Value (kind_of v)) ≡ true) × AllTaken ks vs
+AllTaken (k ∷ ks) (v ∷ vs) = (accepts k (sort.Value (Some (kind_of v))) ≡ true) × AllTaken ks vs
 AllTaken _ _ = ⊥
 
 abbrev AreOf : List Kind → List Value → Type 0
@@ -69,7 +69,7 @@ values-hold (k ∷ ks) (x ∷ xs) h s =
     bind-holds (IsOf l) (AllTaken (k ∷ ks)) (x s) (λ v s. and_then (values_of xs s) (λ vs. On (v ∷ vs))) (h.0.2 s)
     (λ v p s.
     bind-holds (AllTaken ks) (AllTaken (k ∷ ks)) (values_of xs s) (λ vs. On (v ∷ vs)) (values-hold ks xs h.1 s)
-    (λ vs q s. (subst (λ (z : Kind). accepts k (sort.Value z) ≡ true) (sym p) h.0.1, q)))
+    (λ vs q s. (subst (λ (z : Kind). accepts k (sort.Value (Some z)) ≡ true) (sym p) h.0.1, q)))
 values-hold [] (x ∷ xs) h s = absurd h
 values-hold (k ∷ ks) [] h s = absurd h
 
@@ -197,17 +197,17 @@ module _ (scene : Scene) where
     unfolding value_of
     group-typed k d e h s = h s
 
-    pub either-typed : (k l : Kind) (d e : Phrase) → is_condition (sort.Value k) ≡ true → is_condition (sort.Value l) ≡ true → Typed k d → Typed l e → Typed kind.Bool (Node Either d e)
+    pub either-typed : (k l : Kind) (d e : Phrase) → is_condition (sort.Value (Some k)) ≡ true → is_condition (sort.Value (Some l)) ≡ true → Typed k d → Typed l e → Typed kind.Bool (Node Either d e)
     unfolding value_of
     either-typed k l d e c b f g s =
         bind-holds (IsOf k) (IsOf kind.Bool) (value_of known scene d s) (decides true (value_of known scene e)) (f s) (decides-holds true k l c b (value_of known scene e) g)
 
-    pub both-typed : (k l : Kind) (d e : Phrase) → is_condition (sort.Value k) ≡ true → is_condition (sort.Value l) ≡ true → Typed k d → Typed l e → Typed kind.Bool (Node Both d e)
+    pub both-typed : (k l : Kind) (d e : Phrase) → is_condition (sort.Value (Some k)) ≡ true → is_condition (sort.Value (Some l)) ≡ true → Typed k d → Typed l e → Typed kind.Bool (Node Both d e)
     unfolding value_of
     both-typed k l d e c b f g s =
         bind-holds (IsOf k) (IsOf kind.Bool) (value_of known scene d s) (decides false (value_of known scene e)) (f s) (decides-holds false k l c b (value_of known scene e) g)
 
-    pub not-typed : (k : Kind) (d e : Phrase) → is_condition (sort.Value k) ≡ true → Typed k e → Typed kind.Bool (Node Not d e)
+    pub not-typed : (k : Kind) (d e : Phrase) → is_condition (sort.Value (Some k)) ≡ true → Typed k e → Typed kind.Bool (Node Not d e)
     unfolding value_of
     not-typed k d e c f s =
         bind-holds (IsOf k) (IsOf kind.Bool) (value_of known scene e s) (λ v. made_on (opposite v)) (f s) (λ v p s. made-holds (IsOf kind.Bool) (opposite v) (opposite-some k v p c) s)
@@ -245,18 +245,18 @@ module _ (scene : Scene) where
     unfolding value_of
     greater-or-equal-typed k l d e c f g s = ordered-typed compare.GreaterOrEqual k l d e c f g s
 
-    pub sum-typed : (k l m : Kind) (d e : Phrase) → adds k l ≡ true → sum_kind k l ≡ sort.Value m → Typed k d → Typed l e → Typed m (Node Added d e)
+    pub sum-typed : (k l m : Kind) (d e : Phrase) → adds k l ≡ true → sum_kind k l ≡ Some m → Typed k d → Typed l e → Typed m (Node Added d e)
     unfolding value_of
     sum-typed k l m d e a z f g s =
         bind-holds (IsOf k) (IsOf m) (value_of known scene d s) (λ v s. and_then (value_of known scene e s) (λ w. made_on (summed v w))) (f s)
         (λ v p s.
         bind-holds (IsOf l) (IsOf m) (value_of known scene e s) (λ w. made_on (summed v w)) (g s)
         (λ w q s.
-        let A : Kind → Kind → Type 0 = λ x y. (adds x y ≡ true) × (sum_kind x y ≡ sort.Value m) in
+        let A : Kind → Kind → Type 0 = λ x y. (adds x y ≡ true) × (sum_kind x y ≡ Some m) in
         let h : A (kind_of v) (kind_of w) = subst (λ (x : Kind). A x (kind_of w)) (sym p) (subst (λ (y : Kind). A k y) (sym q) (a, z)) in
         made-holds (IsOf m) (summed v w) (given-makes m (sum_of v w) (sum-given v w h.0 m h.1)) s))
 
-    pub difference-typed : (k l m : Kind) (d e : Phrase) → is_ordered (sort.Value k) ≡ true → same_kind k l ≡ true → difference_kind k l ≡ sort.Value m → Typed k d → Typed l e
+    pub difference-typed : (k l m : Kind) (d e : Phrase) → is_ordered (sort.Value (Some k)) ≡ true → same_kind k l ≡ true → difference_kind k l ≡ Some m → Typed k d → Typed l e
         → Typed m (Node Subtracted d e)
     unfolding value_of
     difference-typed k l m d e o a z f g s =
@@ -264,7 +264,7 @@ module _ (scene : Scene) where
         (λ v p s.
         bind-holds (IsOf l) (IsOf m) (value_of known scene e s) (λ w. made_on (lessened v w)) (g s)
         (λ w q s.
-        let A : Kind → Kind → Type 0 = λ x y. (is_ordered (sort.Value x) ≡ true) × (same_kind x y ≡ true) × (difference_kind x y ≡ sort.Value m) in
+        let A : Kind → Kind → Type 0 = λ x y. (is_ordered (sort.Value (Some x)) ≡ true) × (same_kind x y ≡ true) × (difference_kind x y ≡ Some m) in
         let h : A (kind_of v) (kind_of w) = subst (λ (x : Kind). A x (kind_of w)) (sym p) (subst (λ (y : Kind). A k y) (sym q) (o, a, z)) in
         made-holds (IsOf m) (lessened v w) (given-makes m (difference_of v w) (difference-given v w h.0 h.1 m h.2)) s))
 

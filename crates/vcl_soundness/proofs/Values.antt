@@ -39,7 +39,7 @@ duration-is (value.Ip a) e = absurd (cc)
 duration-is (value.Backend b) e = absurd (cc)
 
 -- in a condition
-pub truth-is : (v : Value) → is_condition (sort.Value (kind_of v)) ≡ true → (b : Bool) × (truth_of v ≡ Some b)
+pub truth-is : (v : Value) → is_condition (sort.Value (Some (kind_of v))) ≡ true → (b : Bool) × (truth_of v ≡ Some b)
 truth-is (value.String t) h = (is_some t, refl)
 truth-is (value.Int n) h = (_, refl)
 truth-is (value.Duration n) h = (_, refl)
@@ -48,21 +48,21 @@ truth-is (value.Ip a) h = absurd (false-true h)
 truth-is (value.Backend None) h = (false, refl)
 truth-is (value.Backend (Some b)) h = (_, refl)
 
-pub truth-has : (k : Kind) (v : Value) → IsOf k v → is_condition (sort.Value k) ≡ true → (b : Bool) × (truth_of v ≡ Some b)
-truth-has k v e h = truth-is v (subst (λ (x : Kind). is_condition (sort.Value x) ≡ true) (sym e) h)
+pub truth-has : (k : Kind) (v : Value) → IsOf k v → is_condition (sort.Value (Some k)) ≡ true → (b : Bool) × (truth_of v ≡ Some b)
+truth-has k v e h = truth-is v (subst (λ (x : Kind). is_condition (sort.Value (Some x)) ≡ true) (sym e) h)
 
 truth-some : (o : Option Bool) (b : Bool) (f : Bool → Bool) → o ≡ Some b → Makes (IsOf kind.Bool) (option_map (λ c. Some (value.Bool (f c))) o)
 truth-some (Some c) b f e = refl
 truth-some None b f e = absurd (none-some b e)
 
-pub value-some : (k : Kind) (v : Value) → IsOf k v → is_condition (sort.Value k) ≡ true → Makes (IsOf kind.Bool) (truth_value v)
+pub value-some : (k : Kind) (v : Value) → IsOf k v → is_condition (sort.Value (Some k)) ≡ true → Makes (IsOf kind.Bool) (truth_value v)
 value-some k v e h = let t = truth-has k v e h in truth-some (truth_of v) t.0 (λ b. b) t.1
 
-pub opposite-some : (k : Kind) (v : Value) → IsOf k v → is_condition (sort.Value k) ≡ true → Makes (IsOf kind.Bool) (opposite v)
+pub opposite-some : (k : Kind) (v : Value) → IsOf k v → is_condition (sort.Value (Some k)) ≡ true → Makes (IsOf kind.Bool) (opposite v)
 opposite-some k v e h = let t = truth-has k v e h in truth-some (truth_of v) t.0 not t.1
 
 -- `||` and `&&`
-pub decides-holds : (decided : Bool) (k l : Kind) → is_condition (sort.Value k) ≡ true → is_condition (sort.Value l) ≡ true → (right : Operand)
+pub decides-holds : (decided : Bool) (k l : Kind) → is_condition (sort.Value (Some k)) ≡ true → is_condition (sort.Value (Some l)) ≡ true → (right : Operand)
     → ((s : List Answer) → Holds (IsOf l) (right s)) → (v : Value) → IsOf k v → (s : List Answer) → Holds (IsOf kind.Bool) (decides decided right v s)
 decides-holds decided k l c d right h v e s = let t = truth-has k v e c in by-truth (truth_of v) t.0 t.1
   where
@@ -92,7 +92,7 @@ equal-is (value.Bool t) _ h = absurd (false-true h)
 equal-is (value.Ip t) _ h = absurd (false-true h)
 equal-is (value.Backend t) _ h = absurd (false-true h)
 
-less-is : (v w : Value) → is_ordered (sort.Value (kind_of v)) ≡ true → same_kind (kind_of v) (kind_of w) ≡ true → (b : Bool) × (compared compare.Less v w ≡ Some b)
+less-is : (v w : Value) → is_ordered (sort.Value (Some (kind_of v))) ≡ true → same_kind (kind_of v) (kind_of w) ≡ true → (b : Bool) × (compared compare.Less v w ≡ Some b)
 less-is (value.Int n) (value.Int m) o h = (_, refl)
 less-is (value.Duration n) (value.Duration m) o h = (_, refl)
 less-is (value.Int t) _ o h = absurd (false-true h)
@@ -102,7 +102,7 @@ less-is (value.Bool t) w o h = absurd (false-true o)
 less-is (value.Ip t) w o h = absurd (false-true o)
 less-is (value.Backend t) w o h = absurd (false-true o)
 
-more-is : (v w : Value) → is_ordered (sort.Value (kind_of v)) ≡ true → same_kind (kind_of v) (kind_of w) ≡ true → (b : Bool) × (compared compare.Greater v w ≡ Some b)
+more-is : (v w : Value) → is_ordered (sort.Value (Some (kind_of v))) ≡ true → same_kind (kind_of v) (kind_of w) ≡ true → (b : Bool) × (compared compare.Greater v w ≡ Some b)
 more-is (value.Int n) (value.Int m) o h = (_, refl)
 more-is (value.Duration n) (value.Duration m) o h = (_, refl)
 more-is (value.Int t) _ o h = absurd (false-true h)
@@ -116,7 +116,7 @@ more-is (value.Backend t) w o h = absurd (false-true o)
 abbrev pub Compares : Comparison → Kind → Kind → Type 0
 Compares compare.Equal k l = same_kind k l ≡ true
 Compares compare.NotEqual k l = same_kind k l ≡ true
-Compares _ k l = (is_ordered (sort.Value k) ≡ true) × (same_kind k l ≡ true)
+Compares _ k l = (is_ordered (sort.Value (Some k)) ≡ true) × (same_kind k l ≡ true)
 
 compared-is : (how : Comparison) (v w : Value) → Compares how (kind_of v) (kind_of w) → (b : Bool) × (compared how v w ≡ Some b)
 compared-is compare.Equal v w h = equal-is v w h
@@ -151,12 +151,12 @@ duration-given : (z : ℤ) → IsGiven kind.Duration (duration_value z)
 duration-given z = ranged kind.Duration (value.Duration z) _ refl
 
 abbrev SumGiven : Value → Value → Type 0
-SumGiven v w = (m : Kind) → sum_kind (kind_of v) (kind_of w) ≡ sort.Value m → IsGiven m (sum_of v w)
+SumGiven v w = (m : Kind) → sum_kind (kind_of v) (kind_of w) ≡ Some m → IsGiven m (sum_of v w)
 
-as-sort : (r : Result Value ValueError) (k m : Kind) → IsGiven k r → sort.Value k ≡ sort.Value m → IsGiven m r
+as-sort : (r : Result Value ValueError) (k m : Kind) → IsGiven k r → Some k ≡ Some m → IsGiven m r
 as-sort r k m h e = subst (λ (x : Kind). IsGiven x r) (cc) h
 
-pub sum-given : (v w : Value) → adds (kind_of v) (kind_of w) ≡ true → (m : Kind) → sum_kind (kind_of v) (kind_of w) ≡ sort.Value m → IsGiven m (sum_of v w)
+pub sum-given : (v w : Value) → adds (kind_of v) (kind_of w) ≡ true → (m : Kind) → sum_kind (kind_of v) (kind_of w) ≡ Some m → IsGiven m (sum_of v w)
 sum-given (value.String t) w h m e = as-sort _ kind.String m (text-given _) e
 sum-given (value.Int n) (value.Int o) h m e = as-sort (int_value (n +ℤ o)) kind.Int m (int-given (n +ℤ o)) e
 sum-given (value.Int n) (value.String t) h m e = as-sort _ kind.String m (text-given _) e
@@ -171,8 +171,8 @@ sum-given (value.Ip n) _ h m e = absurd (false-true h)
 sum-given (value.Backend n) (value.String t) h m e = as-sort _ kind.String m (text-given _) e
 sum-given (value.Backend n) _ h m e = absurd (false-true h)
 
-pub difference-given : (v w : Value) → is_ordered (sort.Value (kind_of v)) ≡ true → same_kind (kind_of v) (kind_of w) ≡ true → (m : Kind)
-    → difference_kind (kind_of v) (kind_of w) ≡ sort.Value m → IsGiven m (difference_of v w)
+pub difference-given : (v w : Value) → is_ordered (sort.Value (Some (kind_of v))) ≡ true → same_kind (kind_of v) (kind_of w) ≡ true → (m : Kind)
+    → difference_kind (kind_of v) (kind_of w) ≡ Some m → IsGiven m (difference_of v w)
 difference-given (value.Int n) (value.Int o) o' h m e = as-sort (int_value (n -ℤ o)) kind.Int m (int-given (n -ℤ o)) e
 difference-given (value.Duration n) (value.Duration o) o' h m e = as-sort (duration_value (n -ℤ o)) kind.Duration m (duration-given (n -ℤ o)) e
 difference-given (value.Int t) _ o h m e = absurd (false-true h)
@@ -215,10 +215,10 @@ string-fitted (value.Bool n) = text-makes (as_text (value.Bool n))
 string-fitted (value.Ip n) = text-makes (as_text (value.Ip n))
 string-fitted (value.Backend n) = text-makes (as_text (value.Backend n))
 
-pub fitted-makes : (wanted k : Kind) (v : Value) → IsOf k v → accepts wanted (sort.Value k) ≡ true → Makes (IsOf wanted) (fitted wanted v)
-fitted-makes wanted k v e h = by-kind wanted v (subst (λ (x : Kind). accepts wanted (sort.Value x) ≡ true) (sym e) h)
+pub fitted-makes : (wanted k : Kind) (v : Value) → IsOf k v → accepts wanted (sort.Value (Some k)) ≡ true → Makes (IsOf wanted) (fitted wanted v)
+fitted-makes wanted k v e h = by-kind wanted v (subst (λ (x : Kind). accepts wanted (sort.Value (Some x)) ≡ true) (sym e) h)
   where
-    by-kind : (wanted : Kind) (v : Value) → accepts wanted (sort.Value (kind_of v)) ≡ true → Makes (IsOf wanted) (fitted wanted v)
+    by-kind : (wanted : Kind) (v : Value) → accepts wanted (sort.Value (Some (kind_of v))) ≡ true → Makes (IsOf wanted) (fitted wanted v)
     by-kind kind.String v h = string-fitted v
     by-kind kind.Int (value.Int n) h = refl
     by-kind kind.Int _ h = absurd (false-true h)

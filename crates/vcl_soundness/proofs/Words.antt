@@ -8,8 +8,9 @@ use Rattle.vcl_values.specs.declared.value.Value.{Value}
 use Rattle.vcl_values.specs.Values.{kind_of}
 use Rattle.vcl_language.specs.Words.{word_named}
 use Rattle.vcl_language.specs.declared.functions.Parameter.TheVariants.{Value as Typed}
-use Rattle.vcl_language.specs.declared.functions.Takes.{Takes}
-use Rattle.vcl_language.specs.declared.functions.Takes.TheVariants as takes
+use Rattle.vcl_language.specs.Functions.{nothing}
+use Rattle.vcl_language.specs.declared.functions.Slot.{Slot}
+use Rattle.vcl_language.specs.declared.functions.Slot.TheVariants.{Closed, Needed, Optional}
 use Rattle.vcl_language.specs.declared.words.TheConstants.{WORDS as LANGUAGE_WORDS}
 use Rattle.vcl_language.specs.declared.words.Word.{Word}
 use Rattle.vcl_check.specs.Rules.{is_nowhere}
@@ -26,10 +27,10 @@ use Rattle.vcl_soundness.proofs.Typed.{Worth}
 use Rattle.vcl_soundness.proofs.Values.{int-is, duration-is}
 
 -- what a word takes, and whether it is used with a time too
-abbrev pub takes_of : ReturnWord → Takes
-takes_of word.Synth = takes.OneOrTwo (Typed kind.Int) (Typed kind.String)
-takes_of word.Error = takes.UpToTwo (Typed kind.Int) (Typed kind.String)
-takes_of _ = takes.Nothing
+abbrev pub takes_of : ReturnWord → List Slot
+takes_of word.Synth = Needed (Typed kind.Int) ∷ Optional (Typed kind.String) ∷ Closed ∷ []
+takes_of word.Error = Optional (Typed kind.Int) ∷ Optional (Typed kind.String) ∷ Closed ∷ []
+takes_of _ = nothing
 
 abbrev pub is_untimed : ReturnWord → Bool
 is_untimed word.Pass = false

@@ -1,10 +1,10 @@
 // Arguments against what is taken.
 ghost use Rattle.std.specs.Prelude.{◌≡◌};
-ghost use Rattle.vcl_check.specs.Calls.{unless, with_argument, is_string, is_weight, takes_so_many, first_of, second_of, third_of, mistyped, unwritten, or_else, leftmost_mistyped, leftmost_unwritten, ill_called};
+ghost use Rattle.vcl_check.specs.Calls.{unless, with_argument, is_string, is_weight, may_be, takes_so_many, wanted, mistyped, unwritten, or_else, mistyped_at, leftmost_mistyped, unwritten_at, leftmost_unwritten, ill_called};
 
 use crate::rules::kinds::accepts;
 use crate::seen::{Argument, Arguments, Literal};
-use vcl_language::{Parameter, Takes};
+use vcl_language::{Parameter, Slot, Takes};
 
 pub fn unless(holds: bool, place: u32) -> Option<u32>
     ensures { result ≡ unless holds place }
@@ -16,11 +16,11 @@ pub fn with_argument(arguments: Arguments, last: Argument) -> Arguments
     ensures { result ≡ with_argument arguments last }
 {
     match arguments {
-        Arguments::Zero => Arguments::One(last),
-        Arguments::One(a) => Arguments::Two(a, last),
-        Arguments::Two(a, b) => Arguments::Three(a, b, last),
-        Arguments::Three(_, _, _) => Arguments::More,
-        Arguments::More => Arguments::More,
+        [None, b, c, d] => [Some(last), b, c, d],
+        [a, None, c, d] => [a, Some(last), c, d],
+        [a, b, None, d] => [a, b, Some(last), d],
+        [a, b, c, None] => [a, b, c, Some(last)],
+        full => full,
     }
 }
 
@@ -36,54 +36,32 @@ fn is_weight(literal: Literal) -> bool
     matches!(literal, Literal::Weight)
 }
 
+// Whether an argument may stand in a place, or be lacking there.
+fn may_be(slot: Slot, argument: Option<Argument>) -> bool
+    ensures { result ≡ may_be slot argument }
+{
+    match slot {
+        Slot::Closed => argument.is_none(),
+        Slot::Needed(_) => argument.is_some(),
+        Slot::Optional(_) => true,
+    }
+}
+
 fn takes_so_many(takes: Takes, arguments: Arguments) -> bool
     ensures { result ≡ takes_so_many takes arguments }
 {
-    match takes {
-        Takes::Nothing => matches!(arguments, Arguments::Zero),
-        Takes::One(_) => matches!(arguments, Arguments::One(_)),
-        Takes::OneOrTwo(_, _) => matches!(arguments, Arguments::One(_) | Arguments::Two(_, _)),
-        Takes::UpToTwo(_, _) => matches!(
-            arguments,
-            Arguments::Zero | Arguments::One(_) | Arguments::Two(_, _)
-        ),
-        Takes::Two(_, _) => matches!(arguments, Arguments::Two(_, _)),
-        Takes::Three(_, _, _) => matches!(arguments, Arguments::Three(_, _, _)),
-    }
+    let [first, second, third] = takes;
+    let [a, b, c, more] = arguments;
+    may_be(first, a) && may_be(second, b) && may_be(third, c) && more.is_none()
 }
 
-fn first_of(takes: Takes) -> Option<Parameter>
-    ensures { result ≡ first_of takes }
+fn wanted(slot: Slot) -> Option<Parameter>
+    ensures { result ≡ wanted slot }
 {
-    match takes {
-        Takes::Nothing => None,
-        Takes::One(first) => Some(first),
-        Takes::OneOrTwo(first, _) => Some(first),
-        Takes::UpToTwo(first, _) => Some(first),
-        Takes::Two(first, _) => Some(first),
-        Takes::Three(first, _, _) => Some(first),
-    }
-}
-
-fn second_of(takes: Takes) -> Option<Parameter>
-    ensures { result ≡ second_of takes }
-{
-    match takes {
-        Takes::Nothing => None,
-        Takes::One(_) => None,
-        Takes::OneOrTwo(_, second) => Some(second),
-        Takes::UpToTwo(_, second) => Some(second),
-        Takes::Two(_, second) => Some(second),
-        Takes::Three(_, second, _) => Some(second),
-    }
-}
-
-fn third_of(takes: Takes) -> Option<Parameter>
-    ensures { result ≡ third_of takes }
-{
-    match takes {
-        Takes::Three(_, _, third) => Some(third),
-        _ => None,
+    match slot {
+        Slot::Closed => None,
+        Slot::Needed(parameter) => Some(parameter),
+        Slot::Optional(parameter) => Some(parameter),
     }
 }
 
@@ -116,40 +94,51 @@ pub fn or_else(first: Option<u32>, other: Option<u32>) -> Option<u32>
     }
 }
 
-fn leftmost_mistyped(takes: Takes, arguments: Arguments) -> Option<u32>
-    ensures { result ≡ leftmost_mistyped takes arguments }
+fn mistyped_at(slot: Slot, argument: Option<Argument>) -> Option<u32>
+    ensures { result ≡ mistyped_at slot argument }
 {
-    match arguments {
-        Arguments::One(a) => mistyped(first_of(takes), a),
-        Arguments::Two(a, b) => or_else(
-            mistyped(first_of(takes), a),
-            mistyped(second_of(takes), b),
-        ),
-        Arguments::Three(a, b, c) => or_else(
-            mistyped(first_of(takes), a),
-            or_else(mistyped(second_of(takes), b), mistyped(third_of(takes), c)),
-        ),
-        _ => None,
+    match argument {
+        None => None,
+        Some(argument) => mistyped(wanted(slot), argument),
     }
 }
 
-pub fn leftmost_unwritten(takes: Takes, arguments: Arguments) -> Option<u32>
-    ensures { result ≡ leftmost_unwritten takes arguments }
+fn leftmost_mistyped(takes: &[Slot], arguments: &[Option<Argument>]) -> Option<u32>
+    ensures { result ≡ leftmost_mistyped takes.now arguments.now }
 {
-    match arguments {
-        Arguments::One(a) => unwritten(first_of(takes), a),
-        Arguments::Two(a, b) => or_else(
-            unwritten(first_of(takes), a),
-            unwritten(second_of(takes), b),
-        ),
-        Arguments::Three(a, b, c) => or_else(
-            unwritten(first_of(takes), a),
-            or_else(
-                unwritten(second_of(takes), b),
-                unwritten(third_of(takes), c),
+    match takes {
+        [] => None,
+        [slot, slots @ ..] => match arguments {
+            [] => None,
+            [argument, behind @ ..] => or_else(
+                mistyped_at(*slot, *argument),
+                leftmost_mistyped(slots, behind),
             ),
-        ),
-        _ => None,
+        },
+    }
+}
+
+fn unwritten_at(slot: Slot, argument: Option<Argument>) -> Option<u32>
+    ensures { result ≡ unwritten_at slot argument }
+{
+    match argument {
+        None => None,
+        Some(argument) => unwritten(wanted(slot), argument),
+    }
+}
+
+pub fn leftmost_unwritten(takes: &[Slot], arguments: &[Option<Argument>]) -> Option<u32>
+    ensures { result ≡ leftmost_unwritten takes.now arguments.now }
+{
+    match takes {
+        [] => None,
+        [slot, slots @ ..] => match arguments {
+            [] => None,
+            [argument, behind @ ..] => or_else(
+                unwritten_at(*slot, *argument),
+                leftmost_unwritten(slots, behind),
+            ),
+        },
     }
 }
 
@@ -157,7 +146,7 @@ pub fn ill_called(takes: Takes, arguments: Arguments, place: u32) -> Option<u32>
     ensures { result ≡ ill_called takes arguments place }
 {
     if takes_so_many(takes, arguments) {
-        leftmost_mistyped(takes, arguments)
+        leftmost_mistyped(&takes, &arguments)
     } else {
         Some(place)
     }

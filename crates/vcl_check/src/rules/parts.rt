@@ -12,7 +12,7 @@ use crate::rules::kinds::{
 };
 use crate::rules::names::is_reached;
 use crate::seen::{Arguments, Meaning, Seen};
-use vcl_language::{Parameter, Scope, Subroutine, Takes, Word, has};
+use vcl_language::{Parameter, Scope, Slot, Subroutine, Takes, Word, has};
 use vcl_tree::Comparison;
 use vcl_values::Kind;
 
@@ -38,14 +38,18 @@ fn ill_function(meaning: Meaning, given: Arguments, place: u32) -> Option<u32>
 fn is_timed(word: Word, given: Arguments) -> bool
     ensures { result ≡ is_timed word given }
 {
-    matches!(given, Arguments::One(_)) && !matches!(word.timed, Scope::Nowhere)
+    matches!(given, [Some(_), None, ..]) && !matches!(word.timed, Scope::Nowhere)
 }
 
 fn answer_takes(word: Word, given: Arguments) -> Takes
     ensures { result ≡ answer_takes word given }
 {
     if is_timed(word, given) {
-        Takes::One(Parameter::Value(Kind::Duration))
+        [
+            Slot::Needed(Parameter::Value(Kind::Duration)),
+            Slot::Closed,
+            Slot::Closed,
+        ]
     } else {
         word.takes
     }
@@ -113,7 +117,7 @@ fn ill_made(meaning: Meaning, b: Seen) -> Option<u32>
     ensures { result ≡ ill_made meaning b }
 {
     match meaning {
-        Meaning::Maker(_) => unless(matches!(b.arguments, Arguments::Zero), b.first),
+        Meaning::Maker(_) => unless(matches!(b.arguments, [None, ..]), b.first),
         _ => None,
     }
 }
@@ -206,7 +210,10 @@ fn unwritten_call(meaning: Meaning, given: Arguments) -> Option<u32>
     ensures { result ≡ unwritten_call meaning given }
 {
     match meaning {
-        Meaning::Function(function) => leftmost_unwritten(function.takes, given),
+        Meaning::Function(function) => {
+            let takes = function.takes;
+            leftmost_unwritten(&takes, &given)
+        }
         _ => None,
     }
 }
