@@ -3,9 +3,9 @@ ghost use Rattle.std.specs.Prelude.{◌≡◌, ◌∷◌, ◌++◌, ◌+◌, ◌
 ghost use Rattle.std.specs.Vec.{vec_capacity};
 ghost use Rattle.cache_law.specs.State.{at_moment, reserve};
 ghost use Rattle.cache_law.specs.Law.{answered};
-ghost use Rattle.cache_law.specs.Bases.{IsBase};
+ghost use Rattle.cache_law.specs.Bases.{IsBase, IsClosed};
 ghost use Rattle.cache_law.specs.Core.{is_closing as closes_only, is_kept};
-ghost use Rattle.cache_law.specs.History.{bytes_of, is_numbered, most_entries};
+ghost use Rattle.cache_law.specs.History.{bytes_of, is_numbered, most_entries, reached};
 ghost use Rattle.flat_core.specs.Found.{FindsFor};
 ghost use Rattle.flat_core.specs.Step.{Answers};
 
@@ -145,6 +145,15 @@ impl CacheCore for FlatCore {
 
     fn into_history(self) -> Sequence<Entry> {
         Sequence::from_vec(self.entries)
+    }
+}
+
+impl FlatCore {
+    /// Whether no round and no fetch is open: then it may be reopened. It takes no memory.
+    pub fn is_idle(&self) -> bool
+        ensures { IsTrue result ↔ IsClosed (reached self.now.beginning self.now.entries) }
+    {
+        self.store.is_idle()
     }
 }
 
