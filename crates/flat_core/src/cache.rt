@@ -3,7 +3,7 @@ ghost use Rattle.std.specs.Prelude.{◌≡◌, ◌∷◌, ◌++◌, ◌+◌, ◌
 ghost use Rattle.std.specs.Vec.{vec_capacity};
 ghost use Rattle.cache_law.specs.State.{at_moment, reserve};
 ghost use Rattle.cache_law.specs.Law.{answered};
-ghost use Rattle.cache_law.specs.Bases.{IsBase};
+ghost use Rattle.cache_law.specs.Bases.{IsBase, IsClosed};
 ghost use Rattle.cache_law.specs.Core.{is_closing as closes_only, is_kept, is_segment_full as is_full_for};
 ghost use Rattle.cache_law.specs.History.{bytes_of, is_numbered, most_entries, reached};
 ghost use Rattle.flat_core.specs.Found.{FindsFor};
@@ -154,6 +154,13 @@ impl FlatCore {
             && !is_closing(call)
             && !self.entries.is_empty()
             && self.params.history / 2 <= self.used
+    }
+
+    /// Whether no round and no fetch is open: then it may be reopened. It takes no memory.
+    pub fn is_idle(&self) -> bool
+        ensures { IsTrue result ↔ IsClosed (reached self.now.beginning self.now.entries) }
+    {
+        self.store.is_idle()
     }
 }
 

@@ -1,5 +1,5 @@
 // What the plain cache holds, and how each call changes it.
-ghost use Rattle.std.specs.Prelude.{◌≡◌, ℕ, ◌+◌, ◌*◌, ◌<◌, ◌^◌, true, false, Option, length, ◌∷◌, [], if◌then◌else◌, Some, None, IfOk, IfSome, OnErr, OnSome, IfNone, IsOk, ◌≤◌};
+ghost use Rattle.std.specs.Prelude.{◌≡◌, ℕ, ◌+◌, ◌*◌, ◌<◌, ◌^◌, ◌↔◌, true, false, IsTrue, Option, length, ◌∷◌, [], if◌then◌else◌, Some, None, IfOk, IfSome, OnErr, OnSome, IfNone, IsOk, ◌≤◌};
 ghost use Rattle.cache_law.specs.declared.object.Object.{Object as Made};
 ghost use Rattle.directors.specs.declared.target.Target.{Target as Aim};
 ghost use Rattle.cache_law.specs.declared.call.Call.TheVariants.{Begin as BeginCall, Draw as DrawCall, Lookup as LookupCall, Pick as PickCall, Insert as InsertCall, Ban as BanCall, BanList as BanListCall, Purge as PurgeCall, Xkey as XkeyCall, SetHealth as SetHealthCall, Load as LoadCall, Switch as SwitchCall, Discard as DiscardCall, VclList as VclListCall, Drop as DropCall, End as EndCall};
@@ -130,6 +130,13 @@ impl Store {
         ensures { result ≡ awaits self.now caller }
     {
         awaits(&self.rounds, &self.fetches, caller)
+    }
+
+    /// Whether no round and no fetch is open.
+    pub fn is_idle(&self) -> bool
+        ensures { IsTrue result ↔ IsClosed self.now }
+    {
+        self.rounds.is_empty() && self.fetches.is_empty()
     }
 
     pub fn moment(&self) -> u64
