@@ -1,13 +1,13 @@
 // What is asked of a core.
 use ban_lurker::LurkCore;
-use cache_law::{CacheCore, Call, Entry, StepError, Told};
+use cache_law::{CacheCore, Call, Entry, Kept, StepError, Told};
 use core_rows::{call, core_of, history_shown, shown, step};
 use flat_core::FlatCore;
 use row_settings::number;
 use std::alloc::{AllocError, Global};
 use std::mem;
 
-/// What a core is, or how it steps. A core whose history is told is gone.
+/// What a core is, or how it steps. A core whose history is told is gone; one that is reopened goes on.
 pub fn said(alloc: Global, core: &mut FlatCore, row: &str) -> Result<String, AllocError> {
     let (word, rest) = row.split_once(' ').unwrap_or((row, ""));
     match word {
@@ -15,6 +15,7 @@ pub fn said(alloc: Global, core: &mut FlatCore, row: &str) -> Result<String, All
         "lurk" => lurked(alloc, core, rest),
         "step" => stepped(alloc, core, rest),
         "history" => told_history(alloc, core),
+        "reopen" => reopened(alloc, core),
         "bytes" => format!(in alloc; "{}", core.bytes()),
         "closed" => format!(in alloc; "{}", core.closed(number(rest, "token", 0))),
         "entry_size" => format!(in alloc; "{}", mem::size_of::<Entry>()),
@@ -31,6 +32,25 @@ fn renew(alloc: Global, core: &mut FlatCore, row: &str) -> Result<String, AllocE
 fn told_history(alloc: Global, core: &mut FlatCore) -> Result<String, AllocError> {
     let told = mem::replace(core, core_of(alloc, 0, 0)?);
     history_shown(alloc, told.into_history().as_slice())
+}
+
+// How many entries a core had, which goes on with none. Nothing may be open.
+fn reopened(alloc: Global, core: &mut FlatCore) -> Result<String, AllocError> {
+    let told = mem::replace(core, core_of(alloc, 0, 0)?);
+    if !told.is_idle() {
+        *core = told;
+        return format!(in alloc; "open");
+    }
+    match told.reopen(alloc) {
+        Ok((history, next)) => {
+            *core = next;
+            format!(in alloc; "{}", history.as_slice().len())
+        }
+        Err(Kept { core: kept }) => {
+            *core = kept;
+            format!(in alloc; "no memory")
+        }
+    }
 }
 
 // What the lurker of a core finds, which is asked for so many objects.

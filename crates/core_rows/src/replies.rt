@@ -1,5 +1,5 @@
 // Replies in words and numbers.
-use cache_law::{Entry, Reply, VclLine, VclState};
+use cache_law::{BanLine, Entry, Reply, VclLine, VclState};
 use std::alloc::{AllocError, Global};
 
 /// What was answered, with its numbers.
@@ -28,7 +28,15 @@ fn shown_vcls(lines: &[VclLine]) -> (u64, u64) {
     (states, references)
 }
 
-/// What was answered, with its numbers: of a hit, that of the object and the hits; of an object in grace its number and
+// How many lines there are, and the number of the newest ban.
+fn shown_bans(lines: &[BanLine]) -> Shown {
+    match lines {
+        [newest, ..] => ("bans", lines.len() as u64, newest.issued.number),
+        [] => ("bans", 0, 0),
+    }
+}
+
+/// What was answered, with its numbers: of a list of bans, how many lines it has and the number of the newest; of a hit, that of the object and the hits; of an object in grace its number and
 /// the token; of a miss the token and the number of the stale object.
 pub fn shown(reply: &Reply) -> Shown {
     match reply {
@@ -54,7 +62,7 @@ pub fn shown(reply: &Reply) -> Shown {
         Reply::Miss { token, stale: None } => ("miss", *token, 0),
         Reply::Picked(None) => ("picked none", 0, 0),
         Reply::Banned => ("banned", 0, 0),
-        Reply::Bans(lines) => ("bans", lines.as_slice().len() as u64, 0),
+        Reply::Bans(lines) => shown_bans(lines.as_slice()),
         Reply::Purged(count) => ("purged", *count, 0),
         Reply::HealthSet(set) => ("health set", u64::from(*set), 0),
         Reply::Loaded(number) => ("loaded", u64::from(*number), 0),
