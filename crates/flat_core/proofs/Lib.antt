@@ -12,3 +12,4 @@ pub mod Replies
 pub mod Steps
 pub mod Cuts
 pub mod Struck
+pub mod Crossing
