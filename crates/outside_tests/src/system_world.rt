@@ -42,12 +42,12 @@ fn accepted<L: Listener>(listener: &mut L) -> io::Result<(L::Link, [u8; 4])> {
     Err(broken())
 }
 
-// Small pieces are sent at once, and a write that takes longer than half a minute fails.
+// Small pieces are sent at once, and a call that writes takes 5 s at most.
 fn is_set_up(near: &PortLink<HostRuntime>) -> io::Result<bool> {
     match &near.link {
         Some(link) => {
             let limit = link.stream.write_timeout()?;
-            Ok(link.stream.nodelay()? && limit == Some(Duration::from_secs(30)))
+            Ok(link.stream.nodelay()? && limit == Some(Duration::from_secs(5)))
         }
         None => Ok(false),
     }

@@ -1,5 +1,5 @@
 // Connections over TCP that came in at a port.
-ghost use Rattle.std.specs.Prelude.{◌≡◌, None, true};
+ghost use Rattle.std.specs.Prelude.{◌≡◌, None, true, IfSome};
 ghost use Rattle.std.specs.Io.{ReadsAtMost, WritesAtMost};
 ghost use Rattle.wire.specs.declared.peer.Peer.TheVariants.{Accepted};
 
@@ -7,6 +7,7 @@ use crate::client_pace::{Taking, request_millis};
 use crate::stop_sign::StopSign;
 use crate::waiting::{WAIT_MILLIS, has_news};
 use crate::{TcpLink, lingering};
+use std::io::{self, ErrorKind, Write};
 use std::net::TcpStream;
 use std::os::fd::AsRawFd;
 use std::rt::{Clock, Files};
@@ -16,6 +17,9 @@ use wire::{Failed, Link, Peer, Readiness};
 
 /// How many milliseconds may pass between two requests, and before the first.
 const IDLE_MILLIS: u64 = 5_000;
+
+/// How many calls of the system's a write makes at most, each of which takes 5 s at most.
+const WRITE_CALLS: u64 = 6;
 
 /// Behind how many requests a connection ends.
 const MAX_REQUESTS: u64 = 10_000;
@@ -27,6 +31,70 @@ struct Arrival {
     since: Instant,
     /// How many bytes of it came.
     received: u64,
+}
+
+// How many milliseconds have passed; the most where that can't be told.
+fn millis_since<R: Clock>(rt: &R, start: Instant) -> u64 {
+    match start.elapsed(rt) {
+        Ok(spent) => u64::try_from(spent.as_millis()).unwrap_or(u64::MAX),
+        Err(_) => u64::MAX,
+    }
+}
+
+// Whether a write took nothing for now: its time was over, or a signal interrupted it.
+fn is_put_off(error: &io::Error) -> bool {
+    matches!(
+        error.kind(),
+        ErrorKind::WouldBlock | ErrorKind::TimedOut | ErrorKind::Interrupted
+    )
+}
+
+// A write of the system's, whose time and bytes are counted. None where nothing was taken in its time.
+fn write_once<R: Clock>(
+    rt: &R,
+    stream: &mut TcpStream,
+    taking: &mut Taking,
+    piece: &[u8],
+) -> Option<Result<usize, Failed>>
+    ensures bound { IfSome result (λ answer. WritesAtMost answer piece.now) }
+{
+    let start = Instant::now(rt).ok();
+    let answer = stream.write(piece);
+    let millis = start.map_or(0, |start| millis_since(rt, start));
+    match answer {
+        Ok(count) => {
+            taking.add(millis, count as u64);
+            Some(Ok(count))
+        }
+        Err(error) => {
+            taking.add(millis, 0);
+            if is_put_off(&error) {
+                None
+            } else {
+                Some(Err(Failed))
+            }
+        }
+    }
+}
+
+// A write within its time, where the client has taken enough of what was written before.
+fn write_in_time<R: Clock>(
+    rt: &R,
+    stream: &mut TcpStream,
+    taking: &mut Taking,
+    piece: &[u8],
+) -> Result<usize, Failed>
+    ensures bound { WritesAtMost result piece.now }
+{
+    if taking.is_slow() {
+        return Err(Failed);
+    }
+    for turn in 0..WRITE_CALLS {
+        if let Some(answer) = write_once(rt, stream, taking, piece) {
+            return answer;
+        }
+    }
+    Err(Failed)
 }
 
 /// A connection that a client made. Between two requests it waits for less long, and it ends there where the run is to end. It tells
@@ -99,8 +167,7 @@ impl<R: Files + Clock + AllocGlobal + Copy + Drop> PortLink<R> {
         let Some(arrival) = self.arrival else {
             return Some(IDLE_MILLIS.saturating_sub(self.waited).max(1));
         };
-        let spent = arrival.since.elapsed(&self.rt).ok()?;
-        let spent = u64::try_from(spent.as_millis()).unwrap_or(u64::MAX);
+        let spent = millis_since(&self.rt, arrival.since);
         let left = request_millis(arrival.received).saturating_sub(spent);
         if left == 0 {
             None
@@ -162,16 +229,8 @@ impl<R: Files + Clock + AllocGlobal + Copy + Drop> PortLink<R> {
         ensures address { self.new.address ≡ self.old.address }
         ensures is_open { self.new.is_open ≡ self.old.is_open }
     {
-        if self.taking.is_slow() {
-            return Err(Failed);
-        }
         let link = self.link.as_mut().ok_or(Failed)?;
-        let start = Instant::now(&self.rt).map_err(|_| Failed)?;
-        let count = link.write(piece)?;
-        let spent = start.elapsed(&self.rt).map_err(|_| Failed)?;
-        let millis = u64::try_from(spent.as_millis()).unwrap_or(u64::MAX);
-        self.taking.add(millis, count as u64);
-        Ok(count)
+        write_in_time(&self.rt, &mut link.stream, &mut self.taking, piece)
     }
 }
 

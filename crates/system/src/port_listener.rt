@@ -17,8 +17,8 @@ use std::time::Duration;
 use wire::Failed;
 use world::{Awaited, Listener};
 
-/// How many seconds a write takes at most.
-const CALL_SECONDS: u64 = 30;
+/// How many seconds a call that writes takes at most.
+const CALL_SECONDS: u64 = 5;
 
 /// How many milliseconds are let pass where the system is short of something.
 const PAUSE_MILLIS: u64 = 100;
