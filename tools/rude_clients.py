@@ -74,7 +74,7 @@ def drip(port):
 def taker(port):
     link = connect(port, 4096)
     link.sendall(b"GET /large HTTP/1.1\r\nHost: h\r\n\r\n")
-    time.sleep(45)
+    time.sleep(55)
     count = rest_of(link)
     if count >= LARGE:
         sys.exit("all of the response came")
