@@ -2,7 +2,7 @@
 # Tries the built program as a user would: how it ends and with which status, the sessions of examples/, and `varn serve` on a
 # free loopback port before a backend of its own, asked by curl and, where a client has to be rude, by python3. A line for
 # each check; status 1 where one fails. What it starts it ends, also where it fails or is interrupted. On a free machine it
-# takes some 20 seconds.
+# takes a minute, since clients are waited for that are ended after half of one.
 #
 #   tools/smoke.sh [FILE]     the built program; without it the one that PROGRAM names, or else crates/varn/out/varn
 set -u
@@ -179,6 +179,49 @@ done
 check "the program listens, and a first page comes" gets 200 'X-Cache: MISS' '/first asked 1 times'
 status 200 || { cat "$work/said" "$work/errors"; echo "$passed passed, $failed failed"; exit 1; }
 
+# ---- a second server, whose clients are ruder, beside the first
+
+# listens_at PORT PROCESS: somebody listens there, before the process ends
+listens_at() {
+  for _ in {1..200}; do
+    (exec 3<> "/dev/tcp/127.0.0.1/$1") 2> /dev/null && return 0
+    kill -0 "$2" 2> /dev/null || return 1
+    sleep 0.05
+  done
+  return 1
+}
+# rude NAME PORT: such a client's words are in the file of its name
+rude() { python3 tools/rude_clients.py "$1" "$2" > "$work/$1" 2>&1; }
+# bears NAME PROCESS: the client found that the server does as it should
+bears() {
+  wait "$2"
+  local ended=$?
+  cp "$work/$1" "$work/reply"
+  [ $ended = 0 ]
+}
+
+bearing_port=$(free_port)
+VARN_STOP=$work/stop "$program" serve --listen "$bearing_port" --vcl "$work/site.vcl" --workers 8 --conns 1000 \
+  > "$work/bearing_out" 2> "$work/bearing_errors" &
+bearing=$!
+check "a second server listens" listens_at "$bearing_port" $bearing
+rude drip "$bearing_port" &
+drip=$!
+rude taker "$bearing_port" &
+taker=$!
+rude upload "$bearing_port" &
+upload=$!
+
+# One with so few descriptors that there is room for some two connections beside its port.
+printf 'vcl 4.1;\nbackend default none;\nsub vcl_recv { return (synth(200)); }\n' > "$work/synth.vcl"
+crowded_port=$(free_port)
+(ulimit -n 6 && VARN_STOP=$work/crowd_stop exec "$program" serve --listen "$crowded_port" --vcl "$work/synth.vcl" --workers 4 --conns 1000) \
+  > "$work/crowded_out" 2> "$work/crowded_errors" &
+crowded=$!
+crowds() { listens_at "$crowded_port" $crowded && rude crowd "$crowded_port"; }
+crowds &
+crowd=$!
+
 # ---- checks that take their time, beside the others
 
 # Two requests over one connection, then silence: the program is to end it after 5 seconds.
@@ -291,5 +334,45 @@ ended=$?
 cp "$work/errors" "$work/reply"
 # Every connection had one round, but for the silent one, which had two, and the one whose request can't be read.
 check "the program ends, and tells its rounds" [ "$ended $(cat "$work/out")" = "0 rounds $connections" ]
+
+# ---- the ruder clients, and ends before the last connection
+
+check "an upload that is refused sees its 400" bears upload $upload
+check "descriptors run out and come back" bears crowd $crowd
+check "a request that drips in is ended after half a minute" bears drip $drip
+check "a client that takes nothing is ended after half a minute" bears taker $taker
+
+# stopped PROCESS OUT ERRORS: the process ends in time, with 0 and a line of rounds
+stopped() {
+  for _ in {1..200}; do
+    kill -0 "$1" 2> /dev/null || break
+    sleep 0.05
+  done
+  kill -KILL "$1" 2> /dev/null
+  wait "$1" 2> /dev/null
+  local ended=$?
+  cat "$2" "$3" > "$work/reply"
+  [ $ended = 0 ] && grep --quiet --line-regexp 'rounds [0-9]*' "$2"
+}
+rude idle "$bearing_port" &
+idle=$!
+for _ in {1..100}; do
+  [ -s "$work/idle" ] && break
+  sleep 0.05
+done
+: > "$work/stop"
+check "an idle connection ends once the stop file is there" bears idle $idle
+check "a run ends once its stop file is there" stopped $bearing "$work/bearing_out" "$work/bearing_errors"
+: > "$work/crowd_stop"
+check "so does one that was short of descriptors" stopped $crowded "$work/crowded_out" "$work/crowded_errors"
+
+if env --block-signal=TERM true 2> /dev/null; then
+  term_port=$(free_port)
+  env --block-signal=TERM "$program" serve --listen "$term_port" --vcl "$work/synth.vcl" --workers 2 --conns 1000 \
+    > "$work/term_out" 2> "$work/term_errors" &
+  term=$!
+  listens_at "$term_port" $term && kill -TERM $term
+  check "a run that blocks SIGTERM ends in order by it" stopped $term "$work/term_out" "$work/term_errors"
+fi
 echo "$passed passed, $failed failed"
 [ $failed = 0 ]

@@ -6,6 +6,7 @@
   /tag..      one with an ETag: asked with it, the answer is 304
   /chunked..  one in chunks
   /stall..    the front of a page, then nothing for two seconds, then the end of the connection
+  /large..    a page of 8,000,000 bytes
   /mute..     nothing at all for two seconds, then the end of the connection
 
 A POST is answered by its body. All pages may be stored for an hour, but for the answers to a POST.
@@ -78,6 +79,8 @@ class Handler(http.server.BaseHTTPRequestHandler):
             self.stall()
         elif self.path.startswith("/mute"):
             self.stall()
+        elif self.path.startswith("/large"):
+            self.answer(200, b"x" * 8_000_000, lasting)
         else:
             self.answer(200, body, lasting)
 

@@ -5,10 +5,13 @@
 #![tactic(auto)]
 
 mod backend_link;
+mod client_pace;
 mod command_line;
 mod kept_streams;
+mod lingering;
 mod port_link;
 mod port_listener;
+mod stop_sign;
 mod stream;
 mod system_clock;
 mod system_shelf;

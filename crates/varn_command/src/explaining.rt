@@ -22,7 +22,7 @@ pub(crate) fn explain_unwritten(rt: &HostRuntime) {
 /// Says why the words of the command line couldn't be had.
 pub(crate) fn explain_wordless(rt: &HostRuntime, error: WordsError) {
     match error {
-        WordsError::Unreadable => tell(rt, "a word of the command line isn't UTF-8"),
+        WordsError::Unreadable => tell(rt, "a word of the command line, or VARN_STOP, isn't UTF-8"),
         WordsError::NoMemory => tell(rt, NO_MEMORY),
     }
 }

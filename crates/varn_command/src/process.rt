@@ -5,6 +5,7 @@ use crate::explaining::{
 };
 use crate::running::{Outcome, options_of, run};
 use diagnostics::Help;
+use std::env::{self, VarError};
 use std::net::{Net, TcpListener, TcpStream};
 use std::process::ExitCode;
 use std::random::RandomSource;
@@ -18,6 +19,9 @@ use world::{OpenGate, World};
 
 /// Where a server listens: at all addresses of the machine.
 const ADDRESS: [u8; 4] = [0, 0, 0, 0];
+
+/// The variable of the environment that names the file whose coming ends a server's run.
+const STOP_VARIABLE: &str = "VARN_STOP";
 
 // Writes the help on standard output.
 fn print(rt: &HostRuntime, help: Help) -> Status {
@@ -37,6 +41,23 @@ fn wordless(rt: &HostRuntime, error: WordsError) -> Status {
         WordsError::Unreadable => Status::Words,
         WordsError::NoMemory => Status::NoMemory,
     }
+}
+
+// The file whose coming ends a run, if one is named.
+fn stop_file(rt: &HostRuntime) -> Result<Option<Text>, WordsError> {
+    match env::var(rt, STOP_VARIABLE) {
+        Ok(name) => Ok(Some(Text::of(rt.alloc(), name.as_bytes())?)),
+        Err(VarError::NotPresent) => Ok(None),
+        Err(VarError::NotUnicode) => Err(WordsError::Unreadable),
+        Err(VarError::OutOfMemory) => Err(WordsError::NoMemory),
+    }
+}
+
+// What the process was started with: its words, and the file whose coming ends a run.
+fn read_start(rt: &HostRuntime) -> Result<(Vec<Text>, Option<Text>), WordsError> {
+    let words = read_words(rt)?;
+    let file = stop_file(rt)?;
+    Ok((words, file))
 }
 
 // Says on standard error what kept the run from being whole.
@@ -68,6 +89,7 @@ where
         + Files
         + AllocGlobal
         + Clock
+        + Eprint
         + RandomSource
         + Copy
         + Drop
@@ -75,14 +97,15 @@ where
     <R as Files>::File: Send,
     <R as Files>::Dir: Send,
 {
-    let words = match read_words(rt) {
-        Ok(words) => words,
+    let (words, stop_file) = match read_start(rt) {
+        Ok(start) => start,
         Err(error) => return ExitCode::from(wordless(rt, error).code()),
     };
     if let Some(help) = Help::of(words.as_slice()) {
         return ExitCode::from(print(rt, help).code());
     }
     let mut world = SystemWorld::new(*outside, ADDRESS);
+    world.stop_file = stop_file;
     let mut source = StreamSource::new(rt.stdin());
     let mut sink = StreamSink::new(rt.stdout());
     let outcome = run(
