@@ -1,14 +1,14 @@
 // Cores, and their steps.
-ghost use Rattle.std.specs.Prelude.{◌≡◌, [], IfNone, IfOk};
+ghost use Rattle.std.specs.Prelude.{◌≡◌, [], IfNone, IfOk, false};
 ghost use Rattle.cache_law.specs.History.{HasWaited, Legal, reached};
 
 use cache_law::{Boot, CacheCore, Call, Params, StepError, Told};
 use std::alloc::{AllocError, Global};
 use units::{Sequence, Text};
 
-/// A new core at these limits.
+/// A new core at these limits, which keeps no segments.
 pub fn core_of<C: CacheCore>(alloc: Global, room: u64, history: u64) -> Result<C, AllocError>
-    ensures { IfOk result (λ core. (C.history core ≡ []) × Legal (C.beginning core) []) }
+    ensures { IfOk result (λ core. (C.history core ≡ []) × Legal (C.beginning core) [] × ((C.beginning core).params.segments ≡ false)) }
 {
     let text = Text::of(alloc, b"vcl 4.1;")?;
     let boot = Boot {
