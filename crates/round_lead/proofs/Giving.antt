@@ -90,7 +90,7 @@ module _ {L : Type 0} (heard : L → LinkTold) (backends : List ℕ → Backend)
       inl (record { extra = []; part = []; did = did_decline heard backends over dialer k k' reads reads' words words' p p' call step.HistoryFull undrawn made; so = (call, refl, refl, refl, made.why) })
   call_fails over dialer k k' reads reads' words words' p p' call step.NoMemory undrawn made =
       inl (record { extra = []; part = []; did = did_decline heard backends over dialer k k' reads reads' words words' p p' call step.NoMemory undrawn made; so = (refl, tt) })
-    call_fails over dialer k k' reads reads' words words' p p' call step.SegmentFull undrawn made = absurd made.why
+  call_fails over dialer k k' reads reads' words words' p p' call step.SegmentFull undrawn made = absurd made.why
 
   pub exchange_gives : (k : CallerKnows) (over : Option Flow) (reads reads' words words' : Option Tape) (dialer dialer' : DialerTold L) (p p' : Progress) (number : ℕ) (name : List ℕ)
       (request : BackendRequest) (got : Got) → words' ≡ words → got.exchange ≢ exchange.NoMemory → Exchanges heard (backends name) request reads reads' dialer dialer' p p' got
