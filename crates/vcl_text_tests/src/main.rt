@@ -22,33 +22,20 @@ use vmod_host::{
     toupper,
 };
 
-// The signatures of the functions of `std`.
-struct Usual {
-    lower: Signature,
-    upper: Signature,
-    number: Signature,
-    length: Signature,
-}
-
-fn std_signatures(alloc: Global) -> Result<Usual, AllocError> {
-    let text = [Kind::String];
-    let number = [Kind::String, Kind::Int];
-    Ok(Usual {
-        lower: Signature::of(alloc, b"std", b"tolower", &text, Kind::String)?,
-        upper: Signature::of(alloc, b"std", b"toupper", &text, Kind::String)?,
-        number: Signature::of(alloc, b"std", b"integer", &number, Kind::Int)?,
-        length: Signature::of(alloc, b"std", b"strlen", &text, Kind::Int)?,
-    })
-}
-
 // The functions of `std`, and behind them those that are never called, whose signatures alone rows read.
 fn main(rt: HostRuntime) -> io::Result<()> {
-    let Usual {
-        lower,
-        upper,
-        number,
-        length,
-    } = std_signatures(rt.alloc())?;
+    let alloc = rt.alloc();
+    let text = [Kind::String];
+    let lower = Signature::of(alloc, b"std", b"tolower", &text, Kind::String)?;
+    let upper = Signature::of(alloc, b"std", b"toupper", &text, Kind::String)?;
+    let number = Signature::of(
+        alloc,
+        b"std",
+        b"integer",
+        &[Kind::String, Kind::Int],
+        Kind::Int,
+    )?;
+    let length = Signature::of(alloc, b"std", b"strlen", &text, Kind::Int)?;
     let usual = [
         Vmod {
             tag: TOLOWER,
@@ -71,13 +58,9 @@ fn main(rt: HostRuntime) -> io::Result<()> {
             call: strlen,
         },
     ];
-    let list = Vec::from_array(rt.alloc(), usual)?;
-    with_uncalled(&rt, list)
-}
-
-fn with_uncalled(rt: &HostRuntime, mut list: Vec<Vmod>) -> io::Result<()> {
+    let mut list = Vec::from_array(alloc, usual)?;
     let mut tag: u32 = 99;
-    for signature in uncalled(rt.alloc())? {
+    for signature in uncalled(alloc)? {
         list.push(Vmod {
             tag,
             signature,
@@ -85,7 +68,7 @@ fn with_uncalled(rt: &HostRuntime, mut list: Vec<Vmod>) -> io::Result<()> {
         })?;
         tag = tag.wrapping_add(1);
     }
-    with_list(rt, list)
+    with_list(&rt, list)
 }
 
 // A second function of a name, two that are named like the method by which a director takes a backend, and four that no text
