@@ -1,10 +1,11 @@
 // How words are read as a ban, and what the ban matches.
 use crate::lines::words_of;
 use ban_expr::{BanError, Prepared, object_only, one_ban, prepare, read, test};
-use cache_law::Ban;
+use ban_lurker::{BanRun, Chore, Verdict, judge};
+use cache_law::{Ban, Issued, ObjectView};
 use core_rows::{object, view};
 use std::alloc::{AllocError, Global};
-use units::Shared;
+use units::{Sequence, Shared};
 
 // When the bans are issued.
 const ISSUED: u64 = 11_000;
@@ -38,6 +39,7 @@ fn matches_shown(alloc: Global, word: &str, ban: Ban) -> Result<String, AllocErr
             format!(in alloc; "{count} conditions")
         }
         "ban_request" => request_shown(alloc, &ban),
+        "judge" => judged_shown(alloc, ban),
         _ => objects_shown(alloc, ban),
     }
 }
@@ -67,4 +69,52 @@ fn objects_shown(alloc: Global, ban: Ban) -> Result<String, AllocError> {
 fn matches_object(alloc: Global, ready: &Prepared, words: &str) -> Result<bool, AllocError> {
     let object = object(alloc, words)?;
     ready.test(alloc, ISSUED, &object, None)
+}
+
+// What is found of the response, with the chore's numbers, and of the marker; or that the ban is on requests.
+fn judged_shown(alloc: Global, ban: Ban) -> Result<String, AllocError> {
+    let ban = Shared::new(alloc, ban)?;
+    let of_response = verdict_on(alloc, &ban, RESPONSE)?;
+    let of_marker = verdict_on(alloc, &ban, MARKER)?;
+    match (of_response, of_marker) {
+        (Some(response), Some(marker)) => {
+            let Verdict {
+                object,
+                mark,
+                upto,
+                ..
+            } = response;
+            format!(in alloc; "{object} {mark} {upto} {} {}", response.dead, marker.dead)
+        }
+        _ => format!(in alloc; "on requests"),
+    }
+}
+
+fn verdict_on(
+    alloc: Global,
+    ban: &Shared<Ban>,
+    words: &str,
+) -> Result<Option<Verdict>, AllocError> {
+    let mut issued = Vec::with_capacity(alloc, 1)?;
+    issued.push(Issued {
+        number: 3,
+        moment: ISSUED,
+        ban: ban.copy()?,
+    })?;
+    let Some(bans) = BanRun::of(Sequence::from_vec(issued)) else {
+        return Ok(None);
+    };
+    let view = ObjectView {
+        number: 7,
+        hits: 0,
+        object: object(alloc, words)?,
+    };
+    let chore = Chore {
+        object: 7,
+        mark: 2,
+        upto: 3,
+        view,
+        bans,
+    };
+    Ok(Some(judge(alloc, chore)?))
 }
