@@ -21,7 +21,7 @@ fn open<C: CacheCore + Drop>(
     ensures { IfOk result (λ r. IsPassOf r.0 r.1 × ((known r.1).number ≡ first) × ((known r.1).upto ≡ 2 ^ 32)) }
 {
     let core = core_of(alloc, Params::DEFAULT_ROOM, Params::DEFAULT_HISTORY)?;
-    match SharedCache::open(alloc, core, first) {
+    match SharedCache::open(alloc, core, first, 0) {
         Ok(opened) => Ok(opened),
         Err(_) => Err(AllocError),
     }

@@ -8,7 +8,8 @@ use units::{Sequence, Text};
 
 /// A new core at these limits, which keeps no segments.
 pub fn core_of<C: CacheCore>(alloc: Global, room: u64, history: u64) -> Result<C, AllocError>
-    ensures { IfOk result (λ core. (C.history core ≡ []) × Legal (C.beginning core) [] × ((C.beginning core).params.segments ≡ false)) }
+    ensures { IfOk result (λ core. (C.history core ≡ []) × Legal (C.beginning core) [] × ((C.beginning core).params.segments ≡ false)
+        × ((C.beginning core).base.entries ≡ 0)) }
 {
     let text = Text::of(alloc, b"vcl 4.1;")?;
     let boot = Boot {

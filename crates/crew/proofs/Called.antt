@@ -3,9 +3,10 @@ use Rattle.std.proofs.Common.{◌≡◌, ℕ, ◌+◌, List, [], ◌∷◌, ◌+
 use Rattle.std.proofs.lemmas.List.{append-nil, append_assoc, append_cancel_left}
 use Rattle.cache_law.specs.declared.call.Entry.{Entry}
 use Rattle.cache_law.specs.Beginning.{Beginning}
-use Rattle.turnstile.specs.Knowledge.{saw, mine, places, places_from}
+use Rattle.turnstile.specs.Knowledge.{saw, places_from}
 use Rattle.turnstile.proofs.Places.{places_from-append}
-use Rattle.shared_cache.specs.Sharing.{CallerKnows, caller_of}
+use Rattle.shared_cache.specs.Sharing.{CallerKnows, caller_of, made_before, numbers}
+use Rattle.shared_cache.proofs.Numbers.{before_is}
 use Rattle.wire.specs.Telling.{LinkTold}
 use Rattle.workers.specs.Serving.{AllServed}
 use Rattle.crew.specs.Calls.{HasCalled}
@@ -15,7 +16,7 @@ pub called_none : (k : CallerKnows) → HasCalled k k []
 called_none k = record {
   between = [];
   knows = ap (λ (h : List Entry). saw k h) (sym (append-nil k.seen));
-  gained = sym (append-nil (mine caller_of k));
+  gained = sym (append-nil (numbers k));
 }
 
 pub called_seen : (k after : CallerKnows) (places : List ℕ) → (c : HasCalled k after places) → after.seen ≡ k.seen ++ c.between
@@ -33,18 +34,19 @@ called_then k mid after places more a b =
     ap (λ (h : List Entry). h ++ b.between) (called_seen k mid places a) ∙ append_assoc k.seen a.between b.between in record {
       between = a.between ++ b.between;
       knows = b.knows ∙ (ap (λ (z : CallerKnows). saw z (mid.seen ++ b.between)) a.knows ∙ ap (λ (h : List Entry). saw k h) seen);
-      gained = b.gained ∙ (ap (λ (ps : List ℕ). ps ++ more) a.gained ∙ append_assoc (mine caller_of k) places more);
+      gained = b.gained ∙ (ap (λ (ps : List ℕ). ps ++ more) a.gained ∙ append_assoc (numbers k) places more);
     }
 
--- the places that are gained are those of the number in what was seen since
-pub called_places : (k after : CallerKnows) (gained : List ℕ) → (c : HasCalled k after gained) → gained ≡ places_from caller_of k.number (length k.seen) c.between
-called_places k after gained c =
-    let whole : mine caller_of after ≡ places caller_of k.number (k.seen ++ c.between) = ap (λ (z : CallerKnows). mine caller_of z) c.knows in
-    let split = places_from-append caller_of k.number 0 k.seen c.between in
-    let z : 0 + length k.seen ≡ length k.seen = omega arith in
-    let at : places caller_of k.number (k.seen ++ c.between) ≡ mine caller_of k ++ places_from caller_of k.number (length k.seen) c.between =
-    split ∙ ap (λ (n : ℕ). mine caller_of k ++ places_from caller_of k.number n c.between) z in
-    append_cancel_left (mine caller_of k) gained (places_from caller_of k.number (length k.seen) c.between) (sym c.gained ∙ (whole ∙ at))
+-- the places that are gained are those of the number in what was seen since, where no entry was made before the history
+pub called_places : (k after : CallerKnows) (gained : List ℕ) → (c : HasCalled k after gained) → made_before k ≡ 0
+    → gained ≡ places_from caller_of k.number (length k.seen) c.between
+called_places k after gained c none =
+    let whole : numbers after ≡ places_from caller_of k.number (made_before k) (k.seen ++ c.between) = ap numbers c.knows in
+    let split = places_from-append caller_of k.number (made_before k) k.seen c.between in
+    let z : made_before k + length k.seen ≡ length k.seen = omega (arith, none) in
+    let at : places_from caller_of k.number (made_before k) (k.seen ++ c.between) ≡ numbers k ++ places_from caller_of k.number (length k.seen) c.between =
+    split ∙ ap (λ (n : ℕ). numbers k ++ places_from caller_of k.number n c.between) z in
+    append_cancel_left (numbers k) gained (places_from caller_of k.number (length k.seen) c.between) (sym c.gained ∙ (whole ∙ at))
 
 -- where a worker stands with this shift
 abbrev pub stand_of : {H K : Type 0} → (H → CallerKnows) → (H → K) → H → Stand K
@@ -91,15 +93,16 @@ module _ {H K L T : Type 0} (Serves : H → H → LinkTold → LinkTold → T �
       called_then (knows old) (knows all.0) (knows new) (places_of t) (all_places places_of ts) (calls old all.0 all.1.opening (told l) t all.1.serves)
       (all_called all.0 new ls ts all.2)
 
-  pub all_told : (old new : H) (links : List L) (transcripts : List T) → AllServed Serves told old new links transcripts → (knows new).setting ≡ Some beginning
+  pub all_told : (old new : H) (links : List L) (transcripts : List T) → AllServed Serves told old new links transcripts → (knows new).setting ≡ Some beginning → beginning.base.entries ≡ 0
       → AllTold places_of (Tells (knows new).seen) told (knows old).number (stand_of knows kit_of old) (stand_of knows kit_of new) links transcripts
-  all_told old new [] [] same set = ap (stand_of knows kit_of) same
-  all_told old new [] (t ∷ ts) never set = absurd never
-  all_told old new (l ∷ ls) [] never set = absurd never
-  all_told old new (l ∷ ls) (t ∷ ts) all set =
+  all_told old new [] [] same set first = ap (stand_of knows kit_of) same
+  all_told old new [] (t ∷ ts) never set first = absurd never
+  all_told old new (l ∷ ls) [] never set first = absurd never
+  all_told old new (l ∷ ls) (t ∷ ts) all set first =
       let rest = all_called all.0 new ls ts all.2 in
       let here = calls old all.0 all.1.opening (told l) t all.1.serves in
-      let begun = sym (called_setting (knows all.0) (knows new) (all_places places_of ts) rest) ∙ set in (
+      let begun = sym (called_setting (knows all.0) (knows new) (all_places places_of ts) rest) ∙ set in
+      let none = before_is (knows old) beginning (sym (called_setting (knows old) (knows all.0) (places_of t) here) ∙ begun) ∙ first in (
         stand_of knows kit_of all.0,
         record {
           opening = all.1.opening;
@@ -112,8 +115,8 @@ module _ {H K L T : Type 0} (Serves : H → H → LinkTold → LinkTold → T �
               (tells old all.0 all.1.opening (told l) t all.1.serves begun));
           between = here.between;
           seen = called_seen (knows old) (knows all.0) (places_of t) here;
-          places = called_places (knows old) (knows all.0) (places_of t) here;
+          places = called_places (knows old) (knows all.0) (places_of t) here none;
         },
         subst (λ (n : ℕ). AllTold places_of (Tells (knows new).seen) told n (stand_of knows kit_of all.0) (stand_of knows kit_of new) ls ts) (called_number (knows old) (knows all.0) (places_of t) here)
-            (all_told all.0 new ls ts all.2 set),
+            (all_told all.0 new ls ts all.2 set first),
       )

@@ -70,7 +70,7 @@ module _ {H L T A B D K : Type 0} (IsPass : Pass Entry Beginning → Type 0) (Un
           beginning = b;
           numbers = all.hires.numbers;
           left = all_left IsPass Unused pass_of kit_of b places_of (Tells b) told Ready Serves passes calls
-              (λ old new opening closing transcript serves begun. tells old new opening closing transcript b serves begun) (longer b) all.hires.numbers all.olds ws hired all.worked;
+              (λ old new opening closing transcript serves begun. tells old new opening closing transcript b serves begun) (longer b) all.first.can_begin.first all.hires.numbers all.olds ws hired all.worked;
           knows = all.hires.knows ∙ ap (λ (z : CallerKnows). record z { upto = k.upto; made = z.made ++ all.hires.numbers }) all.first.knows;
           once = all.hires.once;
         }

@@ -8,8 +8,9 @@ use Rattle.cache_law.specs.Beginning.{Beginning}
 use Rattle.turnstile.specs.declared.handles.Pass.{Pass}
 use Rattle.turnstile.specs.declared.knowledge.Ended.{Ended}
 use Rattle.turnstile.specs.Handles.{known}
-use Rattle.turnstile.specs.Knowledge.{mine, places}
-use Rattle.shared_cache.specs.Sharing.{CallerKnows, caller_of}
+use Rattle.turnstile.specs.Knowledge.{mine, places, places_from}
+use Rattle.shared_cache.specs.Sharing.{CallerKnows, caller_of, made_before, numbers}
+use Rattle.shared_cache.proofs.Numbers.{before_is, numbers_mine}
 use Rattle.wire.specs.Telling.{LinkTold}
 use Rattle.world.specs.declared.kit.Kit.{Kit}
 use Rattle.workers.specs.Working.{HasWorked}
@@ -39,7 +40,8 @@ module _ {H L T A B D K : Type 0} (IsPass : Pass Entry Beginning → Type 0) (Un
     (tells : (old new : H) (opening closing : LinkTold) (transcript : T) → Serves old new opening closing transcript → (known (pass_of new)).setting ≡ Some beginning
     → Tells (known (pass_of new)).seen (known (pass_of old)).number (kit_of old) (kit_of new) opening closing transcript)
     (longer : (history more : List Entry) (number : ℕ) (before after : Kit D K) (opening closing : LinkTold) (transcript : T)
-    → Tells history number before after opening closing transcript → Tells (history ++ more) number before after opening closing transcript) where
+    → Tells history number before after opening closing transcript → Tells (history ++ more) number before after opening closing transcript)
+    (first : beginning.base.entries ≡ 0) where
   left_one : (n : ℕ) (old new : Worker H L T A B) → IsHired IsPass Unused pass_of kit_of (Some beginning) n old → HasWorked Ready Serves told old new
       → HasLeft IsPass Unused pass_of kit_of (Some beginning) places_of Tells told n new
   left_one n old new hired worked =
@@ -51,8 +53,8 @@ module _ {H L T A B D K : Type 0} (IsPass : Pass Entry Beginning → Type 0) (Un
       let set = called_setting (known (pass_of w.before)) (known (pass_of w.after)) (all_places places_of w.more) called ∙ fresh.setting_is in
       let links : new.links.items ≡ w.more_links = w.links_are ∙ ap (λ (ls : List L). ls ++ w.more_links) hired.no_link in
       let transcripts : new.transcripts.items ≡ w.more = w.transcripts_are ∙ ap (λ (ts : List T). ts ++ w.more) hired.no_transcript.0 in
-      let none : mine caller_of (known (pass_of w.before)) ≡ [] = ap (places caller_of (known (pass_of w.before)).number) fresh.unseen in
-      let is_told = all_told Serves told (λ (h : H). known (pass_of h)) kit_of places_of Tells beginning calls tells longer w.before w.after w.more_links w.more w.served set in
+      let none : numbers (known (pass_of w.before)) ≡ [] = ap (places_from caller_of (known (pass_of w.before)).number (made_before (known (pass_of w.before)))) fresh.unseen in
+      let is_told = all_told Serves told (λ (h : H). known (pass_of h)) kit_of places_of Tells beginning calls tells longer w.before w.after w.more_links w.more w.served set first in
       record {
         shift = w.after;
         has = w.has;
@@ -61,7 +63,8 @@ module _ {H L T A B D K : Type 0} (IsPass : Pass Entry Beginning → Type 0) (Un
         setting_is = set;
         none_made = ap (λ (k : CallerKnows). k.made) called.knows ∙ fresh.none_made;
         none_ended = ap (λ (k : CallerKnows). k.ended) called.knows ∙ fresh.none_ended;
-        mine_is = called.gained ∙ (ap (λ (ps : List ℕ). ps ++ all_places places_of w.more) none ∙ ap (λ (ts : List T). all_places places_of ts) (sym transcripts));
+        mine_is = sym (numbers_mine (known (pass_of w.after)) (before_is (known (pass_of w.after)) beginning set ∙ first))
+            ∙ (called.gained ∙ (ap (λ (ps : List ℕ). ps ++ all_places places_of w.more) none ∙ ap (λ (ts : List T). all_places places_of ts) (sym transcripts)));
         first = kit_of w.before;
         unused = unused;
         is_told = subst (λ (m : ℕ). AllTold places_of (Tells (known (pass_of w.after)).seen) told m (record { kit = kit_of w.before; seen = [] }) (stand_of (λ (x : H). known (pass_of x)) kit_of w.after) new.links.items new.transcripts.items) fresh.number_is

@@ -160,6 +160,7 @@ fn open_all<C: CacheCore + Drop, S: Drop, L: Drop, T: Drop, A: Quota, B: Ledger>
 ) -> Option<(SharedCache<C>, CachePass, Room<S, L, T, A, B>)>
     requires empty { C.history core ≡ [] }
     requires whole { IsKeptWhole (C.beginning core) [] }
+    requires first { (C.beginning core).base.entries ≡ 0 }
     ensures pass { IfSome result (λ all. IsPassOf all.0 all.1) }
     ensures first { IfSome result (λ all. known all.1 ≡ opened 0 (C.beginning core)) }
     ensures none { IfSome result (λ all. (all.2.workers.items ≡ []) × (all.2.shifts.items ≡ []) × (all.2.transcripts.items ≡ [])) }
@@ -169,7 +170,7 @@ fn open_all<C: CacheCore + Drop, S: Drop, L: Drop, T: Drop, A: Quota, B: Ledger>
     let Ok(room) = Room::new(alloc, workers, connections) else {
         return None;
     };
-    let Ok((cache, root)) = SharedCache::open(alloc, core, 0) else {
+    let Ok((cache, root)) = SharedCache::open(alloc, core, 0, 0) else {
         drop(room);
         return None;
     };

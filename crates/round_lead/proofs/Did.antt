@@ -18,19 +18,19 @@ use Rattle.cache_law.specs.declared.cache.StepError.{StepError}
 use Rattle.cache_law.specs.declared.rounds.Given.TheVariants as given
 use Rattle.delivery.specs.declared.finishing.Delivery.{Delivery}
 use Rattle.delivery.specs.Sent.{delivery_text}
-use Rattle.shared_cache.specs.Sharing.{CallerKnows}
+use Rattle.shared_cache.specs.Sharing.{CallerKnows, made_before}
 use Rattle.round_task.specs.declared.want.Want.TheVariants.{Exchange, Send}
 use Rattle.round_task.specs.Happened.{Happened, entries_of, exchanges_of}
 use Rattle.round_lead.specs.declared.cut.Cut.{Cut}
 use Rattle.round_lead.specs.declared.keeping.Progress.{Progress}
-use Rattle.round_lead.specs.Seen.{StandAt}
+use Rattle.round_lead.specs.Seen.{StandAt, count_seen}
 use Rattle.round_lead.specs.Tapes.{Went, ToldIn}
 use Rattle.round_lead.specs.Steps.{At, Did, Makes, Declines, Exchanges, Sends, SendsPart, SameCalls}
 use Rattle.round_lead.specs.Talks.{TalksOf}
 use Rattle.round_lead.specs.Onward.{happened}
 use Rattle.round_lead.specs.Things.{called, closes_of}
 use Rattle.round_lead.proofs.Told.{Went-none, Went-same, Went-then, Went-told, ToldIn-now, ToldIn-wider}
-use Rattle.round_lead.proofs.Seen.{stand_longer, stand_then, rise_then, called_none, called_then, called_number, called_seen, called_longer, one_called, one_stands, one_rises}
+use Rattle.round_lead.proofs.Seen.{stand_longer, stand_then, rise_then, called_none, called_then, called_number, called_seen, called_before, called_longer, one_called, one_stands, one_rises}
 use Rattle.round_lead.proofs.Things.{entries_of-append, exchanges_of-append, closes_of-append, or_none, or_then, talks_then, all_then, all_wider}
 
 abbrev pub at : {L : Type 0} → CallerKnows → Option Flow → Option Tape → Option Tape → DialerTold L → Progress → At L
@@ -72,16 +72,18 @@ module _ {L : Type 0} (heard : L → LinkTold) (backends : List ℕ → Backend)
   did_then x y z xs ys sent more one two =
       let seen = called_seen y.known z.known two.places two.called in
       let number = called_number x.known y.known one.places one.called in
-      let first = subst (λ (h : List Entry). StandAt h one.places (entries_of x.known.number xs)) (sym seen)
-      (stand_longer y.known.seen two.called.between one.places (entries_of x.known.number xs) one.stand) in
-      let second = subst (λ (n : ℕ). StandAt z.known.seen two.places (entries_of n ys)) number two.stand in
+      let from = called_before y.known z.known two.places two.called in
+      let first = subst (λ (h : List Entry). StandAt (made_before z.known) h one.places (entries_of x.known.number xs)) (sym seen)
+      (stand_longer (made_before z.known) y.known.seen two.called.between one.places (entries_of x.known.number xs)
+      (subst (λ (n : ℕ). StandAt n y.known.seen one.places (entries_of x.known.number xs)) (sym from) one.stand)) in
+      let second = subst (λ (n : ℕ). StandAt (made_before z.known) z.known.seen two.places (entries_of n ys)) number two.stand in
       record {
         places = one.places ++ two.places;
         called = called_then x.known y.known z.known one.places two.places one.called two.called;
         places_are = two.places_are ∙ (ap (λ (ps : List ℕ). ps ++ two.places) one.places_are ∙ append_assoc x.places one.places two.places);
-        stand = subst (λ (es : List Entry). StandAt z.known.seen (one.places ++ two.places) es) (sym (entries_of-append x.known.number xs ys))
-            (stand_then z.known.seen one.places two.places (entries_of x.known.number xs) (entries_of x.known.number ys) first second);
-        rise = rise_then (length x.known.seen) (length y.known.seen) (length z.known.seen) one.places two.places one.rise two.rise;
+        stand = subst (λ (es : List Entry). StandAt (made_before z.known) z.known.seen (one.places ++ two.places) es) (sym (entries_of-append x.known.number xs ys))
+            (stand_then (made_before z.known) z.known.seen one.places two.places (entries_of x.known.number xs) (entries_of x.known.number ys) first second);
+        rise = rise_then (count_seen x.known) (count_seen y.known) (count_seen z.known) one.places two.places one.rise two.rise;
         exchanges_are = two.exchanges_are
             ∙ (ap (λ (es : List Got). es ++ exchanges_of ys) one.exchanges_are
             ∙ (append_assoc x.exchanges (exchanges_of xs) (exchanges_of ys) ∙ ap (λ (es : List Got). x.exchanges ++ es) (sym (exchanges_of-append xs ys))));
@@ -131,8 +133,8 @@ module _ {L : Type 0} (heard : L → LinkTold) (backends : List ℕ → Backend)
       places = told.place ∷ [];
       called = one_called k k' made.reading call told made.knows made.called;
       places_are = made.places_are;
-      stand = (one_stands k k' made.reading call told made.called, tt);
-      rise = one_rises k k' made.reading call told made.called;
+      stand = (one_stands k k' made.reading call told made.knows made.called, tt);
+      rise = one_rises k k' made.reading call told made.knows made.called;
       exchanges_are = made.rest.exchanges ∙ sym (append-nil p.exchanges.items);
       timed = tt;
       sent_are = made.rest.sent ∙ sym (append-nil p.sent.items);
@@ -198,7 +200,7 @@ module _ {L : Type 0} (heard : L → LinkTold) (backends : List ℕ → Backend)
       places = [];
       called = called_none k;
       places_are = ap (λ (v : _). v.items) rest.numbers ∙ sym (append-nil p.numbers.items);
-      stand = subst (λ (es : List Entry). StandAt k.seen [] es) (sym no_entry) tt;
+      stand = subst (λ (es : List Entry). StandAt (made_before k) k.seen [] es) (sym no_entry) tt;
       rise = omega arith;
       exchanges_are = ap (λ (v : _). v.items) rest.exchanges ∙ (sym (append-nil p.exchanges.items) ∙ ap (λ (es : List Got). p.exchanges.items ++ es) (sym no_exchange));
       timed = subst (λ (es : List Got). AllByRecursion (λ (got : Got). ToldIn reads reads got.moment) es) (sym no_exchange) tt;

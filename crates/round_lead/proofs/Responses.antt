@@ -1,5 +1,5 @@
 -- A round from its Begin to its End, as a response over what its caller's pass has then seen.
-use Rattle.std.proofs.Common.{◌≡◌, ℕ, Bool, true, false, ◌||◌, List, [], ◌∷◌, ◌++◌, length, Option, Some, Result, Ok, Err, refl, sym, ap, ◌∙◌, subst, inl, inr, arith}
+use Rattle.std.proofs.Common.{◌≡◌, ℕ, Bool, true, false, ◌||◌, List, [], ◌∷◌, ◌++◌, ◌+◌, length, Option, Some, Result, Ok, Err, refl, sym, ap, ◌∙◌, subst, inl, inr, arith}
 use Rattle.std.specs.List.{AllByRecursion}
 use Rattle.std.specs.Result.{OnOk, IfErr}
 use Rattle.std.proofs.lemmas.List.{append-nil}
@@ -18,14 +18,14 @@ use Rattle.cache_law.specs.declared.rounds.Given.TheVariants as given
 use Rattle.cache_law.specs.declared.rounds.Request.{Request}
 use Rattle.cache_law.specs.Beginning.{Beginning}
 use Rattle.cache_law.specs.Core.{entry_of, moment_of, FitsBehind}
-use Rattle.shared_cache.specs.Sharing.{CallerKnows}
+use Rattle.shared_cache.specs.Sharing.{CallerKnows, made_before}
 use Rattle.round_task.specs.declared.want.Want.{Want}
 use Rattle.round_task.specs.declared.want.Want.TheVariants.{Cache, Exchange}
 use Rattle.round_task.specs.Happened.{Happened, behind, entries_for, entries_of, exchanges_of, bytes_of}
 use Rattle.round_lead.specs.declared.cut.Cut.{Cut}
 use Rattle.round_lead.specs.declared.cut.Cut.TheVariants.{HistoryFull, NoMemory, WriteFault}
 use Rattle.round_lead.specs.declared.keeping.Progress.{Progress}
-use Rattle.round_lead.specs.Seen.{HasCalled, StandsAt, StandAt, RiseIn}
+use Rattle.round_lead.specs.Seen.{HasCalled, StandsAt, StandAt, RiseIn, count_seen}
 use Rattle.round_lead.specs.Tapes.{Went, ToldIn, WasDrawn}
 use Rattle.round_lead.specs.Talks.{TalksOf}
 use Rattle.round_lead.specs.Things.{called, ended, closes_of}
@@ -37,17 +37,19 @@ use Rattle.round_lead.specs.Endings.{answered_of, answered_so}
 use Rattle.round_lead.specs.Onward.{WantsNow, Whole, Cuts, Breaks}
 use Rattle.round_lead.specs.Leading.{Begins, BeginRefused, Declined, kept}
 use Rattle.round_lead.proofs.Told.{Went-none, Went-then, ToldIn-wider, WasDrawn-wider}
-use Rattle.round_lead.proofs.Seen.{stands_longer, stand_longer, rise_from_none, called_number, called_setting, called_seen}
+use Rattle.shared_cache.proofs.Numbers.{before_is}
+use Rattle.round_lead.proofs.Seen.{stands_longer, stand_longer, rise_from_none, called_number, called_setting, called_seen, called_before}
 use Rattle.round_lead.proofs.Things.{entries_of-append, bytes_of-append, runs_then, runs_wider}
 use Rattle.round_lead.proofs.Did.{at, did_then}
 use Rattle.round_lead.proofs.Onward.{cut_weaker, wants_later}
 
 -- ---- one thing, that left one place
 
-one_place : (history : List Entry) (places : List ℕ) (entry : Entry) → StandAt history places (entry ∷ []) → (place : ℕ) × (places ≡ place ∷ []) × StandsAt history place entry
-one_place history [] entry stand = absurd stand
-one_place history (place ∷ []) entry stand = (place, refl, stand.0)
-one_place history (place ∷ other ∷ more) entry stand = absurd stand.1
+one_place : (from : ℕ) (history : List Entry) (places : List ℕ) (entry : Entry) → StandAt from history places (entry ∷ [])
+    → (place : ℕ) × (places ≡ place ∷ []) × StandsAt from history place entry
+one_place from history [] entry stand = absurd stand
+one_place from history (place ∷ []) entry stand = (place, refl, stand.0)
+one_place from history (place ∷ other ∷ more) entry stand = absurd stand.1
 
 module _ {L : Type 0} (heard : L → LinkTold) (backends : List ℕ → Backend) where
   no_talk : (told : Told) (call : Call) (talks : List (Talk L)) → TalksOf heard backends (called call told ∷ []) talks → talks ≡ []
@@ -57,13 +59,13 @@ module _ {L : Type 0} (heard : L → LinkTold) (backends : List ℕ → Backend)
   record Shuts (y z : At L) (told : Told) : Type 0 where
     place : ℕ
     places_are : z.places ≡ y.places ++ place ∷ []
-    ends : StandsAt z.known.seen place (entry_of y.known.number End told)
+    ends : StandsAt (made_before z.known) z.known.seen place (entry_of y.known.number End told)
     exchanges_are : z.exchanges ≡ y.exchanges
     sent_are : z.sent ≡ y.sent
 
   shuts : (y z : At L) (told : Told) → Did heard backends y z (ended told ∷ []) [] → Shuts y z told
   shuts y z told did =
-      let one = one_place z.known.seen did.places (entry_of y.known.number End told) did.stand in
+      let one = one_place (made_before z.known) z.known.seen did.places (entry_of y.known.number End told) did.stand in
       record {
         place = one.0;
         places_are = did.places_are ∙ ap (λ (ps : List ℕ). y.places ++ ps) one.1;
@@ -74,8 +76,8 @@ module _ {L : Type 0} (heard : L → LinkTold) (backends : List ℕ → Backend)
 
   -- from where nothing is kept yet, what is kept is what happened
   record Whence (x y : At L) (steps : List Happened) (sent : List ℕ) : Type 0 where
-    stand : StandAt y.known.seen y.places (entries_of x.known.number steps)
-    rise : RiseIn 0 (length y.known.seen) y.places
+    stand : StandAt (made_before y.known) y.known.seen y.places (entries_of x.known.number steps)
+    rise : RiseIn 0 (count_seen y.known) y.places
     called : HasCalled x.known y.known y.places
     exchanges_are : y.exchanges ≡ exchanges_of steps
     sent_are : y.sent ≡ sent
@@ -87,8 +89,8 @@ module _ {L : Type 0} (heard : L → LinkTold) (backends : List ℕ → Backend)
       let places : y.places ≡ did.places = did.places_are ∙ ap (λ (ps : List ℕ). ps ++ did.places) no_place in
       let exchanges : y.exchanges ≡ exchanges_of steps = did.exchanges_are ∙ ap (λ (es : List Got). es ++ exchanges_of steps) no_exchange in
       record {
-        stand = subst (λ (ps : List ℕ). StandAt y.known.seen ps (entries_of x.known.number steps)) (sym places) did.stand;
-        rise = subst (RiseIn 0 (length y.known.seen)) (sym places) (rise_from_none (length x.known.seen) (length y.known.seen) did.places did.rise);
+        stand = subst (λ (ps : List ℕ). StandAt (made_before y.known) y.known.seen ps (entries_of x.known.number steps)) (sym places) did.stand;
+        rise = subst (RiseIn 0 (count_seen y.known)) (sym places) (rise_from_none (count_seen x.known) (count_seen y.known) did.places did.rise);
         called = subst (HasCalled x.known y.known) (sym places) did.called;
         exchanges_are = exchanges;
         sent_are = did.sent_are ∙ ap (λ (bs : List ℕ). bs ++ sent) no_byte;
@@ -133,12 +135,20 @@ module _ {P L : Type 0} (language : Language P) (heard : L → LinkTold) (reques
   abbrev Wanted : P → List Given → Want → Type 0
   Wanted program = WantsBy (language.evaluator program) (WasDrawn first.words words') request peer
 
+  -- its history begins there from its first call to its last
+  began_at : (frame : Frame) (after : CallerKnows) (places : List ℕ) → HasCalled first.known after places → made_before after ≡ beginning.base.entries
+  began_at frame after places called_ = called_before first.known after places called_ ∙ before_is first.known beginning frame.begins
+
+  rise_from : (frame : Frame) (after : CallerKnows) (calls places : List ℕ) → HasCalled first.known after calls → RiseIn 0 (count_seen after) places
+      → RiseIn 0 (beginning.base.entries + length after.seen) places
+  rise_from frame after calls places called_ rise = subst (λ (from : ℕ). RiseIn 0 (from + length after.seen) places) (began_at frame after calls called_) rise
+
   begin_runs : (frame : Frame) (program : P) → Went then_.words words' → Wanted program [] (Cache Begin)
   begin_runs frame program later = (Some frame.opened.first, WasDrawn-wider first.words first.words then_.words words' (Some frame.opened.first) (Went-none first.words) later frame.opened.drawn, refl)
 
   whole_tells : (frame : Frame) (whole : Whole language heard request peer told then_ last) (closes : Bool) → p'.closes ≡ closes
       → (talks : List (Talk L)) × Gains first.dialer dialer' talks × Moves first.flow over' [] p'.sent.items × HasCalled first.known k' p'.numbers.items
-      × Tells language (WasDrawn first.words words') (ToldIn first.readings reads') heard k'.seen first.known.number (kept request peer p') talks closes
+      × Tells language (WasDrawn first.words words') (ToldIn first.readings reads') heard beginning k'.seen first.known.number (kept request peer p') talks closes
   whole_tells frame whole closes closes_are =
       let backends = language.backends whole.program in
       let ending = frame.shut backends in
@@ -167,8 +177,8 @@ module _ {P L : Type 0} (language : Language P) (heard : L → LinkTold) (reques
           front = called Begin told ∷ whole.steps;
           closing = closing;
           to_its_end = refl;
-          stand = from.stand;
-          rise = from.rise;
+          stand = subst (λ (n : ℕ). StandAt n k'.seen p'.numbers.items (entries_of first.known.number all)) (began_at frame k' p'.numbers.items from.called) from.stand;
+          rise = rise_from frame k' p'.numbers.items p'.numbers.items from.called from.rise;
           exchanges_are = from.exchanges_are;
           sent_is = from.sent_are ∙ sym (bytes_of-append whole.steps (ended closing ∷ []));
           timed = from.timed;
@@ -186,11 +196,18 @@ module _ {P L : Type 0} (language : Language P) (heard : L → LinkTold) (reques
       let told_ = whole_tells frame whole false closes_are in
       (record { beginning = beginning; begins = called_setting first.known k' p'.numbers.items told_.3 ∙ frame.begins; called = told_.3; talks = told_.0; gained = told_.1; response = told_.4 }, told_.2)
 
+  -- its End stands there
+  ends_at : (frame : Frame) (place : ℕ) {number : ℕ} → number ≡ first.known.number → HasCalled first.known k' p'.numbers.items
+      → StandsAt (made_before k') k'.seen place (entry_of number End closing) → StandsAt beginning.base.entries k'.seen place (entry_of first.known.number End closing)
+  ends_at frame place number called_ ends =
+      subst (λ (from : ℕ). StandsAt from k'.seen place (entry_of first.known.number End closing)) (began_at frame k' p'.numbers.items called_)
+      (subst (λ (n : ℕ). StandsAt (made_before k') k'.seen place (entry_of n End closing)) number ends)
+
   -- ---- one that was cut short
 
   -- a call that didn't fit what was seen then doesn't fit a front of what is seen now
   didnt_fit : (frame : Frame) (from : List ℕ) (between : List Entry) (call : Call) → last.known.setting ≡ Some beginning → last.known.number ≡ first.known.number → k'.seen ≡ last.known.seen ++ between
-      → RiseIn 0 (length last.known.seen) from → Went first.readings then_.readings → Went last.readings reads' → Refused last.known then_.readings last.readings call
+      → RiseIn 0 (beginning.base.entries + length last.known.seen) from → Went first.readings then_.readings → Went last.readings reads' → Refused last.known then_.readings last.readings call
       → DidntFit (ToldIn first.readings reads') beginning k'.seen first.known.number from call
   didnt_fit frame from between call begins number seen rise earlier later refused =
       let same : refused.beginning ≡ beginning = let e : Some refused.beginning ≡ Some beginning = sym refused.begins ∙ begins in cc in
@@ -248,14 +265,15 @@ module _ {P L : Type 0} (language : Language P) (heard : L → LinkTold) (reques
           cut_so = cut_weaker (WantsNow language heard request peer told cuts.program first.words last.words cuts.steps) (Wanted cuts.program (behind (given.Reply told ∷ []) cuts.steps))
               (Refused last.known then_.readings last.readings) (DidntFit (ToldIn first.readings reads') beginning k'.seen first.known.number last.places) cut cuts.extra cuts.part
               (until (behind (given.Reply told ∷ []) cuts.steps))
-              (λ call refused. didnt_fit frame last.places ending.called.between call (called_setting first.known last.known last.places from.called ∙ frame.begins) number seen from.rise opening.read ending.read refused)
+              (λ call refused. didnt_fit frame last.places ending.called.between call (called_setting first.known last.known last.places from.called ∙ frame.begins) number seen (rise_from frame last.known last.places last.places from.called from.rise) opening.read ending.read refused)
               run.1;
           places_are = end_.places_are;
-          stand = subst (λ (es : List Entry). StandAt k'.seen last.places es) entries
-              (subst (λ (h : List Entry). StandAt h last.places (entries_of first.known.number front)) (sym seen)
-              (stand_longer last.known.seen ending.called.between last.places (entries_of first.known.number front) from.stand));
-          ends = subst (λ (n : ℕ). StandsAt k'.seen end_.place (entry_of n End closing)) number end_.ends;
-          rise = over_all.rise;
+          stand = subst (λ (es : List Entry). StandAt beginning.base.entries k'.seen last.places es) entries
+              (subst (λ (h : List Entry). StandAt beginning.base.entries h last.places (entries_of first.known.number front)) (sym seen)
+              (stand_longer beginning.base.entries last.known.seen ending.called.between last.places (entries_of first.known.number front)
+              (subst (λ (n : ℕ). StandAt n last.known.seen last.places (entries_of first.known.number front)) (began_at frame last.known last.places from.called) from.stand)));
+          ends = ends_at frame end_.place number over_all.called end_.ends;
+          rise = rise_from frame k' p'.numbers.items p'.numbers.items over_all.called over_all.rise;
           exchanges_are = end_.exchanges_are ∙ from.exchanges_are;
           sent_is = end_.sent_are ∙ from.sent_are;
           timed = over_all.timed;
@@ -286,7 +304,7 @@ module _ {P L : Type 0} (language : Language P) (heard : L → LinkTold) (reques
       let did = did_then heard backends first then_ z (called Begin told ∷ []) (ended closing ∷ []) [] [] opening ending in
       let over_all = whence heard backends first z (called Begin told ∷ ended closing ∷ []) [] frame.no_place frame.no_exchange frame.no_byte frame.stays did in
       let end_ = shuts heard backends then_ z closing ending in
-      let begin_ = one_place then_.known.seen then_.places (entry_of first.known.number Begin told) from.stand in
+      let begin_ = one_place (made_before then_.known) then_.known.seen then_.places (entry_of first.known.number Begin told) from.stand in
       let seen = called_seen then_.known k' ending.places ending.called in
       let number = called_number first.known then_.known then_.places from.called in (
         record {
@@ -300,11 +318,12 @@ module _ {P L : Type 0} (language : Language P) (heard : L → LinkTold) (reques
             closed = end_.place;
             opening = told;
             closing = closing;
-            begins = subst (λ (h : List Entry). StandsAt h begin_.0 (entry_of first.known.number Begin told)) (sym seen)
-                (stands_longer then_.known.seen ending.called.between begin_.0 (entry_of first.known.number Begin told) begin_.2);
-            ends = subst (λ (n : ℕ). StandsAt k'.seen end_.place (entry_of n End closing)) number end_.ends;
+            begins = subst (λ (h : List Entry). StandsAt beginning.base.entries h begin_.0 (entry_of first.known.number Begin told)) (sym seen)
+                (stands_longer beginning.base.entries then_.known.seen ending.called.between begin_.0 (entry_of first.known.number Begin told)
+                (subst (λ (n : ℕ). StandsAt n then_.known.seen begin_.0 (entry_of first.known.number Begin told)) (began_at frame then_.known then_.places from.called) begin_.2));
+            ends = ends_at frame end_.place number over_all.called end_.ends;
             places_are = end_.places_are ∙ ap (λ (ps : List ℕ). ps ++ end_.place ∷ []) begin_.1;
-            rise = over_all.rise;
+            rise = rise_from frame k' p'.numbers.items p'.numbers.items over_all.called over_all.rise;
             no_exchange = over_all.exchanges_are;
             nothing_sent = over_all.sent_are;
             no_talk = two_talks backends did.talks did.talked;
@@ -369,7 +388,7 @@ module _ {P L : Type 0} (language : Language P) (heard : L → LinkTold) (reques
       let backends : List ℕ → Backend = λ name. record { name = name; host = []; port = [] } in
       let did = declined.did backends in
       let from = whence heard backends first (at k' over' reads' words' dialer' p') [] [] no_place no_exchange no_byte stays did in
-      let no_number : p'.numbers.items ≡ [] = no_places k'.seen p'.numbers.items from.stand in (
+      let no_number : p'.numbers.items ≡ [] = no_places (made_before k') k'.seen p'.numbers.items from.stand in (
         record {
           beginning = beginning;
           begins = called_setting first.known k' p'.numbers.items from.called ∙ begins;
@@ -382,9 +401,9 @@ module _ {P L : Type 0} (language : Language P) (heard : L → LinkTold) (reques
         (did.read, did.drew),
       )
     where
-      no_places : (history : List Entry) (places : List ℕ) → StandAt history places [] → places ≡ []
-      no_places history [] stand = refl
-      no_places history (place ∷ more) stand = absurd stand
+      no_places : (from : ℕ) (history : List Entry) (places : List ℕ) → StandAt from history places [] → places ≡ []
+      no_places from history [] stand = refl
+      no_places from history (place ∷ more) stand = absurd stand
 
       by_cut : (cut : Cut) → BeginRefused heard first (at k' over' reads' words' dialer' p') cut → (talks : List (Talk L)) → talks ≡ [] → p'.numbers.items ≡ [] → p'.exchanges.items ≡ [] → p'.sent.items ≡ []
           → HasCalled first.known k' p'.numbers.items

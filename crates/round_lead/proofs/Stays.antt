@@ -1,5 +1,5 @@
 -- A response over a history is one over each longer history, told at any later time.
-use Rattle.std.proofs.Common.{ℕ, ◌≤◌, Bool, List, [], ◌++◌, length, Option, ap, ◌∙◌, inl, inr, arith}
+use Rattle.std.proofs.Common.{ℕ, ◌+◌, ◌≤◌, Bool, List, [], ◌++◌, length, Option, ap, ◌∙◌, inl, inr, arith}
 use Rattle.std.specs.List.{AllByRecursion}
 use Rattle.std.proofs.lemmas.List.{append_assoc, length-append}
 use Rattle.http_heads.specs.declared.exchange.Got.{Got}
@@ -33,8 +33,10 @@ module _ {P L : Type 0} (language : Language P) (heard : L → LinkTold) (words 
       → WantsBy (language.evaluator program) words' round.request round.peer givens want
   wants_more program givens want wanted = (wanted.0, drawn wanted.0 wanted.1, wanted.2)
 
-  rises_more : (places : List ℕ) → RiseIn 0 (length history) places → RiseIn 0 (length (history ++ more)) places
-  rises_more places rise = let longer : length history ≤ length (history ++ more) = omega (arith, length-append history more) in rise_higher 0 (length history) (length (history ++ more)) places longer rise
+  rises_more : (places : List ℕ) → RiseIn 0 (beginning.base.entries + length history) places → RiseIn 0 (beginning.base.entries + length (history ++ more)) places
+  rises_more places rise =
+      let longer : beginning.base.entries + length history ≤ beginning.base.entries + length (history ++ more) = omega (arith, length-append history more) in
+      rise_higher 0 (beginning.base.entries + length history) (beginning.base.entries + length (history ++ more)) places longer rise
 
   timed_more : (gots : List Got) → AllByRecursion (λ got. readings got.moment) gots → AllByRecursion (λ got. readings' got.moment) gots
   timed_more gots timed = all_wider (λ (got : Got). readings got.moment) (λ (got : Got). readings' got.moment) gots (λ got told. read got.moment told) timed
@@ -50,7 +52,7 @@ module _ {P L : Type 0} (language : Language P) (heard : L → LinkTold) (words 
     full = didnt.full;
   }
 
-  tells_more : (closes : Bool) → Tells language words readings heard history caller round talks closes → Tells language words' readings' heard (history ++ more) caller round talks closes
+  tells_more : (closes : Bool) → Tells language words readings heard beginning history caller round talks closes → Tells language words' readings' heard beginning (history ++ more) caller round talks closes
   tells_more closes tells = record {
     program = tells.program;
     steps = tells.steps;
@@ -60,7 +62,7 @@ module _ {P L : Type 0} (language : Language P) (heard : L → LinkTold) (words 
     front = tells.front;
     closing = tells.closing;
     to_its_end = tells.to_its_end;
-    stand = stand_longer history more round.numbers.items (entries_of caller tells.steps) tells.stand;
+    stand = stand_longer beginning.base.entries history more round.numbers.items (entries_of caller tells.steps) tells.stand;
     rise = rises_more round.numbers.items tells.rise;
     exchanges_are = tells.exchanges_are;
     sent_is = tells.sent_is;
@@ -85,8 +87,8 @@ module _ {P L : Type 0} (language : Language P) (heard : L → LinkTold) (words 
         (WantsBy (language.evaluator tells.program) words' round.request round.peer (behind [] tells.steps)) (DidntFit readings beginning history caller tells.places)
         (DidntFit readings' beginning (history ++ more) caller tells.places) cut tells.extra tells.part (wants_more tells.program (behind [] tells.steps)) (didnt_fit_more tells.places) tells.cut_so;
     places_are = tells.places_are;
-    stand = stand_longer history more tells.places (entries_of caller tells.steps) tells.stand;
-    ends = stands_longer history more tells.closed (entry_of caller End tells.closing) tells.ends;
+    stand = stand_longer beginning.base.entries history more tells.places (entries_of caller tells.steps) tells.stand;
+    ends = stands_longer beginning.base.entries history more tells.closed (entry_of caller End tells.closing) tells.ends;
     rise = rises_more round.numbers.items tells.rise;
     exchanges_are = tells.exchanges_are;
     sent_is = tells.sent_is;
@@ -94,14 +96,14 @@ module _ {P L : Type 0} (language : Language P) (heard : L → LinkTold) (words 
     talked = tells.talked;
   }
 
-  only_more : OnlyBegan language words readings heard history caller round talks → OnlyBegan language words' readings' heard (history ++ more) caller round talks
+  only_more : OnlyBegan language words readings heard beginning history caller round talks → OnlyBegan language words' readings' heard beginning (history ++ more) caller round talks
   only_more only = record {
     opened = only.opened;
     closed = only.closed;
     opening = only.opening;
     closing = only.closing;
-    begins = stands_longer history more only.opened (entry_of caller Begin only.opening) only.begins;
-    ends = stands_longer history more only.closed (entry_of caller End only.closing) only.ends;
+    begins = stands_longer beginning.base.entries history more only.opened (entry_of caller Begin only.opening) only.begins;
+    ends = stands_longer beginning.base.entries history more only.closed (entry_of caller End only.closing) only.ends;
     places_are = only.places_are;
     rise = rises_more round.numbers.items only.rise;
     no_exchange = only.no_exchange;

@@ -1,5 +1,5 @@
 -- What is kept of a round, as a response over the history: which round it was, and what its client was sent.
-use Rattle.std.specs.Prelude.{◌≡◌, ◌⊎◌, ⊤, ℕ, Bool, true, false, List, [], ◌∷◌, ◌++◌, length, Option, Some}
+use Rattle.std.specs.Prelude.{◌≡◌, ◌⊎◌, ⊤, ℕ, ◌+◌, Bool, true, false, List, [], ◌∷◌, ◌++◌, length, Option, Some}
 use Rattle.std.specs.List.{AllByRecursion}
 use Rattle.http_heads.specs.declared.exchange.Exchange.TheVariants.{NoMemory as Failed}
 use Rattle.wire.specs.Telling.{LinkTold, DialerTold, Gains}
@@ -36,7 +36,7 @@ pub record DidntFit (readings : ℕ → Type 0) (beginning : Beginning) (history
   pub front : List Entry
   pub more : List Entry
   pub begins : history ≡ front ++ more
-  pub has : RiseIn 0 (length front) places
+  pub has : RiseIn 0 (beginning.base.entries + length front) places
   pub reading : ℕ
   pub read : readings reading
   pub full : ¬ FitsBehind beginning front caller (moment_of beginning front reading) call
@@ -69,7 +69,7 @@ RefusedBegin readings beginning history caller WriteFault = ⊥
 -- What the words of directors are, and the readings of the clock. Each exchange's moment is one of these.
 module _ {P L : Type 0} (language : Language P) (words : Option ℕ → Type 0) (readings : ℕ → Type 0) (heard : L → LinkTold) where
   -- A whole round: these things happened in it, and the last is its End.
-  pub record Tells (history : List Entry) (caller : ℕ) (round : Round) (talks : List (Talk L)) (closes : Bool) : Type 0 where
+  pub record Tells (beginning : Beginning) (history : List Entry) (caller : ℕ) (round : Round) (talks : List (Talk L)) (closes : Bool) : Type 0 where
     pub program : P
     pub steps : List Happened
     pub ran : language.programs (text_of steps) program
@@ -77,8 +77,8 @@ module _ {P L : Type 0} (language : Language P) (words : Option ℕ → Type 0) 
     pub front : List Happened
     pub closing : Told
     pub to_its_end : steps ≡ front ++ ended closing ∷ []
-    pub stand : StandAt history round.numbers.items (entries_of caller steps)
-    pub rise : RiseIn 0 (length history) round.numbers.items
+    pub stand : StandAt beginning.base.entries history round.numbers.items (entries_of caller steps)
+    pub rise : RiseIn 0 (beginning.base.entries + length history) round.numbers.items
     pub exchanges_are : round.exchanges.items ≡ exchanges_of steps
     pub sent_is : round.sent.items ≡ bytes_of steps
     pub timed : AllByRecursion (λ got. readings got.moment) round.exchanges.items
@@ -98,9 +98,9 @@ module _ {P L : Type 0} (language : Language P) (words : Option ℕ → Type 0) 
     pub closing : Told
     pub cut_so : CutBy (WantsBy (language.evaluator program) words round.request round.peer (behind [] steps)) (DidntFit readings beginning history caller places) cut extra part
     pub places_are : round.numbers.items ≡ places ++ closed ∷ []
-    pub stand : StandAt history places (entries_of caller steps)
-    pub ends : StandsAt history closed (entry_of caller End closing)
-    pub rise : RiseIn 0 (length history) round.numbers.items
+    pub stand : StandAt beginning.base.entries history places (entries_of caller steps)
+    pub ends : StandsAt beginning.base.entries history closed (entry_of caller End closing)
+    pub rise : RiseIn 0 (beginning.base.entries + length history) round.numbers.items
     pub exchanges_are : round.exchanges.items ≡ exchanges_of (steps ++ extra)
     pub sent_is : round.sent.items ≡ bytes_of steps ++ part
     pub timed : AllByRecursion (λ got. readings got.moment) round.exchanges.items
@@ -115,29 +115,29 @@ module _ {P L : Type 0} (language : Language P) (words : Option ℕ → Type 0) 
     pub no_talk : talks ≡ []
 
   -- One whose VCL couldn't be had for want of memory: no more than its Begin and its End.
-  pub record OnlyBegan (history : List Entry) (caller : ℕ) (round : Round) (talks : List (Talk L)) : Type 0 where
+  pub record OnlyBegan (beginning : Beginning) (history : List Entry) (caller : ℕ) (round : Round) (talks : List (Talk L)) : Type 0 where
     pub opened : ℕ
     pub closed : ℕ
     pub opening : Told
     pub closing : Told
-    pub begins : StandsAt history opened (entry_of caller Begin opening)
-    pub ends : StandsAt history closed (entry_of caller End closing)
+    pub begins : StandsAt beginning.base.entries history opened (entry_of caller Begin opening)
+    pub ends : StandsAt beginning.base.entries history closed (entry_of caller End closing)
     pub places_are : round.numbers.items ≡ opened ∷ closed ∷ []
-    pub rise : RiseIn 0 (length history) round.numbers.items
+    pub rise : RiseIn 0 (beginning.base.entries + length history) round.numbers.items
     pub no_exchange : round.exchanges.items ≡ []
     pub nothing_sent : round.sent.items ≡ []
     pub no_talk : talks ≡ []
 
   -- What is kept of a round is a response over the history, whole or cut short; the talks are those of its exchanges.
   abbrev pub IsResponse : Beginning → List Entry → ℕ → Round → List (Talk L) → Answered → Type 0
-  IsResponse beginning history caller round talks answered.Kept = Tells history caller round talks false
-  IsResponse beginning history caller round talks answered.Closes = Tells history caller round talks true
+  IsResponse beginning history caller round talks answered.Kept = Tells beginning history caller round talks false
+  IsResponse beginning history caller round talks answered.Closes = Tells beginning history caller round talks true
   IsResponse beginning history caller round talks answered.WriteFault = TellsCut beginning history caller round talks WriteFault
   IsResponse beginning history caller round talks answered.HistoryFull =
       TellsCut beginning history caller round talks HistoryFull ⊎ NeverBegan beginning history caller round talks HistoryFull
   IsResponse beginning history caller round talks answered.NoMemory =
       TellsCut beginning history caller round talks NoMemory
-      ⊎ OnlyBegan history caller round talks
+      ⊎ OnlyBegan beginning history caller round talks
       ⊎ NeverBegan beginning history caller round talks NoMemory
 
   -- A round was led, from what the caller's pass knew and the dialer told to what they then do.

@@ -16,7 +16,7 @@ use Rattle.cache_law.specs.declared.cache.StepError.TheVariants as step
 use Rattle.cache_law.specs.Core.{FitsBehind, moment_of}
 use Rattle.cache_law.specs.Beginning.{Beginning}
 use Rattle.turnstile.specs.Handles.{known}
-use Rattle.shared_cache.specs.Sharing.{CallerKnows, Called}
+use Rattle.shared_cache.specs.Sharing.{CallerKnows, Called, made_before}
 use Rattle.round_task.specs.Happened.{Happened, entries_of, exchanges_of}
 use Rattle.delivery.specs.declared.finishing.Delivery.{Delivery}
 use Rattle.delivery.specs.Sent.{delivery_text}
@@ -24,7 +24,7 @@ use Rattle.round_lead.specs.declared.cut.Cut.{Cut}
 use Rattle.round_lead.specs.declared.cut.Cut.TheVariants.{HistoryFull, NoMemory, WriteFault}
 use Rattle.round_lead.specs.declared.keeping.Progress.{Progress}
 use Rattle.round_lead.specs.declared.site.Shift.{Shift}
-use Rattle.round_lead.specs.Seen.{HasCalled, StandAt, RiseIn}
+use Rattle.round_lead.specs.Seen.{HasCalled, StandAt, RiseIn, count_seen}
 use Rattle.round_lead.specs.Tapes.{Went, ToldIn}
 use Rattle.round_lead.specs.Talks.{TalksBy, TalksOf}
 use Rattle.round_lead.specs.Things.{closes_of, says_close}
@@ -61,8 +61,8 @@ pub record Did {L : Type 0} (heard : L → LinkTold) (backends : List ℕ → Ba
   pub places : List ℕ
   pub called : HasCalled x.known y.known places
   pub places_are : y.places ≡ x.places ++ places
-  pub stand : StandAt y.known.seen places (entries_of x.known.number steps)
-  pub rise : RiseIn (length x.known.seen) (length y.known.seen) places
+  pub stand : StandAt (made_before y.known) y.known.seen places (entries_of x.known.number steps)
+  pub rise : RiseIn (count_seen x.known) (count_seen y.known) places
   pub exchanges_are : y.exchanges ≡ x.exchanges ++ exchanges_of steps
   pub timed : AllByRecursion (λ got. ToldIn x.readings y.readings got.moment) (exchanges_of steps)
   pub sent_are : y.sent ≡ x.sent ++ sent

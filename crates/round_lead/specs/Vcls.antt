@@ -11,18 +11,18 @@ use Rattle.round_task.specs.Laws.{vcl_told}
 use Rattle.round_lead.specs.Seen.{StandsAt}
 use Rattle.round_lead.specs.Things.{text_told}
 
--- where a director picks at this place, it picks for this VCL
-abbrev pub PicksFor : List Entry → ℕ → Option ℕ → ℕ → Type 0
-PicksFor history caller vcl place =
-    (number : ℕ) (target : Target) (word : ℕ) (answer : Told) → StandsAt history place (entry_of caller (Pick number target word) answer) → vcl ≡ Some number
+-- where a director picks at this place, of a history before which so many entries of the run were made, it picks for this VCL
+abbrev pub PicksFor : ℕ → List Entry → ℕ → Option ℕ → ℕ → Type 0
+PicksFor from history caller vcl place =
+    (number : ℕ) (target : Target) (word : ℕ) (answer : Told) → StandsAt from history place (entry_of caller (Pick number target word) answer) → vcl ≡ Some number
 
 -- At the first of these places stands a Begin of the caller. The program is one of the text that it was told, and at the other
 -- places directors pick for the VCL that it was told.
-pub record RunsUnderItsVcl {P : Type 0} (language : Language P) (history : List Entry) (caller : ℕ) (places : List ℕ) (program : P) : Type 0 where
+pub record RunsUnderItsVcl {P : Type 0} (language : Language P) (from : ℕ) (history : List Entry) (caller : ℕ) (places : List ℕ) (program : P) : Type 0 where
   pub first : ℕ
   pub others : List ℕ
   pub are : places ≡ first ∷ others
   pub told : Told
-  pub begins : StandsAt history first (entry_of caller Begin told)
+  pub begins : StandsAt from history first (entry_of caller Begin told)
   pub ran : language.programs (text_told told.reply) program
-  pub picks : AllByRecursion (λ place. PicksFor history caller (vcl_told told.reply) place) others
+  pub picks : AllByRecursion (λ place. PicksFor from history caller (vcl_told told.reply) place) others

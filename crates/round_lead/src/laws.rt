@@ -18,12 +18,12 @@ use wire::{Dialer, Link};
 /// of the text that the Begin was told, and each director at the round's places picks for that VCL. Of a round that was cut short
 /// the same holds, if anything of it stands in the history but its End.
 pub fn made_under_its_vcl<D: Dialer, P: Programs<M>, M: Runner>()
-    ensures whole { (words words' readings readings' : Option Tape) (history : List HistoryEntry) (caller : ℕ) (round : Kept) (talks : _) (closes : Bool)
+    ensures whole { (words words' readings readings' : Option Tape) (beginning : Beginning) (history : List HistoryEntry) (caller : ℕ) (round : Kept) (talks : _) (closes : Bool)
         → (told : Tells (language_of P.of_text M.turns M.targets M.default_of P.backends) (WasDrawn words words') (ToldIn readings readings')
-        (told_by D.Link.flow D.Link.read_faults D.Link.write_faults D.Link.peer D.Link.is_open) history caller round talks closes)
-        → RunsUnderItsVcl (language_of P.of_text M.turns M.targets M.default_of P.backends) history caller round.numbers.items told.program }
+        (told_by D.Link.flow D.Link.read_faults D.Link.write_faults D.Link.peer D.Link.is_open) beginning history caller round talks closes)
+        → RunsUnderItsVcl (language_of P.of_text M.turns M.targets M.default_of P.backends) beginning.base.entries history caller round.numbers.items told.program }
     ensures cut { (words words' readings readings' : Option Tape) (beginning : Beginning) (history : List HistoryEntry) (caller : ℕ) (round : Kept) (talks : _) (why : Cutting)
         → (told : TellsCut (language_of P.of_text M.turns M.targets M.default_of P.backends) (WasDrawn words words') (ToldIn readings readings')
         (told_by D.Link.flow D.Link.read_faults D.Link.write_faults D.Link.peer D.Link.is_open) beginning history caller round talks why)
-        → (told.steps ≡ []) ⊎ RunsUnderItsVcl (language_of P.of_text M.turns M.targets M.default_of P.backends) history caller told.places told.program }
+        → (told.steps ≡ []) ⊎ RunsUnderItsVcl (language_of P.of_text M.turns M.targets M.default_of P.backends) beginning.base.entries history caller told.places told.program }
 {}

@@ -37,7 +37,7 @@ fn boot(alloc: Global, row: &str) -> Result<Boot, AllocError> {
 // A cache whose history has the row's limit.
 fn core(alloc: Global, row: &str) -> Result<FlatCore, AllocError>
     ensures { IfOk result (λ core. (⟦<FlatCore as CacheCore>⟧.history core ≡ []) × IsKeptWhole (⟦<FlatCore as CacheCore>⟧.beginning core) []
-        × ((⟦<FlatCore as CacheCore>⟧.beginning core).base.rounds ≡ [])) }
+        × ((⟦<FlatCore as CacheCore>⟧.beginning core).base.rounds ≡ []) × ((⟦<FlatCore as CacheCore>⟧.beginning core).base.entries ≡ 0)) }
 {
     let params = Params {
         room: Params::DEFAULT_ROOM,
@@ -51,7 +51,7 @@ fn core(alloc: Global, row: &str) -> Result<FlatCore, AllocError>
 fn cache(alloc: Global, row: &str) -> Result<(SharedCache<FlatCore>, CachePass), AllocError>
     ensures { IfOk result (λ r. IsPassOf r.0 r.1 × (has_open (known r.1) ≡ false) × SeesLegal (known r.1)) }
 {
-    match SharedCache::open(alloc, core(alloc, row)?, 1) {
+    match SharedCache::open(alloc, core(alloc, row)?, 1, 0) {
         Ok(opened) => Ok(opened),
         Err(_) => Err(AllocError),
     }

@@ -1,10 +1,12 @@
 // The cache as the value of a turn lock.
-ghost use Rattle.std.specs.Prelude.{◌≡◌, IfNone, IfSome, Some};
-ghost use Rattle.cache_law.specs.History.{HasWaited, reached};
+ghost use Rattle.std.specs.Prelude.{◌≡◌, IfErr, IfNone, IfOk, IfSome, IsErrOf, OnErr, Some, true};
+ghost use Rattle.cache_law.specs.Core.{FitsBehind, is_kept, is_segment_full, moment_of};
+ghost use Rattle.cache_law.specs.History.{HasWaited, Legal, reached};
 ghost use Rattle.cache_law.specs.State.{awaits, is_closed};
-ghost use Rattle.shared_cache.specs.Sharing.{IsKeptWhole};
+ghost use Rattle.shared_cache.specs.Sharing.{EnteredInRun, IsShared};
 
-use cache_law::{Boot, CacheCore, Call, Entry, Params};
+use cache_law::{Boot, CacheCore, Call, Entry, Params, StepError, Told};
+use std::alloc::Global;
 use std::marker::Model;
 use turnstile::Chronicle;
 
@@ -23,10 +25,12 @@ impl Model for Origin {
     ghost view = { λ o. beginning_of o.params o.boot };
 }
 
-/// The cache in the lock. Between turns its history is legal. It isn't kept in segments.
+/// The cache in the lock, and how many entries of the run were made before its history. Between turns its history is legal. It
+/// isn't kept in segments.
 #[derive(Drop)]
 pub(crate) struct Kept<C> {
     pub core: C,
+    pub from: u64,
 }
 
 impl<C: CacheCore> Chronicle for Kept<C> {
@@ -40,7 +44,7 @@ impl<C: CacheCore> Chronicle for Kept<C> {
 
     ghost setting = { λ kept. C.beginning kept.core };
 
-    ghost Sound = { λ kept. IsKeptWhole (C.beginning kept.core) (C.history kept.core) };
+    ghost Sound = { λ kept. IsShared (C.beginning kept.core) (C.history kept.core) kept.from };
 
     ghost closed = { λ beginning token entries. is_closed (reached beginning entries).fetches token };
 
@@ -58,6 +62,36 @@ impl<C: CacheCore> Kept<C> {
         match call {
             Call::Lookup(_) => self.core.awaits(caller),
             _ => None,
+        }
+    }
+
+    /// Makes one call, and tells its place among all entries of the run.
+    pub fn step(
+        &mut self,
+        alloc: Global,
+        caller: u32,
+        reading: u64,
+        call: Call,
+    ) -> Result<Told, StepError>
+        requires waited { HasWaited (reached (C.beginning self.old.core) (C.history self.old.core)) caller call }
+        requires from { self.old.from ≡ (C.beginning self.old.core).base.entries }
+        ensures told { IfOk result (EnteredInRun (C.beginning self.old.core) (C.history self.old.core) (C.history self.new.core) caller reading call) }
+        ensures segment { IsErrOf result StepError.SegmentFull
+            → (is_segment_full (C.beginning self.old.core).params (reached (C.beginning self.old.core) (C.history self.old.core)) (C.history self.old.core) caller call ≡ true) }
+        ensures full { IsErrOf result StepError.HistoryFull
+            → ¬ FitsBehind (C.beginning self.old.core) (C.history self.old.core) caller (moment_of (C.beginning self.old.core) (C.history self.old.core) reading) call }
+        ensures kept { is_kept (reached (C.beginning self.old.core) (C.history self.old.core)) caller call ≡ true → IsErrOf result StepError.NoMemory → ⊥ }
+        ensures err { OnErr result (C.history self.new.core ≡ C.history self.old.core) }
+        ensures legal { Legal (C.beginning self.old.core) (C.history self.old.core) → Legal (C.beginning self.new.core) (C.history self.new.core) }
+        ensures same { (C.beginning self.new.core ≡ C.beginning self.old.core) × (self.new.from ≡ self.old.from) }
+    {
+        match self.core.step(alloc, caller, reading, call) {
+            Ok(told) => Ok(Told {
+                moment: told.moment,
+                place: self.from + told.place,
+                reply: told.reply,
+            }),
+            Err(error) => Err(error),
         }
     }
 }

@@ -25,25 +25,28 @@ impl<C: CacheCore> SharedCache<C> {
     ghost use Rattle.cache_law.specs.State.{is_closed};
     ghost use Rattle.turnstile.specs.Handles.{known, held_known, number_of, IsHeldOf};
     ghost use Rattle.shared_cache.specs.Passes.{IsPassOf};
-    ghost use Rattle.shared_cache.specs.Sharing.{caller_of, IsKeptWhole, SeesLegal, Called, Declined};
+    ghost use Rattle.shared_cache.specs.Sharing.{caller_of, IsKeptWhole, IsShared, SeesLegal, Called, Declined};
 
     /// Shares a cache, which has no entry yet and keeps no segments, and gives the first pass, under the number `first`, with every number above
-    /// it to give. For want of memory the cache comes back.
+    /// it to give. So many entries of the run were made before: places are told behind these. For want of memory the cache
+    /// comes back.
     pub fn open(
         alloc: Global,
         core: C,
         first: u32,
+        from: u64,
     ) -> Result<(SharedCache<C>, CachePass), Returned<C>>
         requires empty { C.history core ≡ [] }
         requires whole { IsKeptWhole (C.beginning core) [] }
+        requires from { from ≡ (C.beginning core).base.entries }
         ensures pass { IfOk result (λ r. IsPassOf r.0 r.1 × (known r.1 ≡ opened first (C.beginning core))) }
         ensures err { IfErr result (λ r. r.value ≡ core) }
     {
-        match Turnstile::new(alloc, Kept { core }, first) {
+        match Turnstile::new(alloc, Kept { core, from }, first) {
             Ok((lock, pass)) => Ok((SharedCache { lock }, pass)),
             Err(
                 Returned {
-                    value: Kept { core },
+                    value: Kept { core, from: _ },
                 },
             ) => Err(Returned { value: core }),
         }
@@ -73,7 +76,8 @@ impl<C: CacheCore> SharedCache<C> {
         self.lock.join(pass, other);
     }
 
-    /// Makes one call by the pass's number, in a turn of its own, at the reading that the clock gives in that turn.
+    /// Makes one call by the pass's number, in a turn of its own, at the reading that the clock gives in that turn. The
+    /// place that is told is counted from the run's first entry.
     pub fn call<R: Wait, K: Clock>(
         &self,
         rt: &R,
@@ -91,7 +95,7 @@ impl<C: CacheCore> SharedCache<C> {
     {
         let mut held = self.ready(rt, pass, &call);
         let reading = clock.now();
-        let answer = held.value.core.step(alloc, pass.number(), reading, call);
+        let answer = held.value.step(alloc, pass.number(), reading, call);
         self.lock.give_back(pass, held);
         answer
     }
@@ -103,7 +107,7 @@ impl<C: CacheCore> SharedCache<C> {
         ensures held { IsHeldOf self.now.lock result × (held_known result ≡ saw (known pass.old) (C.history result.value.core)) }
         ensures history { Meets caller_of (known pass.old) (C.history result.value.core) }
         ensures setting { (known pass.old).setting ≡ Some (C.beginning result.value.core) }
-        ensures whole { IsKeptWhole (C.beginning result.value.core) (C.history result.value.core) }
+        ensures shared { IsShared (C.beginning result.value.core) (C.history result.value.core) result.value.from }
         ensures waited { HasWaited (reached (C.beginning result.value.core) (C.history result.value.core)) (number_of pass.old) call.now }
     {
         let number = pass.number();
@@ -126,7 +130,7 @@ impl<C: CacheCore> SharedCache<C> {
         ensures held { IsHeldOf self.now.lock result × (held_known result ≡ saw (known pass.old) (C.history result.value.core)) }
         ensures history { Meets caller_of (known pass.old) (C.history result.value.core) }
         ensures setting { (known pass.old).setting ≡ Some (C.beginning result.value.core) }
-        ensures whole { IsKeptWhole (C.beginning result.value.core) (C.history result.value.core) }
+        ensures shared { IsShared (C.beginning result.value.core) (C.history result.value.core) result.value.from }
         ensures closed { IfSome token (λ t. is_closed (reached (C.beginning result.value.core) (C.history result.value.core)).fetches t ≡ true) }
     {
         match token {
@@ -144,7 +148,21 @@ impl<C: CacheCore> SharedCache<C> {
         ensures history { Meets caller_of (known pass) result.0 }
         ensures legal { SeesLegal (known result.1) }
     {
+        let (core, pass) = self.into_core(rt, pass);
+        (core.into_history(), pass)
+    }
+
+    /// Takes a last turn and gives the cache out, with its history. It takes no memory.
+    pub fn into_core<R: Wait>(self, rt: &R, pass: CachePass) -> (C, CachePass)
+    where
+        C: Drop,
+        requires pass { IsPassOf self pass }
+        ensures known { known result.1 ≡ saw (known pass) (C.history result.0) }
+        ensures history { Meets caller_of (known pass) (C.history result.0) }
+        ensures setting { (known pass).setting ≡ Some (C.beginning result.0) }
+        ensures whole { IsKeptWhole (C.beginning result.0) (C.history result.0) }
+    {
         let (kept, pass) = self.lock.close(rt, pass);
-        (kept.core.into_history(), pass)
+        (kept.core, pass)
     }
 }

@@ -41,7 +41,7 @@ module _ {P Q L : Type 0} (one : Language P) (other : Language Q) (f : P → Q) 
   -- ---- rounds
 
   module _ (words : Option ℕ → Type 0) (readings : ℕ → Type 0) (beginning : Beginning) (history : List Entry) (caller : ℕ) where
-    tells_as : (round : Round) (talks : List (Talk L)) (closes : Bool) → Tells one words readings heard history caller round talks closes → Tells other words readings heard history caller round talks closes
+    tells_as : (round : Round) (talks : List (Talk L)) (closes : Bool) → Tells one words readings heard beginning history caller round talks closes → Tells other words readings heard beginning history caller round talks closes
     tells_as round talks closes t = record {
       program = f t.program;
       steps = t.steps;

@@ -8,6 +8,9 @@ use Rattle.crew.proofs.running.serve_counted.Goals as goal
 pub open_all-requires-clause-whole : goal.open_all-requires-clause-whole
 open_all-requires-clause-whole g c = record { legal = c.requires.can_begin.legal; unsegmented = c.requires.can_begin.unsegmented }
 
+pub open_all-requires-clause-first : goal.open_all-requires-clause-first
+open_all-requires-clause-first g c = c.requires.can_begin.first
+
 pub run_all-requires-clause-first : goal.run_all-requires-clause-first
 run_all-requires-clause-first g c =
     let given : IsFirst (known c.in-Some.all.1) = record {
