@@ -6,7 +6,7 @@ mod clock;
 mod crowd;
 mod sharing;
 
-use cache_law::CacheCore;
+use ban_lurker::LurkCore;
 use flat_core::FlatCore;
 use std::alloc::{AllocError, Global};
 use std::io;
@@ -34,7 +34,7 @@ fn check_row<W: Threads + Wait + Sync>(rt: HostRuntime, threads: &W, line: &str)
     Ok(())
 }
 
-fn said<C: CacheCore + Drop + Send, W: Threads + Wait + Sync>(
+fn said<C: LurkCore + Drop + Send, W: Threads + Wait + Sync>(
     threads: &W,
     alloc: Global,
     row: &str,
@@ -43,6 +43,7 @@ fn said<C: CacheCore + Drop + Send, W: Threads + Wait + Sync>(
     match word {
         "callers" => sharing::callers_shown::<C, W>(threads, alloc, rest),
         "passes" => sharing::passes_shown::<C, W>(threads, alloc, rest),
+        "errand" => sharing::errand_shown::<C, W>(threads, alloc, rest),
         "waiting" => sharing::waiting_shown::<C, W>(threads, alloc, rest),
         _ => format!(in alloc; "no such row"),
     }

@@ -5,9 +5,10 @@ ghost use Rattle.shared_cache.specs.Passes.{IsPassOf};
 
 use crate::clock::SteadyClock;
 use crate::crowd::{call_together, make_calls};
+use ban_lurker::LurkCore;
 use cache_law::{CacheCore, Entry, Params, Reply};
 use core_rows::{Shown, core_of, history_shown, shown, step};
-use shared_cache::{CachePass, SharedCache};
+use shared_cache::{CachePass, Errand, SharedCache};
 use std::alloc::{AllocError, Global};
 use std::sync::Wait;
 use std::thread::{Threads, join};
@@ -170,4 +171,22 @@ fn last_told<C: CacheCore, R: Wait>(
     requires { IsPassOf cache.now pass }
 {
     make_calls(rt, alloc, cache, &mut pass, &mut clock(), calls)
+}
+
+/// What comes of an errand behind these calls, and the history.
+pub fn errand_shown<C: LurkCore + Drop, R: Wait>(
+    rt: &R,
+    alloc: Global,
+    calls: &str,
+) -> Result<String, AllocError> {
+    let (cache, mut pass) = open::<C>(alloc, 1)?;
+    make_calls(rt, alloc, &cache, &mut pass, &mut clock(), calls);
+    let word = match cache.errand(rt, alloc, &mut pass)? {
+        Errand::Settled(_) => "settled",
+        Errand::Moved(_) => "moved",
+        Errand::Idle => "idle",
+    };
+    let (history, _pass) = cache.close(rt, pass);
+    let history = history_shown(alloc, history.as_slice())?;
+    format!(in alloc; "{word}, {history}")
 }

@@ -1,2 +1,3 @@
 pub mod Sharing
 pub mod Passes
+pub mod Lurking

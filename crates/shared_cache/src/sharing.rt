@@ -17,7 +17,7 @@ pub type CachePass = Pass<Entry, Origin>;
 /// A cache that threads share by reference, each with a pass of its own.
 #[derive(Drop)]
 pub struct SharedCache<C: CacheCore> {
-    lock: Turnstile<Kept<C>>,
+    pub(crate) lock: Turnstile<Kept<C>>,
 }
 
 impl<C: CacheCore> SharedCache<C> {
