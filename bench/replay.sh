@@ -1,6 +1,7 @@
 #!/usr/bin/env bash
 # How the time and the memory of `varn replay` grow with the length of a session: sessions of 1,000 to 300,000 lines over 64
-# pages, and sessions in which each request is for a page of its own and moments go on, so that objects expire. The best of
+# pages, sessions in which each request is for a page of its own and moments go on, so that objects expire, and sessions of
+# such pages at one moment over a room for some 64 of them, so that each page displaces one. The best of
 # three runs each, the ratio of each step, and the peak memory a line beyond that of an empty session; and the memory that a
 # hit takes, by sessions of hits alone, beside what the history counts for its entries. The program is built and proved first
 # where it isn't there yet.
@@ -47,12 +48,21 @@ def many(count):
         number += 2
     return lines + ['end']
 
+def full(count):
+    """Lines of a session: a page that none asked for before is asked for and comes, all at one moment."""
+    lines, number = ['at 1000'], 1
+    while len(lines) < count - 2:
+        lines.append(request('/page%d' % number))
+        lines.append('reply %d "%s"' % (number + 1, REPLY))
+        number += 2
+    return lines + ['end']
+
 def hits(count):
     """Lines of a session: a page comes, and is asked for again and again."""
     first = ['at 1000', request('/page10'), 'reply 2 "%s"' % REPLY]
     return first + [request('/page10')] * count + ['end']
 
-def run(path):
+def run(path, *words):
     """The time of a run in seconds, its peak memory in bytes, and the lines that it wrote."""
     out = '%s/out' % work
     began = time.perf_counter()
@@ -60,7 +70,7 @@ def run(path):
     if child == 0:
         os.dup2(os.open(path, os.O_RDONLY), 0)
         os.dup2(os.open(out, os.O_WRONLY | os.O_CREAT | os.O_TRUNC), 1)
-        os.execv(program, [program, 'replay'])
+        os.execv(program, [program, 'replay', *words])
     _, status, usage = os.wait4(child, 0)
     passed = time.perf_counter() - began
     if status != 0:
@@ -75,12 +85,13 @@ def written(name, lines):
     return path
 
 _, least, _ = run(written('empty', ['end']))
-for name, session, counts in (('64 pages', few, (1000, 10000, 100000, 300000)),
-                              ('a page a request', many, (1000, 10000, 100000))):
+for name, session, counts, words in (('64 pages', few, (1000, 10000, 100000, 300000), ()),
+                                     ('a page a request', many, (1000, 10000, 100000), ()),
+                                     ('full room', full, (1000, 10000, 100000), ('--room', '40000'))):
     before = None
     for count in [count for count in counts if count <= MOST] or [MOST]:
         path = written('%s%d' % (name[0], count), session(count))
-        best, peak, lines = min(run(path) for _ in range(3))
+        best, peak, lines = min(run(path, *words) for _ in range(3))
         step = '' if before is None else '   %5.2f times as long for %g times the lines' % (best / before[0], count / before[1])
         print('%s: %7d lines   %8.4f s   %7d lines written   %5.0f bytes a line%s'
               % (name, count, best, lines, (peak - least) / count, step), flush=True)

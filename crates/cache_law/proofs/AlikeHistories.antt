@@ -113,7 +113,7 @@ all_shown_alike lines less more all =
 
 list_alike : (less more : State) (answer : Reply) → AreAlikeAsSeen less more → IsBanList less answer → IsBanList more answer
 list_alike less more (Bans lines) alike shows =
-    record { part = part_of_part (map (λ line. line.issued) lines) less.bans more.bans shows.part alike.bans; shown = all_shown_alike _ less.objects more.objects alike.objects shows.shown }
+    record { part = part_of_part (map (λ line. line.issued) lines) less.bans more.bans shows.part alike.bans; shown = all_shown_alike _ less.objects more.objects alike.objects shows.shown; completed = shows.completed }
 list_alike less more answer alike shows = absurd shows
 
 -- Entries.

@@ -35,3 +35,4 @@ pub mod Drawing
 pub mod Waiting
 pub mod Tested
 pub mod Segmenting
+pub mod Fields

@@ -2,9 +2,11 @@
 use Rattle.std.proofs.Common.{◌≡◌, Bool, true, false, not, List, [], ◌∷◌, filter, map, refl, sym, ap, subst, inl, inr}
 use Rattle.std.specs.Prelude.{if◌then◌else◌}
 use Rattle.std.specs.List.{AllByRecursion}
+use Rattle.std.proofs.lemmas.Bool.{false≢true}
+use Rattle.cache_law.specs.declared.ban.BanLine.{BanLine}
 use Rattle.cache_law.specs.declared.ban.Issued.{Issued}
 use Rattle.cache_law.specs.Bans.{matches, object_only, is_shown}
-use Rattle.cache_law.specs.ShownBans.{IsPartOf, AllShown, those_open, ShowsBans}
+use Rattle.cache_law.specs.ShownBans.{IsPartOf, AllShown, those_open, has_newer, ShowsBans}
 use Rattle.cache_law.specs.State.{Held}
 use Rattle.cache_law.specs.BansAtOnce.{ban_over, awaiting, AwaitIssued, open_lines}
 use Rattle.cache_law.proofs.BanLemmas.{shown_by_all}
@@ -81,9 +83,15 @@ whole_part : (bans : List Issued) → IsPartOf bans bans
 whole_part [] = tt
 whole_part (ban ∷ bans) = inl (refl, whole_part bans)
 
+-- no line is marked
+none_completed : (all : List BanLine) (bans : List Issued) → AllByRecursion (λ line. line.completed ≡ true → has_newer all line ≡ true) (open_lines bans)
+none_completed all [] = tt
+none_completed all (ban ∷ bans) = (λ e. absurd (false≢true e), none_completed all bans)
+
 pub all_bans_shown : (bans : List Issued) (objects : List Held) → AwaitIssued bans objects → ShowsBans bans objects (open_lines bans)
 all_bans_shown bans objects await =
     record {
       part = rw (issued_of_lines bans) (whole_part bans);
       shown = rw (open_of_lines bans) (all_shown bans objects await);
+      completed = none_completed (open_lines bans) bans;
     }

@@ -18,3 +18,4 @@ pub mod Core
 pub mod LookedUp
 pub mod Drawing
 pub mod BanHistories
+pub mod Fields

@@ -70,6 +70,12 @@ abbrev pub star_len : Bool → ℕ
 star_len true = 1
 star_len false = 0
 
+-- how many fields it has; a marker has none
+abbrev pub count_fields : Object → ℕ
+count_fields (Ordinary response) = length response.content.fields
+count_fields (HitForMiss marker) = 0
+count_fields (HitForPass marker) = 0
+
 -- all texts of an object
 abbrev pub object_len : Object → ℕ
 object_len (Ordinary response) =

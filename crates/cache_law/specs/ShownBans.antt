@@ -1,9 +1,9 @@
 -- What the list of bans shows (varnish-cli(7), "ban.list").
-use Rattle.std.specs.Prelude.{◌≡◌, ◌⊎◌, ⊤, true, not, List, [], ◌∷◌, map, filter}
-use Rattle.std.specs.List.{AllByRecursion}
+use Rattle.std.specs.Prelude.{◌≡◌, ◌⊎◌, ⊤, Bool, true, not, ◌&&◌, nat_lt, List, [], ◌∷◌, map, filter}
+use Rattle.std.specs.List.{AllByRecursion, list_any}
 use Rattle.cache_law.specs.declared.ban.Issued.{Issued}
 use Rattle.cache_law.specs.declared.ban.BanLine.{BanLine}
-use Rattle.cache_law.specs.Bans.{is_shown}
+use Rattle.cache_law.specs.Bans.{is_equal, is_shown}
 use Rattle.cache_law.specs.State.{Held}
 
 -- the lines show each ban that a lookup has still to test one of the objects on
@@ -20,8 +20,14 @@ IsPartOf (x ∷ part) (y ∷ whole) = ((x ≡ y) × IsPartOf part whole) ⊎ IsP
 abbrev pub those_open : List BanLine → List Issued
 those_open lines = map (λ line. line.issued) (filter (λ line. not line.completed) lines)
 
--- what a list of bans owes: its lines are some of the bans that were issued, newest first, and those not marked as
--- completed show each ban that an object is still to be tested on
+-- a newer line has an equal ban, which does the work of this line's
+abbrev pub has_newer : List BanLine → BanLine → Bool
+has_newer lines line =
+    list_any (λ newer. nat_lt line.issued.number newer.issued.number && is_equal newer.issued.ban line.issued.ban) lines
+
+-- What a list of bans owes: its lines are some of the bans that were issued, newest first; those not marked as completed
+-- show each ban that an object is still to be tested on, and each that is marked has a newer equal one.
 pub record ShowsBans (bans : List Issued) (objects : List Held) (lines : List BanLine) : Type 0 where
   pub part : IsPartOf (map (λ line. line.issued) lines) bans
   pub shown : AllShown (those_open lines) objects
+  pub completed : AllByRecursion (λ line. line.completed ≡ true → has_newer lines line ≡ true) lines

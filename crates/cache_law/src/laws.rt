@@ -13,6 +13,7 @@ ghost use Rattle.cache_law.specs.Drawing.{drawn_in};
 ghost use Rattle.cache_law.specs.LookedUp.{IsLookedUp, says_found};
 ghost use Rattle.cache_law.specs.BanHistories.{IsAmong};
 ghost use Rattle.cache_law.specs.Bases.{IsSound};
+ghost use Rattle.cache_law.specs.Fields.{HandFew, HaveFew};
 
 /// Behind a legal history the end of an open round fits, at any moment: it uses what is reserved.
 pub fn closing_fits()
@@ -79,4 +80,11 @@ pub fn numbers_are_drawn_once()
 pub fn waits_are_for_open_fetches()
     ensures { (beginning : Beginning) (before behind : List HistoryEntry) (entry : HistoryEntry) (token : ℕ) →
         Legal beginning (before ++ entry ∷ behind) → entry.reply ≡ Wait token → is_open (reached beginning before).fetches token ≡ true }
+{}
+
+/// Where no object that is there at the beginning has more fields than so many, and none that an insertion hands over, none that is
+/// stored has more.
+pub fn fields_stay_few()
+    ensures { (most : ℕ) (beginning : Beginning) (entries : List HistoryEntry) → HaveFew most beginning.base.objects → HandFew most entries
+        → HaveFew most (reached beginning entries).objects }
 {}

@@ -1,9 +1,9 @@
 // What is asked of a core.
 use ban_lurker::LurkCore;
-use cache_law::{CacheCore, Call, Entry, Kept, StepError, Told};
-use core_rows::{call, core_of, history_shown, shown, step};
+use cache_law::{CacheCore, Call, Entry, Kept, Params, StepError, Told};
+use core_rows::{call, core_of, core_within, history_shown, shown, step};
 use flat_core::FlatCore;
-use row_settings::number;
+use row_settings::{has, number};
 use std::alloc::{AllocError, Global};
 use std::mem;
 
@@ -23,9 +23,14 @@ pub fn said(alloc: Global, core: &mut FlatCore, row: &str) -> Result<String, All
     }
 }
 
-// A new core by the settings `room` and `history`.
+// A new core by the settings `room` and `history`, which keeps segments where the row has that word.
 fn renew(alloc: Global, core: &mut FlatCore, row: &str) -> Result<String, AllocError> {
-    *core = core_of(alloc, number(row, "room", 0), number(row, "history", 0))?;
+    let params = Params {
+        room: number(row, "room", 0),
+        history: number(row, "history", 0),
+        segments: has(row, "segments"),
+    };
+    *core = core_within(alloc, &params)?;
     Ok(String::new(alloc))
 }
 

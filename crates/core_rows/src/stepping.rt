@@ -11,17 +11,25 @@ pub fn core_of<C: CacheCore>(alloc: Global, room: u64, history: u64) -> Result<C
     ensures { IfOk result (λ core. (C.history core ≡ []) × Legal (C.beginning core) [] × ((C.beginning core).params.segments ≡ false)
         × ((C.beginning core).base.entries ≡ 0)) }
 {
-    let text = Text::of(alloc, b"vcl 4.1;")?;
-    let boot = Boot {
-        text,
-        backends: Sequence::new(alloc),
-    };
     let params = Params {
         room,
         history,
         segments: false,
     };
-    C::make(alloc, &params, boot)
+    core_within(alloc, &params)
+}
+
+/// A new core, whose history may be kept in segments.
+pub fn core_within<C: CacheCore>(alloc: Global, params: &Params) -> Result<C, AllocError>
+    ensures { IfOk result (λ core. (C.history core ≡ []) × Legal (C.beginning core) [] × ((C.beginning core).params ≡ params.now)
+        × ((C.beginning core).base.entries ≡ 0)) }
+{
+    let text = Text::of(alloc, b"vcl 4.1;")?;
+    let boot = Boot {
+        text,
+        backends: Sequence::new(alloc),
+    };
+    C::make(alloc, params, boot)
 }
 
 // The token that the caller waits for where it makes this call.

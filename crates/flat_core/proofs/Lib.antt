@@ -4,6 +4,7 @@ pub mod MadeRoom
 pub mod Scans
 pub mod Bannings
 pub mod Tested
+pub mod Uses
 pub mod Purges
 pub mod Choosing
 pub mod Findings

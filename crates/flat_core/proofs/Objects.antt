@@ -13,7 +13,7 @@ use Rattle.cache_law.specs.Lookup.{raised, counting, counted, touching, touched}
 use Rattle.flat_core.specs.declared.stored_object.StoredObject.{StoredObject}
 use Rattle.flat_core.specs.declared.stored_object.Fate.{Fate}
 use Rattle.flat_core.specs.declared.stored_object.Fate.TheVariants.{Stays, Tested, Goes}
-use Rattle.flat_core.specs.StoredObject.{is_waiting, since, waiting, held_of, held_all, left_of, settled, held_left, settled_held, is_change, moved_on, counted_in, touched_in, stays, tested_for}
+use Rattle.flat_core.specs.StoredObject.{is_waiting, since, waiting, held_of, held_all, left_of, settled, held_left, settled_held, is_change, moved_on, stays, tested_for}
 use Rattle.flat_core.proofs.Passes.{at_next, drop_all, take_all}
 
 -- no ban was issued behind so many where all have lesser numbers
@@ -46,28 +46,6 @@ filter-all now [] e = refl
 filter-all now (kept ∷ objects) e =
     let both = and_parts (in_time now kept.view.object) (list_all (λ (k : StoredObject). in_time now k.view.object) objects) e in
     kept_whole (in_time now kept.view.object) kept objects _ both.0 (sym (filter-all now objects both.1))
-
--- an object with a hit counted, in memory and by the law
-one_counted : (bans : List Issued) (place : ℕ) (b : Bool) (kept : StoredObject) → held_of bans (cond b (record kept { view = raised kept.view; used = place }) kept) ≡ cond b (record (held_of bans kept) { view = raised kept.view; used = place }) (held_of bans kept)
-one_counted bans place true kept = refl
-one_counted bans place false kept = refl
-
-pub held_all-counted : (bans : List Issued) (place number : ℕ) (objects : List StoredObject) → held_all bans (map (counted_in place number) objects) ≡ counted place number (held_all bans objects)
-held_all-counted bans place number [] = refl
-held_all-counted bans place number (kept ∷ objects) =
-    ap (λ (held : Held). held ∷ held_all bans (map (counted_in place number) objects)) (one_counted bans place (kept.view.number == number) kept)
-    ∙ ap (λ (rest : List Held). counting place number (held_of bans kept) ∷ rest) (held_all-counted bans place number objects)
-
--- an object that is used, in memory and by the law
-one_touched : (bans : List Issued) (place : ℕ) (b : Bool) (kept : StoredObject) → held_of bans (cond b (record kept { used = place }) kept) ≡ cond b (record (held_of bans kept) { used = place }) (held_of bans kept)
-one_touched bans place true kept = refl
-one_touched bans place false kept = refl
-
-pub held_all-touched : (bans : List Issued) (place number : ℕ) (objects : List StoredObject) → held_all bans (map (touched_in place number) objects) ≡ touched place number (held_all bans objects)
-held_all-touched bans place number [] = refl
-held_all-touched bans place number (kept ∷ objects) =
-    ap (λ (held : Held). held ∷ held_all bans (map (touched_in place number) objects)) (one_touched bans place (kept.view.number == number) kept)
-    ∙ ap (λ (rest : List Held). touching place number (held_of bans kept) ∷ rest) (held_all-touched bans place number objects)
 
 mapped_or_not : (f : Held → Held) (held : Held) (lives : Bool) (late early : List Held) → late ≡ map f early → cond lives (f held ∷ late) late ≡ map f (cond lives (held ∷ early) early)
 mapped_or_not f held true late early e = ap (λ (rest : List Held). f held ∷ rest) e

@@ -34,7 +34,7 @@ use Rattle.cache_law.specs.Room.{staying, has_no_room, stored_over}
 use Rattle.cache_law.specs.Law.{Step, behind, refused, leaving, begun, drawn, closing, placed, inserted, banned, purged_by, picked_at, health_set, loaded, loaded_as, switched, switched_to, discarded, discarded_of, vcls_listed, dropped, ended, wait_in, IsBanList}
 use Rattle.cache_law.proofs.Moments.{those_in_time-later}
 use Rattle.cache_law.proofs.Lawful.{asks_bans, is_refusal, behind_lawful, MayAnswer-lawful}
-use Rattle.cache_law.specs.Bases.{AreFalling}
+use Rattle.cache_law.specs.Bases.{AreFalling, AreNumberedApart}
 use Rattle.cache_law.proofs.Held.{all-weaken}
 use Rattle.cache_law.proofs.Leaves.{either}
 use Rattle.flat_core.specs.declared.answer.Answer.{Answer}
@@ -49,7 +49,8 @@ use Rattle.flat_core.specs.Found.{opens_fetch, hit_in, marker_in, reply_of, next
 use Rattle.flat_core.specs.Banning.{ban_fates}
 use Rattle.flat_core.specs.Purging.{has_xkey, is_purged, is_spared, softening}
 use Rattle.flat_core.specs.Step.{Answers}
-use Rattle.flat_core.proofs.Objects.{held_all-filter, held_all-counted, held_all-touched, held_all-settled, in_time-counted, in_time-touched, inherits}
+use Rattle.flat_core.proofs.Objects.{held_all-filter, held_all-settled, in_time-counted, in_time-touched, inherits}
+use Rattle.flat_core.proofs.Uses.{apart_settled, counted_so, touched_so}
 use Rattle.flat_core.proofs.MadeRoom.{stay_so, room_so, none_so}
 use Rattle.flat_core.proofs.Bannings.{AreBefore, all_listed, bans_over}
 use Rattle.flat_core.proofs.Purges.{of_object, not_of_object, counts, spared, softened_so}
@@ -125,15 +126,6 @@ pub draws : (old : State) (now caller : ℕ) (answer : Answer) → has_round old
 draws old now caller answer opened told kept =
     by_parts old now Draw (drawn (at_moment now old) caller) (Drawn old.next) (old.next + 1) old.objects (those_in_time now old.objects) old.fetches old.fetches old.rounds old.rounds answer refl (cond-true _ _ _ opened) refl (sym (once now old.objects)) refl refl told kept
 
--- the hit is counted in memory as by the law, and a marker is used
-counted_all : (place : ℕ) (bans : List Issued) (hit : Option ℕ) (objects : List StoredObject) → held_all bans (counting_in place hit objects) ≡ counted_for place hit (held_all bans objects)
-counted_all place bans None objects = refl
-counted_all place bans (Some number) objects = held_all-counted bans place number objects
-
-touched_all : (place : ℕ) (bans : List Issued) (marker : Option ℕ) (objects : List StoredObject) → held_all bans (touching_in place marker objects) ≡ touched_for place marker (held_all bans objects)
-touched_all place bans None objects = refl
-touched_all place bans (Some number) objects = held_all-touched bans place number objects
-
 counted_in_time : (now place : ℕ) (hit : Option ℕ) (objects : List Held) → those_in_time now (counted_for place hit objects) ≡ counted_for place hit (those_in_time now objects)
 counted_in_time now place None objects = refl
 counted_in_time now place (Some number) objects = in_time-counted now place number objects
@@ -151,16 +143,25 @@ used_in_time now place finding objects =
     touched_in_time now place (marker_in finding) (counted_for place (hit_in finding) objects)
     ∙ ap (touched_for place (marker_in finding)) (counted_in_time now place (hit_in finding) objects)
 
-used_left : (now place issued : ℕ) (bans : List Issued) (fates : List Fate) (objects later : List StoredObject) (finding : Finding) → AreFalling (issued + 1) bans
-    → later ≡ touching_in place (marker_in finding) (counting_in place (hit_in finding) (settled issued fates objects))
+-- at one place in memory as by the law
+used_so : (now place : ℕ) (bans : List Issued) (finding : Finding) (objects : List StoredObject) → AreNumberedApart (those_in_time now (held_all bans objects))
+    → those_in_time now (held_all bans (touching_in now place (marker_in finding) (counting_in now place (hit_in finding) objects))) ≡ used_for place finding (those_in_time now (held_all bans objects))
+used_so now place bans (Hit view) objects apart = counted_so now place view.number bans objects apart
+used_so now place bans (HitMiss number) objects apart = touched_so now place number bans objects apart
+used_so now place bans (HitPass number) objects apart = touched_so now place number bans objects apart
+used_so now place bans (Grace view) objects apart = counted_so now place view.number bans objects apart
+used_so now place bans (GraceAlone view) objects apart = counted_so now place view.number bans objects apart
+used_so now place bans (Wait token) objects apart = refl
+used_so now place bans (Miss stale) objects apart = refl
+
+used_left : (now place issued : ℕ) (bans : List Issued) (fates : List Fate) (objects later : List StoredObject) (finding : Finding) → AreFalling (issued + 1) bans → AreNumberedApart (those_in_time now (held_all bans objects))
+    → later ≡ touching_in now place (marker_in finding) (counting_in now place (hit_in finding) (settled issued fates objects))
     → those_in_time now (held_all bans later) ≡ those_in_time now (used_for place finding (those_in_time now (settled_held fates (held_all bans objects))))
-used_left now place issued bans fates objects later finding falling uses =
+used_left now place issued bans fates objects later finding falling apart uses =
     let left : List Held = settled_held fates (held_all bans objects) in
     ap (λ (k : List StoredObject). those_in_time now (held_all bans k)) uses
-    ∙ ap (those_in_time now) (touched_all place bans (marker_in finding) (counting_in place (hit_in finding) (settled issued fates objects)))
-    ∙ ap (λ (o : List Held). those_in_time now (touched_for place (marker_in finding) o)) (counted_all place bans (hit_in finding) (settled issued fates objects))
-    ∙ ap (λ (o : List Held). those_in_time now (used_for place finding o)) (held_all-settled issued bans fates objects falling)
-    ∙ used_in_time now place finding left
+    ∙ used_so now place bans finding (settled issued fates objects) (apart_settled now issued bans fates objects falling apart)
+    ∙ ap (λ (o : List Held). used_for place finding (those_in_time now o)) (held_all-settled issued bans fates objects falling)
     ∙ ap (used_for place finding) (sym (once now left))
     ∙ sym (used_in_time now place finding (those_in_time now left))
 
@@ -174,11 +175,11 @@ no_refusal token (Wait other) = refl
 no_refusal token (Miss stale) = refl
 
 -- what a lookup in an open round leaves
-pub looks : (old : State) (issued : ℕ) (bans : List Issued) (objects later : List StoredObject) (fetches : List OpenFetch) (rounds : List OpenRound) (next now caller : ℕ) (query : Query) (found : Found) (answer : Answer) → AreFalling (issued + 1) bans → old.objects ≡ held_all bans objects → later ≡ touching_in old.entries (marker_in found.finding) (counting_in old.entries (hit_in found.finding) (settled issued found.fates objects)) → next ≡ next_after (opens_fetch found.finding) old.next → fetches ≡ opened_for (opens_fetch found.finding) old.next caller query.key old.fetches → answer.told ≡ reply_of old.next found.finding → answer.kept ≡ reply_of old.next found.finding → rounds ≡ with_wait caller (wait_in answer.told) old.rounds → Answers old (record old { moment = now; next = next; objects = held_all bans later; fetches = fetches; rounds = rounds }) now (Lookup query) (told_so old now caller query.key (Some found)) answer
-looks old issued bans objects later fetches rounds next now caller query found answer falling kept_ counts follows opens told kept runs =
+pub looks : (old : State) (issued : ℕ) (bans : List Issued) (objects later : List StoredObject) (fetches : List OpenFetch) (rounds : List OpenRound) (next now caller : ℕ) (query : Query) (found : Found) (answer : Answer) → AreFalling (issued + 1) bans → AreNumberedApart (those_in_time now old.objects) → old.objects ≡ held_all bans objects → later ≡ touching_in now old.entries (marker_in found.finding) (counting_in now old.entries (hit_in found.finding) (settled issued found.fates objects)) → next ≡ next_after (opens_fetch found.finding) old.next → fetches ≡ opened_for (opens_fetch found.finding) old.next caller query.key old.fetches → answer.told ≡ reply_of old.next found.finding → answer.kept ≡ reply_of old.next found.finding → rounds ≡ with_wait caller (wait_in answer.told) old.rounds → Answers old (record old { moment = now; next = next; objects = held_all bans later; fetches = fetches; rounds = rounds }) now (Lookup query) (told_so old now caller query.key (Some found)) answer
+looks old issued bans objects later fetches rounds next now caller query found answer falling apart kept_ counts follows opens told kept runs =
     subst (λ (n : ℕ). Answers old (record old { moment = now; next = n; objects = held_all bans later; fetches = fetches; rounds = rounds }) now (Lookup query) (told_so old now caller query.key (Some found)) answer) (sym follows)
     (by_parts old now (Lookup query) _ (reply_of old.next found.finding) (next_after (opens_fetch found.finding) old.next) (held_all bans later) _ fetches _ rounds _ answer refl refl (no_refusal old.next found.finding)
-    (used_left now old.entries issued bans found.fates objects later found.finding falling counts
+    (used_left now old.entries issued bans found.fates objects later found.finding falling (subst (λ (o : List Held). AreNumberedApart (those_in_time now o)) kept_ apart) counts
     ∙ ap (λ (o : List Held). those_in_time now (used_for old.entries found.finding (those_in_time now (settled_held found.fates o)))) (sym kept_))
     opens (runs ∙ ap (λ (r : Reply). with_wait caller (wait_in r) old.rounds) told) told kept)
 

@@ -17,7 +17,8 @@ use Rattle.cache_law.specs.Core.{Entered, FitsBehind, entry_of, moment_of, is_ke
 use Rattle.cache_law.proofs.Growth.{after_grows}
 use Rattle.cache_law.proofs.Histories.{reached-push, bytes_of_all-push, Legal-push}
 use Rattle.cache_law.proofs.Moments.{at_moment-later}
-use Rattle.cache_law.proofs.Sound.{sound_from}
+use Rattle.cache_law.specs.Bases.{AreNumberedApart}
+use Rattle.cache_law.proofs.Sound.{sound_at, sound_from}
 use Rattle.cache_law.proofs.Reserve.{reserve-after, ending_takes, dropping_takes, length-without_fetch}
 use Rattle.flat_core.specs.declared.answer.Answer.{Answer}
 use Rattle.flat_core.specs.Found.{is_insertion}
@@ -59,6 +60,12 @@ same_state made =
     sym (at_moment-later made.old.moment made.moment (omega (arith, made.at_)) made.old)
     ∙ ap (at_moment made.moment) made.sound.reaches
     ∙ at_moment-later (before made).moment made.moment (omega (arith, made.at_, same_moment made)) (before made)
+
+-- at the call's moment the objects that are kept have numbers of their own
+pub apart_at : (made : Made) → AreNumberedApart (at_moment made.moment made.old).objects
+apart_at made =
+    subst (λ (s : State). AreNumberedApart s.objects) (sym (same_state made))
+    (sound_at made.moment (before made) (sound_from made.beginning.params made.beginning.base made.entries made.sound.base.sound)).apart
 
 same_reserve : (made : Made) → reserve (step_of made.beginning.params made.old made.caller made.moment made.call).state ≡ reserve (step_of made.beginning.params (before made) made.caller made.moment made.call).state
 same_reserve made = ap (λ (s : State). reserve (answered made.beginning.params.room s made.caller made.call).state) (same_state made)

@@ -5,7 +5,7 @@ use Rattle.cache_law.specs.declared.object.Object.{Object}
 use Rattle.flat_core.specs.declared.stored_object.StoredObject.{StoredObject}
 use Rattle.flat_core.specs.declared.stored_object.Fate.{Fate}
 use Rattle.flat_core.specs.declared.stored_object.Fate.TheVariants.{Stays, Tested, Goes}
-use Rattle.flat_core.specs.StoredObject.{AreTested, left_of, settled, counted_in, counting_in, touched_in, touching_in, tested_for, first_of}
+use Rattle.flat_core.specs.StoredObject.{AreTested, left_of, settled, tested_for, first_of}
 use Rattle.flat_core.specs.Room.{stays_from}
 
 left_tested : (issued : ℕ) (count : ℕ) (fate : Fate) (kept : StoredObject) (objects : List StoredObject) → count ≤ issued → kept.tested ≤ issued → AreTested issued objects → AreTested issued (left_of count fate kept ++ objects)
@@ -17,26 +17,6 @@ pub settled_tested : (issued : ℕ) (count : ℕ) (fates : List Fate) (objects :
 settled_tested issued count [] objects all tested = tested
 settled_tested issued count (fate ∷ fates) [] all tested = tt
 settled_tested issued count (fate ∷ fates) (kept ∷ objects) all tested = left_tested issued count fate kept _ all tested.0 (settled_tested issued count fates objects all tested.1)
-
-one_of_two : (issued : ℕ) (b : Bool) (one two : StoredObject) → one.tested ≤ issued → two.tested ≤ issued → (cond b one two).tested ≤ issued
-one_of_two issued true one two below other = below
-one_of_two issued false one two below other = other
-
-counted_tested : (issued : ℕ) (place number : ℕ) (objects : List StoredObject) → AreTested issued objects → AreTested issued (map (counted_in place number) objects)
-counted_tested issued place number [] tested = tt
-counted_tested issued place number (kept ∷ objects) tested = (one_of_two issued (kept.view.number == number) _ kept tested.0 tested.0, counted_tested issued place number objects tested.1)
-
-pub counting_tested : (issued : ℕ) (place : ℕ) (number : Option ℕ) (objects : List StoredObject) → AreTested issued objects → AreTested issued (counting_in place number objects)
-counting_tested issued place None objects tested = tested
-counting_tested issued place (Some number) objects tested = counted_tested issued place number objects tested
-
-touched_tested : (issued : ℕ) (place number : ℕ) (objects : List StoredObject) → AreTested issued objects → AreTested issued (map (touched_in place number) objects)
-touched_tested issued place number [] tested = tt
-touched_tested issued place number (kept ∷ objects) tested = (one_of_two issued (kept.view.number == number) _ kept tested.0 tested.0, touched_tested issued place number objects tested.1)
-
-pub touching_tested : (issued : ℕ) (place : ℕ) (number : Option ℕ) (objects : List StoredObject) → AreTested issued objects → AreTested issued (touching_in place number objects)
-touching_tested issued place None objects tested = tested
-touching_tested issued place (Some number) objects tested = touched_tested issued place number objects tested
 
 filter_one : (issued : ℕ) (b : Bool) (kept : StoredObject) (objects : List StoredObject) → kept.tested ≤ issued → AreTested issued objects → AreTested issued (cond b (kept ∷ objects) objects)
 filter_one issued true kept objects below rest = (below, rest)

@@ -1,9 +1,10 @@
 -- How the objects in memory stand for those of the law, and the changes of them.
-use Rattle.std.specs.Prelude.{ℕ, Bool, true, false, not, List, [], ◌∷◌, ◌++◌, ◌+◌, ◌==◌, ◌≤◌, nat_lt, Option, Some, None, filter, find, map, if◌then◌else◌}
+use Rattle.std.specs.Prelude.{ℕ, Bool, true, false, not, List, [], ◌∷◌, ◌++◌, ◌+◌, ◌==◌, ◌≤◌, ◌&&◌, nat_lt, Option, Some, None, filter, find, map, if◌then◌else◌}
 use Rattle.std.specs.List.{AllByRecursion}
 use Rattle.std.specs.Option.{option_map_or}
 use Rattle.cache_law.specs.declared.object.Object.{Object}
 use Rattle.cache_law.specs.declared.ban.Issued.{Issued}
+use Rattle.cache_law.specs.Object.{in_time}
 use Rattle.cache_law.specs.Bans.{object_only}
 use Rattle.cache_law.specs.BansAtOnce.{cleared}
 use Rattle.cache_law.specs.Lookup.{raised}
@@ -76,22 +77,30 @@ settled_held [] objects = objects
 settled_held (fate ∷ fates) [] = []
 settled_held (fate ∷ fates) (held ∷ objects) = held_left fate held ++ settled_held fates objects
 
--- the object has one more hit, and was used at this place of the history, if it has this number
-abbrev pub counted_in : ℕ → ℕ → StoredObject → StoredObject
-counted_in place number kept =
-    if kept.view.number == number then record kept { view = raised kept.view; used = place } else kept
+-- it is in time and has this number
+abbrev pub is_of : ℕ → ℕ → StoredObject → Bool
+is_of now number kept = (kept.view.number == number) && in_time now kept.view.object
 
-abbrev pub counting_in : ℕ → Option ℕ → List StoredObject → List StoredObject
-counting_in place None objects = objects
-counting_in place (Some number) objects = map (counted_in place number) objects
+-- the first of the objects that passes the test is changed
+abbrev pub first_changed : (StoredObject → Bool) → (StoredObject → StoredObject) → List StoredObject → List StoredObject
+first_changed test change [] = []
+first_changed test change (kept ∷ objects) = if test kept then change kept ∷ objects else kept ∷ first_changed test change objects
 
--- the object was used at this place if it has this number
-abbrev pub touched_in : ℕ → ℕ → StoredObject → StoredObject
-touched_in place number kept = if kept.view.number == number then record kept { used = place } else kept
+-- the object has one more hit, and was used at this place of the history
+abbrev pub counted_at : ℕ → StoredObject → StoredObject
+counted_at place kept = record kept { view = raised kept.view; used = place }
 
-abbrev pub touching_in : ℕ → Option ℕ → List StoredObject → List StoredObject
-touching_in place None objects = objects
-touching_in place (Some number) objects = map (touched_in place number) objects
+abbrev pub counting_in : ℕ → ℕ → Option ℕ → List StoredObject → List StoredObject
+counting_in now place None objects = objects
+counting_in now place (Some number) objects = first_changed (is_of now number) (counted_at place) objects
+
+-- the object was used at this place
+abbrev pub touched_at : ℕ → StoredObject → StoredObject
+touched_at place kept = record kept { used = place }
+
+abbrev pub touching_in : ℕ → ℕ → Option ℕ → List StoredObject → List StoredObject
+touching_in now place None objects = objects
+touching_in now place (Some number) objects = first_changed (is_of now number) (touched_at place) objects
 
 -- the object stays where one takes the place of the stale one
 abbrev pub stays : Option ℕ → StoredObject → Bool

@@ -3,7 +3,7 @@ ghost use Rattle.std.specs.Prelude.{◌≡◌, ◌∷◌, ◌++◌, ◌+◌, ◌
 ghost use Rattle.std.specs.Vec.{vec_capacity};
 ghost use Rattle.cache_law.specs.State.{at_moment, reserve};
 ghost use Rattle.cache_law.specs.Law.{answered};
-ghost use Rattle.cache_law.specs.Bases.{IsBase, IsClosed};
+ghost use Rattle.cache_law.specs.Bases.{AreNumberedApart, IsBase, IsClosed};
 ghost use Rattle.cache_law.specs.Core.{is_closing as closes_only, is_kept, is_segment_full as is_full_for};
 ghost use Rattle.cache_law.specs.History.{bytes_of, is_numbered, most_entries, reached};
 ghost use Rattle.flat_core.specs.Found.{FindsFor};
@@ -227,6 +227,7 @@ fn answer_within(
     requires numbers { store.old.next + 1 < 2 ^ 64 }
     requires issues { store.old.issued + 1 < 2 ^ 64 }
     requires vcls { is_numbered (answered room (at_moment moment store.old) caller call.now).reply ≡ true }
+    requires apart { AreNumberedApart (at_moment moment store.old).objects }
     requires bound { closings < 2 ^ 63 }
     requires reserves { 64 * closings ≡ reserve (answered room (at_moment moment store.old) caller call.now).state }
     requires reserved { length entries.old.items + length store.old.rounds + length store.old.fetches ≤ vec_capacity entries.old }

@@ -1,12 +1,12 @@
 // The law's tests of the lists that a cache holds, and the changes that it makes to them.
 ghost use Rattle.std.specs.Prelude.{◌≡◌, ◌==◌, ◌&&◌, ◌+◌, ◌-◌, ◌^◌, ◌<◌, ◌≤◌, ◌∷◌, ◌++◌, List, find, get_or, Some, None, min, map, length, filter, option_and_then, OnOk, OnErr, if◌then◌else◌};
-ghost use Rattle.std.specs.List.{list_all, list_any};
+ghost use Rattle.std.specs.List.{list_all, list_any, position};
 ghost use Rattle.std.specs.Option.{option_copied, option_map_or, option_to_list};
 ghost use Rattle.std.specs.VecDeque.{deque_len, deque_capacity};
 ghost use Rattle.cache_law.specs.declared.ban.Issued.{Issued as IssuedBan};
 ghost use Rattle.cache_law.specs.Object.{in_time};
 ghost use Rattle.cache_law.specs.State.{has_round, has_fetch, is_closed, is_gone, is_open, least_of, least_token, least_with, remembering, those_in_time, told_to_wait, with_wait, without_fetch, without_fetches_of, without_round_of};
-ghost use Rattle.flat_core.specs.StoredObject.{counted_in, counting_in, first_of, held_all, is_change, left_of, moved_on, settled, stays, tested_for, touched_in, touching_in};
+ghost use Rattle.flat_core.specs.StoredObject.{counted_at, counting_in, first_changed, first_of, held_all, is_change, is_of, left_of, moved_on, settled, stays, tested_for, touched_at, touching_in};
 ghost use Rattle.flat_core.specs.Room.{stays_from};
 ghost use Rattle.flat_core.specs.Found.{next_after, opened_for};
 
@@ -153,58 +153,72 @@ pub(crate) fn remember(rounds: &mut VecDeque<OpenRound>, caller: u32, token: Opt
     }
 }
 
-/// Counts a hit of the object at this place of the history if it has this number.
-fn count_in(kept: &mut StoredObject, used: u64, number: u64)
-    ensures { kept.new ≡ counted_in used number kept.old }
+/// The place of the object in time of this number among the objects.
+fn place_of(objects: &VecDeque<StoredObject>, moment: u64, number: u64) -> Option<usize>
+    ensures { result ≡ position (is_of moment number) objects.now.items }
 {
-    if kept.view.number == number {
-        kept.view.hits = kept.view.hits.saturating_add(1);
-        kept.used = used;
+    objects.iter().position(|kept| kept.view.number == number
+        && is_in_time(moment, &kept.view.object))
+}
+
+/// Counts a hit of the object at this place of the history.
+fn count_in(kept: &mut StoredObject, used: u64)
+    ensures { kept.new ≡ counted_at used kept.old }
+{
+    kept.view.hits = kept.view.hits.saturating_add(1);
+    kept.used = used;
+}
+
+/// Counts a hit of the object in time of this number.
+fn count_hit(objects: &mut VecDeque<StoredObject>, moment: u64, used: u64, number: u64)
+    ensures { objects.new.items ≡ first_changed (is_of moment number) (counted_at used) objects.old.items }
+{
+    if let Some(place) = place_of(objects, moment, number) {
+        count_in(&mut objects[place], used);
     }
 }
 
-/// Counts a hit of the object of this number.
-fn count_hit(objects: &mut VecDeque<StoredObject>, used: u64, number: u64)
-    ensures { objects.new.items ≡ map (counted_in used number) objects.old.items }
-{
-    for place in 0..objects.len() {
-        count_in(&mut objects[place], used, number);
-    }
-}
-
-/// Counts a hit of the object of this number, if there is one, at this place of the history.
-pub(crate) fn count_hit_of(objects: &mut VecDeque<StoredObject>, used: u64, number: Option<u64>)
-    ensures { objects.new.items ≡ counting_in used number objects.old.items }
+/// Counts a hit of the object in time of this number, if there is one, at this place of the history.
+pub(crate) fn count_hit_of(
+    objects: &mut VecDeque<StoredObject>,
+    moment: u64,
+    used: u64,
+    number: Option<u64>,
+)
+    ensures { objects.new.items ≡ counting_in moment used number objects.old.items }
 {
     if let Some(number) = number {
-        count_hit(objects, used, number);
+        count_hit(objects, moment, used, number);
     }
 }
 
-/// Uses the marker at this place of the history if it has this number.
-fn touch_in(kept: &mut StoredObject, used: u64, number: u64)
-    ensures { kept.new ≡ touched_in used number kept.old }
+/// Uses the marker at this place of the history.
+fn touch_in(kept: &mut StoredObject, used: u64)
+    ensures { kept.new ≡ touched_at used kept.old }
 {
-    if kept.view.number == number {
-        kept.used = used;
-    }
+    kept.used = used;
 }
 
-/// Uses the marker of this number.
-fn touch(objects: &mut VecDeque<StoredObject>, used: u64, number: u64)
-    ensures { objects.new.items ≡ map (touched_in used number) objects.old.items }
+/// Uses the marker in time of this number.
+fn touch(objects: &mut VecDeque<StoredObject>, moment: u64, used: u64, number: u64)
+    ensures { objects.new.items ≡ first_changed (is_of moment number) (touched_at used) objects.old.items }
 {
-    for place in 0..objects.len() {
-        touch_in(&mut objects[place], used, number);
+    if let Some(place) = place_of(objects, moment, number) {
+        touch_in(&mut objects[place], used);
     }
 }
 
-/// Uses the marker of this number, if there is one, at this place of the history.
-pub(crate) fn touch_of(objects: &mut VecDeque<StoredObject>, used: u64, number: Option<u64>)
-    ensures { objects.new.items ≡ touching_in used number objects.old.items }
+/// Uses the marker in time of this number, if there is one, at this place of the history.
+pub(crate) fn touch_of(
+    objects: &mut VecDeque<StoredObject>,
+    moment: u64,
+    used: u64,
+    number: Option<u64>,
+)
+    ensures { objects.new.items ≡ touching_in moment used number objects.old.items }
 {
     if let Some(number) = number {
-        touch(objects, used, number);
+        touch(objects, moment, used, number);
     }
 }
 

@@ -4,7 +4,7 @@ ghost use Rattle.cache_law.specs.declared.object.Object.{Object as Made};
 ghost use Rattle.directors.specs.declared.target.Target.{Target as Aim};
 ghost use Rattle.cache_law.specs.declared.call.Call.TheVariants.{Begin as BeginCall, Draw as DrawCall, Lookup as LookupCall, Pick as PickCall, Insert as InsertCall, Ban as BanCall, BanList as BanListCall, Purge as PurgeCall, Xkey as XkeyCall, SetHealth as SetHealthCall, Load as LoadCall, Switch as SwitchCall, Discard as DiscardCall, VclList as VclListCall, Drop as DropCall, End as EndCall};
 ghost use Rattle.cache_law.specs.declared.call.Reply.TheVariants.{Began, Bans};
-ghost use Rattle.cache_law.specs.Bases.{AreAlike, IsBase, IsClosed, IsSound};
+ghost use Rattle.cache_law.specs.Bases.{AreAlike, AreNumberedApart, IsBase, IsClosed, IsSound};
 ghost use Rattle.cache_law.specs.State.{as_seen, at_moment, awaits, reserve, has_round, has_fetch, is_closed, is_gone, those_in_time, without_fetch, without_fetches_of, without_round_of};
 ghost use Rattle.cache_law.specs.Beginning.{base_of, boot_vcl};
 ghost use Rattle.cache_law.specs.BansAtOnce.{open_lines};
@@ -355,6 +355,7 @@ impl Store {
         requires numbers { self.old.next + 1 < 2 ^ 64 }
         requires issues { self.old.issued + 1 < 2 ^ 64 }
         requires vcls { is_numbered (answered room (at_moment moment self.old) caller call.now).reply ≡ true }
+        requires apart { AreNumberedApart (at_moment moment self.old).objects }
         ensures ok { IfOk result (Answers self.old self.new moment call.now (answered room (at_moment moment self.old) caller call.now)) }
         ensures err { OnErr result (self.new ≡ self.old) }
         ensures kept { is_kept self.old caller call.now ≡ true → IsOk result }
@@ -473,6 +474,7 @@ impl Store {
     ) -> Result<Answer, AllocError>
         requires found { FindsFor self.old moment caller (LookupCall query.now) found.old }
         requires numbers { self.old.next + 1 < 2 ^ 64 }
+        requires apart { AreNumberedApart (at_moment moment self.old).objects }
         ensures ok { IfOk result (Answers self.old self.new moment (LookupCall query.now) (told_so self.old moment caller query.now.key found.old)) }
         ensures err { OnErr result (self.new ≡ self.old) }
     {
@@ -507,7 +509,8 @@ impl Store {
         finding: Finding,
         fates: &[Fate],
     ) -> Result<Answer, AllocError>
-        requires { self.old.next + 1 < 2 ^ 64 }
+        requires numbers { self.old.next + 1 < 2 ^ 64 }
+        requires apart { AreNumberedApart (at_moment moment self.old).objects }
         ensures ok { IfOk result (Answers self.old self.new moment (LookupCall query.now) (told_so self.old moment caller query.now.key (Some (record { finding = finding; fates = fates.now })))) }
         ensures err { OnErr result (self.new ≡ self.old) }
     {
@@ -521,8 +524,8 @@ impl Store {
         }
         self.next = next_after(opens, token);
         settle(&mut self.objects, fates, self.issued);
-        count_hit_of(&mut self.objects, self.entries, hit);
-        touch_of(&mut self.objects, self.entries, marker);
+        count_hit_of(&mut self.objects, moment, self.entries, hit);
+        touch_of(&mut self.objects, moment, self.entries, marker);
         remember(&mut self.rounds, caller, wait_in(&answer.told));
         self.moment = moment;
         Ok(answer)
@@ -798,19 +801,36 @@ impl Store {
     ) -> Answer
         ensures { Answers self.old self.new moment (InsertCall token object.now stale) (inserted room (at_moment moment self.old) caller token object.now stale) result }
     {
-        self.moment = moment;
         if !has_fetch(&self.fetches, caller, token) {
+            self.moment = moment;
             return Answer {
                 told: Reply::NotOpen,
                 kept: Reply::NotOpen,
             };
         }
         if is_gone(&self.objects, moment, stale) {
+            self.moment = moment;
             return Answer {
                 told: Reply::StaleGone,
                 kept: Reply::StaleGone,
             };
         }
+        self.hand_over(room, moment, token, object, stale)
+    }
+
+    /// Closes the fetch, and stores its object where that is in time and has room.
+    fn hand_over(
+        &mut self,
+        room: u64,
+        moment: u64,
+        token: u64,
+        object: &Shared<Object>,
+        stale: Option<u64>,
+    ) -> Answer
+        ensures { (caller : ℕ) → has_fetch self.old.fetches caller token ≡ true → is_gone stale (those_in_time moment self.old.objects) ≡ false
+            → Answers self.old self.new moment (InsertCall token object.now stale) (inserted room (at_moment moment self.old) caller token object.now stale) result }
+    {
+        self.moment = moment;
         close_fetch(&mut self.fetches, token);
         if !is_in_time(moment, object) {
             return Answer {

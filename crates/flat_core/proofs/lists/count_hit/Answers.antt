@@ -1,16 +1,15 @@
-use Rattle.std.proofs.Common.{◌<◌, ◌∙◌, length, arith, ap}
-use Rattle.flat_core.specs.StoredObject.{counted_in}
-use Rattle.flat_core.proofs.Passes.{length-passed, one_passed, passed_whole}
+use Rattle.std.proofs.Common.{rules, ◌≡◌, Some, None}
+use Rattle.std.specs.List.{position}
+use Rattle.flat_core.specs.StoredObject.{counted_at, is_of}
+use Rattle.flat_core.proofs.Uses.{changed, unchanged}
 use Rattle.flat_core.proofs.lists.count_hit.Goals as goal
 
-pub index_mut-requires : goal.index_mut-requires
-index_mut-requires c = omega (arith, ap length c.loop-place.invariant, length-passed (counted_in c.args.used c.args.number) c.loop-place.place c.args.objects.now.items, c.loop-place.objects.ok, c.args.objects.now.ok)
+pub returns-in-Some : goal.returns-in-Some
+returns-in-Some c =
+    let found : position (is_of c.args.moment c.args.number) c.args.objects.now.items ≡ Some c.in-Some.place = search rules in
+    changed (is_of c.args.moment c.args.number) (counted_at c.args.used) c.args.objects.now.items c.in-Some.place c.index_mut.result.now c.count_in.new.kept found c.index_mut.ensures.value c.count_in.ensures
 
-pub loop-place-preserved : goal.loop-place-preserved
-loop-place-preserved c =
-    let below : c.loop-place.place < length c.args.objects.now.items = omega (arith, c.args.objects.now.ok) in
-    one_passed (counted_in c.args.used c.args.number) c.loop-place.place c.args.objects.now.items c.loop-place.objects.items c.index_mut.result.now c.count_in.new.kept below c.loop-place.invariant c.index_mut.ensures.value c.count_in.ensures
-
-pub returns : goal.returns
-returns c =
-    c.loop-place.invariant ∙ passed_whole (counted_in c.args.used c.args.number) c.loop-place.place c.args.objects.now.items (omega (arith, c.args.objects.now.ok))
+pub returns-in_default : goal.returns-in_default
+returns-in_default c =
+    let none_ : position (is_of c.args.moment c.args.number) c.args.objects.now.items ≡ None = search rules in
+    unchanged (is_of c.args.moment c.args.number) (counted_at c.args.used) c.args.objects.now.items none_

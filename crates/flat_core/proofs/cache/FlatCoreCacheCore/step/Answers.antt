@@ -4,8 +4,28 @@ use Rattle.std.proofs.lemmas.Bool.{false≢true}
 use Rattle.std.specs.Vec.{vec_capacity}
 use Rattle.cache_law.specs.Law.{step_of}
 use Rattle.cache_law.specs.History.{bytes_of, is_numbered, most_entries}
-use Rattle.flat_core.proofs.Steps.{Made, Answered, counted, fits_at, within_limit, few_behind, numbered_behind, kept_too, sound_behind, entered, legal_behind}
+use Rattle.flat_core.proofs.Steps.{Made, Answered, apart_at, counted, fits_at, within_limit, few_behind, numbered_behind, kept_too, sound_behind, entered, legal_behind}
 use Rattle.flat_core.proofs.cache.FlatCoreCacheCore.step.Goals as goal
+
+pub answer_within-answered-requires-clause-apart : goal.answer_within-answered-requires-clause-apart
+answer_within-answered-requires-clause-apart c =
+    let made : Made = record {
+      beginning = record { params = c.self.inside.params; base = c.self.inside.base.value };
+      entries = c.self.inside.entries.items;
+      room = vec_capacity c.self.inside.entries;
+      used = c.self.inside.used;
+      old = c.self.inside.store;
+      caller = c.args.caller;
+      reading = c.args.reading;
+      moment = c.max-moment.result;
+      call = c.args.call;
+      opens = c.open_after-open.result;
+      sound = c.self.invariant;
+      waited = rw (← c.self.view_is) at c.requires.waited;
+      at_ = search rules;
+      reserves = c.open_after-open.ensures.reserve c.self.inside.params.room;
+    } in
+    apart_at made
 
 pub returns-then-not-is_numbered-clause-full : goal.returns-then-not-is_numbered-clause-full
 returns-then-not-is_numbered-clause-full c =
