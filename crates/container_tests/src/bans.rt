@@ -1,6 +1,7 @@
 // Steps on a list of bans and the objects among them: `ban MOMENT WORDS`, `put NUMBER WORDS`, `enter PLACE MARK`,
 // `depart PLACE MARK`, `cut`, `keep`, `lines`, `newer NUMBER`, `at NUMBER`, `line AT`, `shown` and `test AT STATUS URL`.
 use crate::ban_lines::{say_line_at, say_lines, say_shown, say_test};
+use crate::steps::Container;
 use crate::words::{first_word, number};
 use ban_expr::read;
 use ban_list::{BanList, Stand};
@@ -9,44 +10,29 @@ use cli_words::split;
 use std::alloc::{AllocError, Global};
 use units::{Shared, Text};
 
-pub fn said(alloc: Global, steps: &str) -> Result<String, AllocError> {
-    let mut bans = BanList::new(alloc)?;
-    let mut out = String::new(alloc);
-    for step in steps.split("; ") {
-        if !out.is_empty() {
-            out.push_str("; ")?;
+impl Container for BanList {
+    fn say_step(&mut self, alloc: Global, step: &str, out: &mut String) -> Result<(), AllocError> {
+        let (word, rest) = first_word(step);
+        match word {
+            "ban" => issue(alloc, self, rest, out),
+            "put" => put_first(alloc, self, rest, out),
+            "enter" => enter(self, stand(rest), out),
+            "depart" => depart(self, stand(rest), out),
+            "cut" => {
+                self.cut();
+                write!(out, "{} left", self.len())
+            }
+            "keep" => {
+                self.keep_needed();
+                write!(out, "{} left", self.len())
+            }
+            "newer" => write!(out, "{}", self.count_newer(number(rest))),
+            "at" => {
+                let at = number(rest);
+                write!(out, "{} {}", self.placed_at(at), self.marked_at(at))
+            }
+            _ => say(alloc, self, word, rest, out),
         }
-        say_step(alloc, &mut bans, step, &mut out)?;
-    }
-    Ok(out)
-}
-
-fn say_step(
-    alloc: Global,
-    bans: &mut BanList,
-    step: &str,
-    out: &mut String,
-) -> Result<(), AllocError> {
-    let (word, rest) = first_word(step);
-    match word {
-        "ban" => issue(alloc, bans, rest, out),
-        "put" => put_first(alloc, bans, rest, out),
-        "enter" => enter(bans, stand(rest), out),
-        "depart" => depart(bans, stand(rest), out),
-        "cut" => {
-            bans.cut();
-            write!(out, "{} left", bans.len())
-        }
-        "keep" => {
-            bans.keep_needed();
-            write!(out, "{} left", bans.len())
-        }
-        "newer" => write!(out, "{}", bans.count_newer(number(rest))),
-        "at" => {
-            let at = number(rest);
-            write!(out, "{} {}", bans.placed_at(at), bans.marked_at(at))
-        }
-        _ => say(alloc, bans, word, rest, out),
     }
 }
 

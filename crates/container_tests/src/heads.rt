@@ -5,52 +5,38 @@ ghost use Rattle.std.specs.Prelude.{◌≡◌, IfOk};
 ghost use Rattle.cache_law.specs.Object.{key_of};
 
 use crate::markers::marker;
+use crate::steps::Container;
 use crate::words::{first_word, number, numbers, say_numbers, say_texts, texts};
 use cache_law::{Object, ObjectView};
 use object_heads::{Heads, Item};
 use std::alloc::{AllocError, Global};
 use units::{Sequence, Shared};
 
-pub fn said(alloc: Global, steps: &str) -> Result<String, AllocError> {
-    let mut heads = Heads::new(alloc);
-    let mut out = String::new(alloc);
-    for step in steps.split("; ") {
-        if !out.is_empty() {
-            out.push_str("; ")?;
+impl Container for Heads<u64> {
+    fn say_step(&mut self, alloc: Global, step: &str, out: &mut String) -> Result<(), AllocError> {
+        let (word, rest) = first_word(step);
+        match word {
+            "put" => put(alloc, self, rest, out),
+            "take" => match self.take(number(rest)) {
+                Some(item) => say_item(out, &item),
+                None => out.push_str("none"),
+            },
+            "get" => match self.get(number(rest)) {
+                Some(item) => say_item(out, item),
+                None => out.push_str("none"),
+            },
+            "drop" => {
+                self.drop_all(numbers(alloc, rest)?.as_slice());
+                out.push_str("dropped")
+            }
+            "find" => {
+                let found = self.find(alloc, texts(alloc, rest)?.as_slice())?;
+                say_numbers(out, found.as_slice())
+            }
+            "number" => say_handle(out, self.handle_of(number(rest))),
+            "from" => say_handle(out, self.first_from(number(rest))),
+            _ => change(alloc, self, word, rest, out),
         }
-        say_step(alloc, &mut heads, step, &mut out)?;
-    }
-    Ok(out)
-}
-
-fn say_step(
-    alloc: Global,
-    heads: &mut Heads<u64>,
-    step: &str,
-    out: &mut String,
-) -> Result<(), AllocError> {
-    let (word, rest) = first_word(step);
-    match word {
-        "put" => put(alloc, heads, rest, out),
-        "take" => match heads.take(number(rest)) {
-            Some(item) => say_item(out, &item),
-            None => out.push_str("none"),
-        },
-        "get" => match heads.get(number(rest)) {
-            Some(item) => say_item(out, item),
-            None => out.push_str("none"),
-        },
-        "drop" => {
-            heads.drop_all(numbers(alloc, rest)?.as_slice());
-            out.push_str("dropped")
-        }
-        "find" => {
-            let found = heads.find(alloc, texts(alloc, rest)?.as_slice())?;
-            say_numbers(out, found.as_slice())
-        }
-        "number" => say_handle(out, heads.handle_of(number(rest))),
-        "from" => say_handle(out, heads.first_from(number(rest))),
-        _ => change(alloc, heads, word, rest, out),
     }
 }
 

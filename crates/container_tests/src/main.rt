@@ -8,11 +8,16 @@ mod bans;
 mod heads;
 mod markers;
 mod room;
+mod steps;
 mod words;
 mod xkeys;
 
-use std::alloc::{AllocError, Global};
+use ban_list::BanList;
+use object_heads::Heads;
+use room_lru::RoomLru;
+use std::alloc::AllocError;
 use std::io;
+use xkey_index::XkeyIndex;
 
 fn main(rt: HostRuntime) -> io::Result<()> {
     let mut count: u64 = 0;
@@ -21,7 +26,7 @@ fn main(rt: HostRuntime) -> io::Result<()> {
         if !line.starts_with('#') {
             count = count.saturating_add(1);
             let (row, wanted) = line.split_once(" => ").unwrap_or((line.as_str(), ""));
-            let said = said(rt.alloc(), row)?;
+            let said = said(&rt, row)?;
             if said.as_str() != wanted {
                 println!(rt; "{row} => {said}")?;
             }
@@ -30,13 +35,14 @@ fn main(rt: HostRuntime) -> io::Result<()> {
     println!(rt; "{count} rows")
 }
 
-fn said(alloc: Global, row: &str) -> Result<String, AllocError> {
+fn said(rt: &HostRuntime, row: &str) -> Result<String, AllocError> {
+    let alloc = rt.alloc();
     let (container, steps) = row.split_once(' ').unwrap_or((row, ""));
     match container {
-        "bans" => bans::said(alloc, steps),
-        "xkeys" => xkeys::said(alloc, steps),
-        "room" => room::said(alloc, steps),
-        "heads" => heads::said(alloc, steps),
+        "bans" => steps::said(rt, BanList::new(alloc)?, steps),
+        "xkeys" => steps::said(rt, XkeyIndex::new(alloc), steps),
+        "room" => steps::said(rt, RoomLru::new(alloc), steps),
+        "heads" => steps::said(rt, Heads::<u64>::new(alloc), steps),
         _ => String::from_str(alloc, "no such container"),
     }
 }

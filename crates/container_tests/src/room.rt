@@ -1,45 +1,31 @@
 // Steps on members by their last use: `put USED HANDLE SIZE END`, `take USED`, `drop USES`, `get USED`, `use USED LATER`,
 // `end USED END`, `total`, `expired MOMENT` and `out ROOM SIZE` or `out ROOM SIZE BUT`.
+use crate::steps::Container;
 use crate::words::{first_word, number, numbers, say_numbers};
 use room_lru::{Member, RoomLru};
 use std::alloc::{AllocError, Global};
 
-pub fn said(alloc: Global, steps: &str) -> Result<String, AllocError> {
-    let mut room = RoomLru::new(alloc);
-    let mut out = String::new(alloc);
-    for step in steps.split("; ") {
-        if !out.is_empty() {
-            out.push_str("; ")?;
+impl Container for RoomLru {
+    fn say_step(&mut self, alloc: Global, step: &str, out: &mut String) -> Result<(), AllocError> {
+        let (word, rest) = first_word(step);
+        match word {
+            "put" => put(self, rest, out),
+            "take" => say_member(self.take(number(rest)), out),
+            "get" => say_member(self.get(number(rest)), out),
+            "drop" => {
+                self.drop_all(numbers(alloc, rest)?.as_slice());
+                out.push_str("dropped")
+            }
+            "use" => move_use(self, rest, out),
+            "end" => move_end(self, rest, out),
+            "total" => write!(out, "{}", self.total()),
+            "expired" => match self.expired(number(rest)) {
+                Some(handle) => write!(out, "{handle}"),
+                None => out.push_str("none"),
+            },
+            "out" => say_least_out(alloc, self, rest, out),
+            _ => out.push_str("no such step"),
         }
-        say_step(alloc, &mut room, step, &mut out)?;
-    }
-    Ok(out)
-}
-
-fn say_step(
-    alloc: Global,
-    room: &mut RoomLru,
-    step: &str,
-    out: &mut String,
-) -> Result<(), AllocError> {
-    let (word, rest) = first_word(step);
-    match word {
-        "put" => put(room, rest, out),
-        "take" => say_member(room.take(number(rest)), out),
-        "get" => say_member(room.get(number(rest)), out),
-        "drop" => {
-            room.drop_all(numbers(alloc, rest)?.as_slice());
-            out.push_str("dropped")
-        }
-        "use" => move_use(room, rest, out),
-        "end" => move_end(room, rest, out),
-        "total" => write!(out, "{}", room.total()),
-        "expired" => match room.expired(number(rest)) {
-            Some(handle) => write!(out, "{handle}"),
-            None => out.push_str("none"),
-        },
-        "out" => say_least_out(alloc, room, rest, out),
-        _ => out.push_str("no such step"),
     }
 }
 

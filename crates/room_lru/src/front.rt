@@ -8,7 +8,7 @@ use std::alloc::{AllocError, Global};
 use std::collections::BTreeMap;
 
 /// The most that go for a new one.
-const MOST_OUT: usize = 50;
+const MAX_OUT: usize = 50;
 
 /// The handles of the first of the members that make room for a new one of this size, without the one that it replaces;
 /// `total` is what the others take. None where too many would have to go.
@@ -35,7 +35,7 @@ pub(crate) fn first_out(
         if left <= room - size {
             return Ok(Some(out));
         }
-        if out.len() == MOST_OUT {
+        if out.len() == MAX_OUT {
             return Ok(None);
         }
         out.push(member.handle)?;

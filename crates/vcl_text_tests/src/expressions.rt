@@ -1,22 +1,25 @@
 // How signs bind.
-use crate::statements::first_statement;
+use crate::refusals::tree_of;
+use crate::statements::first_action;
 use std::alloc::{AllocError, Global};
-use units::Text;
-use vcl_parse::parse;
-use vcl_tree::{Action, Addend, Addition, Comparison, Expression, Operation};
+use vcl_tree::{Action, Addend, Addition, Comparison, Expression, Operation, Tree};
 
 /// What an expression is made of.
 pub fn expression_shown(alloc: Global, text: &str) -> Result<String, AllocError> {
-    let mut out = String::new(alloc);
     let whole = format!(in alloc; "vcl 4.1; sub x {{ set y = {text}; }}")?;
-    if let Ok(tree) = parse(alloc, &Text::of(alloc, whole.as_bytes())?) {
-        if let Some(statement) = first_statement(&tree) {
-            if let Action::Set(_, _, value) = &statement.action {
-                push_expression(&mut out, value)?;
-            }
-        }
+    let mut out = String::new(alloc);
+    if let Ok(tree) = tree_of(alloc, whole.as_str()) {
+        push_value(&mut out, &tree)?;
     }
     Ok(out)
+}
+
+// The expression to which the first statement sets something.
+fn push_value(out: &mut String, tree: &Tree) -> Result<(), AllocError> {
+    match first_action(tree) {
+        Some(Action::Set(_, _, value)) => push_expression(out, value),
+        _ => Ok(()),
+    }
 }
 
 // What an expression is, and then its parts.

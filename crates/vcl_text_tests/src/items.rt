@@ -1,21 +1,23 @@
 // What stands at the top of a program.
+use crate::refusals::tree_of;
 use std::alloc::{AllocError, Global};
-use units::Text;
-use vcl_parse::parse;
 use vcl_tree::{Item, Name};
 
 /// Each item by its word, its name and how many parts it has.
 pub fn items_shown(alloc: Global, text: &str) -> Result<String, AllocError> {
     let mut out = String::new(alloc);
-    match parse(alloc, &Text::of(alloc, text.as_bytes())?) {
-        Ok(tree) => {
-            for item in tree.items.as_slice() {
-                push_item(&mut out, item)?;
-            }
-        }
+    match tree_of(alloc, text) {
+        Ok(tree) => push_items(&mut out, tree.items.as_slice())?,
         Err(_) => out.push_str("refused")?,
     }
     Ok(out)
+}
+
+fn push_items(out: &mut String, items: &[Item]) -> Result<(), AllocError> {
+    for item in items {
+        push_item(out, item)?;
+    }
+    Ok(())
 }
 
 // The item's word, its name, and how many parts it has where it can have some.

@@ -25,40 +25,33 @@ use vmod_host::{
 // The functions of `std`, and behind them those that are never called, whose signatures alone rows read.
 fn main(rt: HostRuntime) -> io::Result<()> {
     let alloc = rt.alloc();
+    let mut list = Vec::new(alloc);
     let text = [Kind::String];
-    let lower = Signature::of(alloc, b"std", b"tolower", &text, Kind::String)?;
-    let upper = Signature::of(alloc, b"std", b"toupper", &text, Kind::String)?;
-    let number = Signature::of(
-        alloc,
-        b"std",
-        b"integer",
-        &[Kind::String, Kind::Int],
-        Kind::Int,
-    )?;
-    let length = Signature::of(alloc, b"std", b"strlen", &text, Kind::Int)?;
-    let usual = [
-        Vmod {
-            tag: TOLOWER,
-            signature: lower,
-            call: tolower,
-        },
-        Vmod {
-            tag: TOUPPER,
-            signature: upper,
-            call: toupper,
-        },
-        Vmod {
-            tag: INTEGER,
-            signature: number,
-            call: integer,
-        },
-        Vmod {
-            tag: STRLEN,
-            signature: length,
-            call: strlen,
-        },
-    ];
-    let mut list = Vec::from_array(alloc, usual)?;
+    let signature = Signature::of(alloc, b"std", b"tolower", &text, Kind::String)?;
+    list.push(Vmod {
+        tag: TOLOWER,
+        signature,
+        call: tolower,
+    })?;
+    let signature = Signature::of(alloc, b"std", b"toupper", &text, Kind::String)?;
+    list.push(Vmod {
+        tag: TOUPPER,
+        signature,
+        call: toupper,
+    })?;
+    let number = [Kind::String, Kind::Int];
+    let signature = Signature::of(alloc, b"std", b"integer", &number, Kind::Int)?;
+    list.push(Vmod {
+        tag: INTEGER,
+        signature,
+        call: integer,
+    })?;
+    let signature = Signature::of(alloc, b"std", b"strlen", &text, Kind::Int)?;
+    list.push(Vmod {
+        tag: STRLEN,
+        signature,
+        call: strlen,
+    })?;
     let mut tag: u32 = 99;
     for signature in uncalled(alloc)? {
         list.push(Vmod {

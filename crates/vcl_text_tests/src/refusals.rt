@@ -5,7 +5,7 @@ use std::alloc::{AllocError, Global};
 use units::Text;
 use vcl_check::check;
 use vcl_parse::parse;
-use vcl_tree::VclError;
+use vcl_tree::{Tree, VclError};
 use vmod_host::VmodTable;
 
 /// What is said of the row's text, where the row wants something else. Behind a plus a text is to be taken. Behind the number
@@ -18,14 +18,35 @@ pub fn otherwise(
 ) -> Result<Option<String>, AllocError> {
     let (kind, text) = row.split_once(' ').unwrap_or((row, ""));
     let text = expanded(alloc, text)?;
-    let Some((front, back)) = text.as_str().split_once('@') else {
-        return Ok(unless_same(said(alloc, vmods, word, text.as_str())?, kind));
-    };
+    match text.as_str().split_once('@') {
+        Some(parts) => otherwise_at(alloc, vmods, word, kind, parts),
+        None => unless_said(alloc, vmods, word, text.as_str(), kind),
+    }
+}
+
+// The same of a text in two parts, which is to be refused where the first one ends.
+fn otherwise_at(
+    alloc: Global,
+    vmods: &VmodTable,
+    word: &str,
+    kind: &str,
+    parts: (&str, &str),
+) -> Result<Option<String>, AllocError> {
+    let (front, back) = parts;
     let place = front.len();
-    let unmarked = format!(in alloc; "{front}{back}")?;
-    let said = said(alloc, vmods, word, unmarked.as_str())?;
     let wanted = format!(in alloc; "{kind} at {place}")?;
-    Ok(unless_same(said, wanted.as_str()))
+    let unmarked = format!(in alloc; "{front}{back}")?;
+    unless_said(alloc, vmods, word, unmarked.as_str(), wanted.as_str())
+}
+
+fn unless_said(
+    alloc: Global,
+    vmods: &VmodTable,
+    word: &str,
+    text: &str,
+    wanted: &str,
+) -> Result<Option<String>, AllocError> {
+    Ok(unless_same(said(alloc, vmods, word, text)?, wanted))
 }
 
 // A plus, or the number of the refusal and its place.
@@ -45,13 +66,19 @@ fn said(alloc: Global, vmods: &VmodTable, word: &str, text: &str) -> Result<Stri
     }
 }
 
+/// The tree of a text.
+pub fn tree_of(alloc: Global, text: &str) -> Result<Tree, VclError> {
+    let text = Text::of(alloc, text.as_bytes())?;
+    parse(alloc, &text)
+}
+
 fn parsed(alloc: Global, text: &str) -> Result<(), VclError> {
-    let _ = parse(alloc, &Text::of(alloc, text.as_bytes())?)?;
+    let _ = tree_of(alloc, text)?;
     Ok(())
 }
 
 fn checked(alloc: Global, vmods: &VmodTable, text: &str) -> Result<(), VclError> {
-    let tree = parse(alloc, &Text::of(alloc, text.as_bytes())?)?;
+    let tree = tree_of(alloc, text)?;
     let _ = check(alloc, tree, vmods)?;
     Ok(())
 }

@@ -19,12 +19,17 @@ pub fn alone_shown(alloc: Global) -> Result<String, AllocError> {
     one_reading();
     let mut alone = Vec::new(alloc);
     for byte in 0..=255u8 {
-        if shown(alloc, &Text::of(alloc, &[byte])?)?.as_str() != "1 at 0" {
+        if is_text(alloc, byte)? {
             alone.push(byte)?;
         }
     }
     let alone = Text::from_vec(alone)?;
     format!(in alloc; "{alone:?}")
+}
+
+fn is_text(alloc: Global, byte: u8) -> Result<bool, AllocError> {
+    let text = Text::of(alloc, &[byte])?;
+    Ok(shown(alloc, &text)?.as_str() != "1 at 0")
 }
 
 fn shown(alloc: Global, text: &Text) -> Result<String, AllocError> {

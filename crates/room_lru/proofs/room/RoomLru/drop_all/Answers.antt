@@ -1,4 +1,4 @@
-use Rattle.std.proofs.Common.{◌∙◌, ap, refl, sym}
+use Rattle.std.proofs.Common.{◌∙◌, ap, sym}
 use Rattle.room_lru.specs.Members.{without}
 use Rattle.room_lru.proofs.DropLemmas.{gone_more, none_gone}
 use Rattle.room_lru.proofs.room.RoomLru.drop_all.Goals as goal
@@ -9,4 +9,4 @@ loop-used-init c = sym (none_gone c.args.self.now)
 pub loop-used-preserved : goal.loop-used-preserved
 loop-used-preserved c =
     c.take.ensures.rest ∙ ap (without _) c.loop-used.invariant
-    ∙ gone_more c.args.uses.now c.loop-used.used-index _ _ c.args.self.now c.loop-used-test.true refl
+    ∙ gone_more c.args.uses.now c.loop-used.used-index _ c.args.self.now c.loop-used-test.true

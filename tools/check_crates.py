@@ -1,0 +1,46 @@
+#!/usr/bin/env python3
+"""Checks that crates.txt lists for each crate what the crate names and no more: a crate that is listed costs each proof
+time, used or not, and a crate's stamp is counted once for each path to it.
+
+A crate is named where its sources, specs or proofs have `NAME::` or `Rattle.NAME.` outside of comments; what it names and
+crates.txt doesn't list, the check refuses. Prints each crate that is listed and not named; exits 1 if there is one.
+"""
+import re
+import sys
+from pathlib import Path
+
+ROOT = Path(__file__).resolve().parent.parent
+COMMENT = re.compile(r"^\s*(//|--).*$", re.MULTILINE)
+
+
+def listed():
+    """Each crate with the crates that are listed for it."""
+    for line in (ROOT / "crates.txt").read_text(encoding="utf-8").splitlines():
+        head, colon, names = line.partition("#")[0].partition(":")
+        if colon:
+            yield head.split()[0], names.split()
+
+
+def text_of(crate):
+    """What the crate's files say outside of comments."""
+    files = [path for part in ("src", "specs", "proofs") for path in (ROOT / "crates" / crate / part).rglob("*.*t*")]
+    return "\n".join(COMMENT.sub("", path.read_text(encoding="utf-8")) for path in files if path.is_file())
+
+
+def is_named(name, text):
+    return re.search(rf"\b{name}::|\bRattle\.{name}\.", text) is not None
+
+
+def main():
+    unnamed = 0
+    for crate, names in listed():
+        text = text_of(crate)
+        for name in names:
+            if not is_named(name, text):
+                unnamed += 1
+                print(f"crates.txt: {crate} doesn't name {name}")
+    return 1 if unnamed else 0
+
+
+if __name__ == "__main__":
+    sys.exit(main())
