@@ -12,8 +12,8 @@ use vmod_host::{
     toupper,
 };
 
-// A quoted text, or an absent one.
-fn some_text(alloc: Global, row: &str) -> Result<Option<Text>, AllocError> {
+/// A quoted text, or an absent one.
+pub fn some_text(alloc: Global, row: &str) -> Result<Option<Text>, AllocError> {
     if row == "absent" {
         return Ok(None);
     }

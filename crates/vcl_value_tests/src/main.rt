@@ -3,6 +3,7 @@
 //! otherwise, and how many rows there are.
 #![tactic(auto)]
 
+mod cookies;
 mod functions;
 mod names;
 mod patterns;
@@ -39,6 +40,7 @@ fn said(alloc: Global, row: &str) -> Result<String, AllocError> {
         "first" | "all" => patterns::replaced_shown(alloc, word, rest),
         "tolower" | "toupper" | "strlen" => functions::answer_shown(alloc, word, rest),
         "integer" => functions::integer_shown(alloc, rest),
+        "jar" => cookies::jar_shown(alloc, rest),
         "copied" => functions::copies_shown(alloc, rest),
         "twice" => functions::table_shown(alloc),
         "find" => symbols::place_shown(alloc, rest),

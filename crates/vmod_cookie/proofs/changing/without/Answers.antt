@@ -1,0 +1,12 @@
+use Rattle.std.proofs.Common.{◌≡◌, ap, ◌∙◌, subst, filter, not}
+use Rattle.std.specs.Prelude.{IfOk}
+use Rattle.std.specs.Str.{byte}
+use Rattle.vmod_cookie.specs.Jar.{without, parts_at}
+use Rattle.vmod_cookie.specs.Meanings.{jar_value}
+use Rattle.vmod_cookie.proofs.changing.without.Goals as goal
+
+pub returns : goal.returns
+returns c =
+    subst (λ jar. IfOk c.jar_value.result (λ answer. answer ≡ jar_value jar))
+    (c.remove.ensures ∙ ((λ i. filter (λ cookie. not (c.in_ok-names.ensures cookie.0 i)) c.args.jar) ∙ ap (λ list. without c.args.jar (parts_at (byte ",") list)) c.bytes.ensures))
+    c.jar_value.ensures

@@ -1,0 +1,8 @@
+use Rattle.std.proofs.Common.{rules, tests, filter, ap, ◌∙◌}
+use Rattle.std.specs.Str.{bytes_eq}
+use Rattle.indexmap.specs.IndexSet.{contains}
+use Rattle.indexmap.proofs.CallerLemmas.{filter-RetainsPairs}
+use Rattle.vmod_cookie.proofs.jar.Jar.keep.Goals as goal
+
+pub returns : goal.returns
+returns c = filter-RetainsPairs _ (λ cookie. contains bytes_eq c.args.names.now cookie.0) _ (λ k v b w g t. search (rules, tests)) _ _ c.retain.ensures.filtered ∙ ap (filter (λ cookie. contains bytes_eq c.args.names.now cookie.0)) c.self.view_is

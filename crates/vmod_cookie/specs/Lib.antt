@@ -1,0 +1,4 @@
+pub mod Jar
+pub mod Written
+pub mod Meanings
+pub mod Operations
