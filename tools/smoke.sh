@@ -80,8 +80,10 @@ request='req 1 "GET / HTTP/1.1\r\nHost: h\r\n\r\n"'
 given 'cli ping' end
 check "help: status 0" ends 0 'usage: ' --help
 check "a session: status 0" ends 0 'PONG' replay
-check "no words: status 2" ends 2 'serve or replay'
+check "no words: status 2" ends 2 'replay or load'
 check "a word that isn't known: status 2" ends 2 '--rooms' replay --rooms 1
+check "a load: status 0" ends 0 'requests 19' load --seed 1 --steps 20
+check "a load without steps: status 2" ends 2 '--steps' load --seed 1
 check "an option is missing: status 2" ends 2 '--conns' serve --listen 8000 --vcl x --workers 1
 given "$request" 'nothing' end
 check "a line without a meaning: status 3" ends 3 'line 2 kind 2' replay

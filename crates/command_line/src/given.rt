@@ -1,12 +1,12 @@
 // What options give.
 ghost use Rattle.std.specs.Prelude.{◌≡◌, ◌↔◌, ℕ, List, IsTrue, true, false, MatchOption, MatchResult, IfOk, IfErr};
 ghost use Rattle.command_line.specs.declared.given.Given.{Given as Told};
-ghost use Rattle.command_line.specs.Words.{IsFile, IsWithin, IsOrder, Puts, has, nothing};
-ghost use Rattle.command_line.specs.Faults.{IsMissing, option_at};
+ghost use Rattle.command_line.specs.Words.{IsFile, IsLoad, IsWithin, IsOrder, Puts, has, nothing};
+ghost use Rattle.command_line.specs.Faults.{IsMissing, missing_of_load, missing_of_serve, option_at};
 
 use crate::fault::Fault;
-use crate::name::OptionName;
-use crate::order::ServeOptions;
+use crate::name::{CommandName, OptionName};
+use crate::order::{LoadOptions, ServeOptions};
 use std::alloc::AllocError;
 use units::{Text, read_number};
 
@@ -22,6 +22,8 @@ pub(crate) struct Given {
     pub conns: Option<u32>,
     pub room: Option<u64>,
     pub history: Option<u64>,
+    pub seed: Option<u32>,
+    pub steps: Option<u32>,
 }
 
 // The number that the word is, if it is one between these.
@@ -59,6 +61,8 @@ impl Given {
             conns: None,
             room: None,
             history: None,
+            seed: None,
+            steps: None,
         }
     }
 
@@ -73,16 +77,25 @@ impl Given {
             OptionName::Conns => self.conns.is_some(),
             OptionName::Room => self.room.is_some(),
             OptionName::History => self.history.is_some(),
+            OptionName::Seed => self.seed.is_some(),
+            OptionName::Steps => self.steps.is_some(),
         }
     }
 
-    /// The option that the word at this place names, if it may be given yet.
-    pub fn option_at(&self, place: usize, word: &Text) -> Result<OptionName, Fault>
-        ensures { result ≡ option_at self.now place word.now }
+    /// The option of the command that the word at this place names, if it may be given yet.
+    pub fn option_at(
+        &self,
+        command: CommandName,
+        place: usize,
+        word: &Text,
+    ) -> Result<OptionName, Fault>
+        ensures { result ≡ option_at command self.now place word.now }
     {
         match OptionName::of(word) {
             Some(option) => {
-                if self.has(option) {
+                if !command.takes(option) {
+                    Err(Fault::Unknown(place))
+                } else if self.has(option) {
                     Err(Fault::Twice(place))
                 } else {
                     Ok(option)
@@ -125,13 +138,21 @@ impl Given {
                 Some(history) => self.history = Some(history),
                 None => return Ok(false),
             },
+            OptionName::Seed => match number_in(value, 0, 2_147_483_647) {
+                Some(seed) => self.seed = Some(seed as u32),
+                None => return Ok(false),
+            },
+            OptionName::Steps => match number_in(value, 1, 100_000) {
+                Some(steps) => self.steps = Some(steps as u32),
+                None => return Ok(false),
+            },
         }
         Ok(true)
     }
 
-    /// The order, if all that it wants is given.
+    /// The order of a server, if all that it wants is given.
     pub fn into_order(self) -> Result<ServeOptions, Fault>
-        ensures { MatchResult result (IsOrder self) (IsMissing self) }
+        ensures { MatchResult result (IsOrder self) (IsMissing (missing_of_serve self)) }
     {
         let Given {
             listen,
@@ -140,6 +161,7 @@ impl Given {
             conns,
             room,
             history,
+            ..
         } = self;
         let Some(port) = listen else {
             return Err(Fault::Missing(OptionName::Listen));
@@ -161,5 +183,19 @@ impl Given {
             room: room.unwrap_or(USUAL),
             history: history.unwrap_or(USUAL),
         })
+    }
+
+    /// The load, if all that it wants is given.
+    pub fn into_load(self) -> Result<LoadOptions, Fault>
+        ensures { MatchResult result (IsLoad self) (IsMissing (missing_of_load self)) }
+    {
+        let Given { seed, steps, .. } = self;
+        let Some(seed) = seed else {
+            return Err(Fault::Missing(OptionName::Seed));
+        };
+        let Some(steps) = steps else {
+            return Err(Fault::Missing(OptionName::Steps));
+        };
+        Ok(LoadOptions { seed, steps })
     }
 }

@@ -1,6 +1,6 @@
-//! The words that ask for a server: its options, their ranges and what they are where they aren't given.
+//! The words that ask for a server or for a load: options, their ranges and what they are where they aren't given.
 //!
-//! Contract for the layer above: `read_order` gives the order that options give by the grammar of `specs/Words.antt`, or their first
+//! Contract for the layer above: `read_order` and `read_load` give what options ask for by the grammar of `specs/Words.antt`, or their first
 //! fault and its place (`specs/Faults.antt`); and it gives a fault only where they are outside the grammar.
 #![tactic(auto)]
 
@@ -11,6 +11,6 @@ mod order;
 mod reading;
 
 pub use fault::{Fault, OrderError};
-pub use name::OptionName;
-pub use order::ServeOptions;
-pub use reading::read_order;
+pub use name::{CommandName, OptionName};
+pub use order::{LoadOptions, ServeOptions};
+pub use reading::{read_load, read_order};

@@ -1,11 +1,31 @@
 // The names of options.
 ghost use Rattle.std.specs.Prelude.{◌≡◌};
 ghost use Rattle.std.specs.Str.{bytes_eq};
-ghost use Rattle.command_line.specs.Words.{named};
+ghost use Rattle.command_line.specs.Words.{named, takes};
 
 use units::Text;
 
-/// An option of `serve`.
+/// A command whose options are read here.
+#[derive(Clone, Copy, Debug, PartialEq, Eq)]
+pub enum CommandName {
+    Serve,
+    Load,
+}
+
+impl CommandName {
+    /// Whether the option is one of the command's.
+    pub(crate) fn takes(self, option: OptionName) -> bool
+        ensures { result ≡ takes self option }
+    {
+        let is_of_load = matches!(option, OptionName::Seed | OptionName::Steps);
+        match self {
+            CommandName::Serve => !is_of_load,
+            CommandName::Load => is_of_load,
+        }
+    }
+}
+
+/// An option of a command.
 #[derive(Clone, Copy, Debug, PartialEq, Eq)]
 pub enum OptionName {
     Listen,
@@ -14,6 +34,8 @@ pub enum OptionName {
     Conns,
     Room,
     History,
+    Seed,
+    Steps,
 }
 
 fn is_word(word: &Text, wanted: &[u8]) -> bool
@@ -44,6 +66,12 @@ impl OptionName {
         }
         if is_word(word, b"--history") {
             return Some(OptionName::History);
+        }
+        if is_word(word, b"--seed") {
+            return Some(OptionName::Seed);
+        }
+        if is_word(word, b"--steps") {
+            return Some(OptionName::Steps);
         }
         None
     }

@@ -1,4 +1,4 @@
-// What a server is asked for.
+// What a command is asked for.
 use units::Text;
 
 /// A server: where it listens, the file of its VCL, how many workers it has and how many connections it serves, and the most bytes
@@ -11,4 +11,11 @@ pub struct ServeOptions {
     pub conns: u32,
     pub room: u64,
     pub history: u64,
+}
+
+/// A load: the number that its session is made from, and how many steps it has.
+#[derive(Clone, Copy, Debug, PartialEq, Eq)]
+pub struct LoadOptions {
+    pub seed: u32,
+    pub steps: u32,
 }

@@ -2,13 +2,14 @@
 use Rattle.std.specs.Prelude.{ℕ, List, [], ◌∷◌, codes, Option, Some, None, if◌then◌else◌}
 use Rattle.std.specs.Str.{bytes_eq}
 use Rattle.diagnostics.specs.declared.help.Help.{Help}
-use Rattle.diagnostics.specs.declared.help.Help.TheVariants.{Program, Serve, Replay, Version}
+use Rattle.diagnostics.specs.declared.help.Help.TheVariants.{Program, Serve, Replay, Load, Version}
 
 -- the help for one command
 abbrev pub topic_of : List ℕ → Option Help
 topic_of command =
     if bytes_eq command (codes "serve") then Some Serve else
     if bytes_eq command (codes "replay") then Some Replay else
+    if bytes_eq command (codes "load") then Some Load else
     None
 
 -- `--help` or `--version` alone, or `--help` behind a command

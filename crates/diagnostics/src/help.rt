@@ -13,9 +13,12 @@ const SERVE: &str =
 
 const REPLAY: &str = "varn replay [--room N] [--history N] < SESSION > TRANSCRIPT";
 
+const LOAD: &str = "varn load --seed N --steps M";
+
 const COMMANDS: &str =
     "serve         serves connections over one cache, and at the end writes how many requests they had
-replay        plays a session from standard input and writes its transcript to standard output";
+replay        plays a session from standard input and writes its transcript to standard output
+load          plays a session that is made from a number, and writes what came of it";
 
 const SERVE_OPTIONS: &str = "--listen P    the port to listen at, on all addresses: 1 to 65535
 --vcl FILE    the file with the VCL; its name doesn't begin with a hyphen
@@ -25,6 +28,9 @@ const SERVE_OPTIONS: &str = "--listen P    the port to listen at, on all address
 const LIMITS: &str =
     "--room N      the bytes that the stored objects may have: 0 to 1073741824; 268435456 when not given
 --history N   the bytes that the history of calls may have: 0 to 1073741824; 268435456 when not given";
+
+const LOAD_OPTIONS: &str = "--seed N      the number that the session is made from: 0 to 2147483647
+--steps M     how many steps the session has: 1 to 100000";
 
 const ORDER: &str =
     "Options stand in any order, each once, and those in brackets may be left out. A number is decimal digits without a
@@ -39,12 +45,17 @@ const REPLAY_ENDS: &str =
     "Ends with status 0 where the run was whole, 2 for other words than these, 3 where the session is faulty or can't be
 played, 4 where reading failed, 5 where writing failed, 6 for want of memory, and 9 where the history is full.";
 
+const LOAD_ENDS: &str =
+    "Ends with status 0 where the run was whole, 2 for other words than these, 3 where the session can't be played, 5 where
+writing failed, 6 for want of memory, and 9 where the history is full.";
+
 /// What help is asked for.
 #[derive(Clone, Copy, Debug, PartialEq, Eq)]
 pub enum Help {
     Program,
     Serve,
     Replay,
+    Load,
     Version,
 }
 
@@ -62,6 +73,8 @@ fn topic_of(command: &Text) -> Option<Help>
         Some(Help::Serve)
     } else if is_word(command, b"replay") {
         Some(Help::Replay)
+    } else if is_word(command, b"load") {
+        Some(Help::Load)
     } else {
         None
     }
@@ -99,13 +112,14 @@ impl fmt::Display for Help {
         match self {
             Help::Program => write!(
                 f,
-                "{NAME}\n\nusage: {SERVE}\n       {REPLAY}\n       varn serve --help\n       varn replay --help\n       varn --help\n       varn --version\n\n{COMMANDS}\n\n{SERVE_OPTIONS}\n{LIMITS}\n\n{ORDER}"
+                "{NAME}\n\nusage: {SERVE}\n       {REPLAY}\n       {LOAD}\n       varn serve --help\n       varn replay --help\n       varn load --help\n       varn --help\n       varn --version\n\n{COMMANDS}\n\n{SERVE_OPTIONS}\n{LIMITS}\n{LOAD_OPTIONS}\n\n{ORDER}"
             ),
             Help::Serve => write!(
                 f,
                 "usage: {SERVE}\n\n{SERVE_OPTIONS}\n{LIMITS}\n\n{ORDER}\n{SERVE_ENDS}"
             ),
             Help::Replay => write!(f, "usage: {REPLAY}\n\n{LIMITS}\n\n{ORDER}\n{REPLAY_ENDS}"),
+            Help::Load => write!(f, "usage: {LOAD}\n\n{LOAD_OPTIONS}\n\n{ORDER}\n{LOAD_ENDS}"),
             Help::Version => f.write_str("varn 0.1"),
         }
     }

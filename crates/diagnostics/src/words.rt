@@ -1,9 +1,11 @@
 // Which word of a command line is faulty, and what was expected.
-use command_line::{Fault, OptionName};
+use command_line::{CommandName, Fault, OptionName};
 use std::alloc::{AllocError, Global};
 use units::Text;
 
 const SERVE_TAKES: &str = "serve takes --listen, --vcl, --workers, --conns, --room and --history";
+
+const LOAD_TAKES: &str = "load takes --seed and --steps";
 
 const REPLAY_TAKES: &str =
     "replay takes --room N and --history N, each at most once, N a number of bytes from 0 to 1073741824";
@@ -16,16 +18,27 @@ fn name_of(option: OptionName) -> &'static str {
         OptionName::Conns => "--conns",
         OptionName::Room => "--room",
         OptionName::History => "--history",
+        OptionName::Seed => "--seed",
+        OptionName::Steps => "--steps",
     }
 }
 
-// What stands behind an option of a server.
+fn taken_by(command: CommandName) -> &'static str {
+    match command {
+        CommandName::Serve => SERVE_TAKES,
+        CommandName::Load => LOAD_TAKES,
+    }
+}
+
+// What stands behind an option.
 fn expected(name: &str) -> &'static str {
     match name {
         "--listen" => "a port from 1 to 65535 is expected",
         "--vcl" => "the name of a file is expected, in UTF-8, that doesn't begin with a hyphen",
         "--workers" => "a number from 1 to 64 is expected",
         "--conns" => "a number from 1 to 1000000 is expected",
+        "--seed" => "a number from 0 to 2147483647 is expected",
+        "--steps" => "a number from 1 to 100000 is expected",
         _ => "a number of bytes from 0 to 1073741824 is expected",
     }
 }
@@ -41,12 +54,18 @@ fn word_at(options: &[Text], place: usize) -> &str {
     }
 }
 
-/// What is wrong with the options of a server.
-pub fn order_fault(alloc: Global, options: &[Text], fault: Fault) -> Result<String, AllocError> {
+/// What is wrong with the options of a command.
+pub fn order_fault(
+    alloc: Global,
+    command: CommandName,
+    options: &[Text],
+    fault: Fault,
+) -> Result<String, AllocError> {
     match fault {
         Fault::Unknown(place) => {
             let word = word_at(options, place);
-            format!(in alloc; "no such option: {word}; {SERVE_TAKES}")
+            let taken = taken_by(command);
+            format!(in alloc; "no such option: {word}; {taken}")
         }
         Fault::Twice(place) => {
             let word = word_at(options, place);
@@ -71,17 +90,20 @@ pub fn order_fault(alloc: Global, options: &[Text], fault: Fault) -> Result<Stri
     }
 }
 
-/// What is wrong with words that don't begin as those of a server, if this is the first faulty word; None where a word is missing.
+/// What is wrong with words that begin neither as those of a server nor as those of a load, if this is the first faulty word; None where a word is missing.
 pub fn replay_fault(
     alloc: Global,
     words: &[Text],
     faulty: Option<&Text>,
 ) -> Result<String, AllocError> {
     match (words, faulty) {
-        ([], _) => String::from_str(alloc, "a command is missing; serve or replay is expected"),
+        ([], _) => String::from_str(
+            alloc,
+            "a command is missing; serve, replay or load is expected",
+        ),
         ([command, ..], _) if command.bytes() != b"replay".as_slice() => {
             let word = text_of(command);
-            format!(in alloc; "no such command: {word}; serve or replay is expected")
+            format!(in alloc; "no such command: {word}; serve, replay or load is expected")
         }
         (_, Some(word)) => {
             let word = text_of(word);

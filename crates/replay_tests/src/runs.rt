@@ -1,10 +1,11 @@
 // One run, and what is told of it.
 use crate::outside::{sink_of, source_of};
 use cache_law::Entry;
+use command_line::{LoadOptions, read_load};
 use flat_core::FlatCore;
 use std::alloc::{AllocError, Global};
 use units::Text;
-use varn_program::{Outcome, Status, faulty_word, run};
+use varn_program::{Job, Outcome, Status, do_with_std, faulty_word, run};
 use wire::{FailingSink, FailingSource};
 
 // The longest transcript that is told whole.
@@ -18,12 +19,7 @@ pub fn run_shown(alloc: Global, head: &str, session: &[u8]) -> Result<String, Al
     let words = words_of(alloc, line)?;
     let mut source = source_of(alloc, plan, session)?;
     let mut sink = sink_of(alloc, plan)?;
-    let outcome = run::<FlatCore, FailingSource, FailingSink>(
-        alloc,
-        words.as_slice(),
-        &mut source,
-        &mut sink,
-    );
+    let outcome = outcome_of(alloc, words.as_slice(), &mut source, &mut sink);
     let with_history = mark == "@@";
     outcome_shown(
         alloc,
@@ -32,6 +28,31 @@ pub fn run_shown(alloc: Global, head: &str, session: &[u8]) -> Result<String, Al
         sink.bytes(),
         with_history,
     )
+}
+
+// The load that the words ask for, if they do.
+fn load_asked(words: &[Text]) -> Option<LoadOptions> {
+    match words {
+        [command, options @ ..] if command.bytes() == b"load".as_slice() => {
+            read_load(options).ok()
+        }
+        _ => None,
+    }
+}
+
+fn outcome_of(
+    alloc: Global,
+    words: &[Text],
+    source: &mut FailingSource,
+    sink: &mut FailingSink,
+) -> Outcome {
+    match load_asked(words) {
+        Some(LoadOptions { seed, steps }) => {
+            let job = Job::Load { seed, steps };
+            do_with_std::<FlatCore, FailingSource, FailingSink>(alloc, &job, source, sink)
+        }
+        None => run::<FlatCore, FailingSource, FailingSink>(alloc, words, source, sink),
+    }
 }
 
 fn outcome_shown(

@@ -1,5 +1,5 @@
 // What is said on standard error of a run that wasn't whole.
-use command_line::{OrderError, ServeOptions};
+use command_line::{CommandName, OrderError, ServeOptions};
 use diagnostics::{order_fault, replay_fault, session_refusal, unseen_refusal, vcl_refusal};
 use std::alloc::AllocError;
 use system::{WordsError, tell};
@@ -35,14 +35,27 @@ fn say(rt: &HostRuntime, text: Result<String, AllocError>) {
     }
 }
 
-/// Says which word of a server's is faulty, and what was expected.
-pub(crate) fn explain_order(rt: &HostRuntime, options: &[Text], error: OrderError) {
+/// Says which option of a command is faulty, and what was expected.
+pub(crate) fn explain_order(
+    rt: &HostRuntime,
+    command: CommandName,
+    options: &[Text],
+    error: OrderError,
+) {
     match error {
         OrderError::Refused(fault) => {
-            say(rt, order_fault(rt.alloc(), options, fault));
-            tell(rt, "varn serve --help tells each option");
+            say(rt, order_fault(rt.alloc(), command, options, fault));
+            tell(rt, help_on(command));
         }
         OrderError::NoMemory => tell(rt, NO_MEMORY),
+    }
+}
+
+// Where the options of a command are told.
+fn help_on(command: CommandName) -> &'static str {
+    match command {
+        CommandName::Serve => "varn serve --help tells each option",
+        CommandName::Load => "varn load --help tells each option",
     }
 }
 
@@ -52,7 +65,7 @@ pub(crate) fn explain_words(rt: &HostRuntime, words: &[Text]) {
     tell(rt, "varn --help tells each command and its options");
 }
 
-/// Says how a replay ended that wasn't whole.
+/// Says how a session ended that wasn't whole.
 pub(crate) fn explain_replay(rt: &HostRuntime, status: ReplayStatus, note: Option<Note>) {
     if let Some(note) = note {
         let line = note.line;

@@ -3,7 +3,7 @@ use crate::explaining::{
     explain_order, explain_replay, explain_server, explain_unwritten, explain_wordless,
     explain_words,
 };
-use crate::running::{Outcome, options_of, run};
+use crate::running::{Outcome, command_of, run};
 use diagnostics::Help;
 use std::env::{self, VarError};
 use std::net::{Net, TcpListener, TcpStream};
@@ -69,10 +69,11 @@ fn explain<W: World>(rt: &HostRuntime, words: &[Text], world: &mut W, outcome: &
             }
             explain_replay(rt, replayed.status, replayed.note);
         }
+        Outcome::Load(_, played) => explain_replay(rt, played.status, played.note),
         Outcome::Serve(order, served) => explain_server(rt, world, order, served),
-        Outcome::Unasked(error) => {
-            if let Some(options) = options_of(words) {
-                explain_order(rt, options, *error);
+        Outcome::Unasked(command, error) => {
+            if let Some((_, options)) = command_of(words) {
+                explain_order(rt, *command, options, *error);
             }
         }
     }

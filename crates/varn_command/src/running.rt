@@ -6,21 +6,23 @@ ghost use Rattle.crew.specs.Hiring.{IsUnused};
 ghost use Rattle.wire.specs.Telling.{told_by};
 ghost use Rattle.vcl_library.specs.Functions.{std_functions};
 ghost use Rattle.vcl_library.specs.Functions.{std_functions as replay_functions};
+ghost use Rattle.varn_program.specs.Load.{IsLoaded, Loads};
 ghost use Rattle.varn_program.specs.Run.{Ends, IsComplete};
 ghost use Rattle.varn_program.specs.Words.{AsksReplay};
 ghost use Rattle.varn_program.specs.declared.outcome.Status.TheVariants as replay_status;
 ghost use Rattle.varn_serve.specs.Endings.{is_full};
 ghost use Rattle.varn_serve.specs.Run.{CameTo, EndsAs, GaveFor, IsComplete as IsWhole, RanBy, is_full_status};
-ghost use Rattle.varn_command.specs.Asking.{Does, code_of, options_of};
+ghost use Rattle.varn_command.specs.Asking.{Does, code_of, command_of};
 ghost use Rattle.wire.specs.Causes.{Rose};
 ghost use Rattle.world.specs.Keeping.{MayAdd};
 
-use command_line::{OrderError, ServeOptions, read_order};
+use command_line::{CommandName, LoadOptions, OrderError, ServeOptions, read_load, read_order};
 use flat_core::FlatCore;
 use std::alloc::Global;
 use std::sync::Wait;
 use std::thread::Threads;
 use units::Text;
+use varn_program::{Job, do_with_std};
 use varn_serve::{Served, serve_with_std};
 use wire::{Dialer, Sink, Source};
 use world::{Gate, World};
@@ -31,12 +33,14 @@ type Core = FlatCore;
 /// What a run came to, by its command.
 #[derive(Drop)]
 pub enum Outcome {
-    /// The words don't begin as those of a server.
+    /// The words begin neither as those of a server nor as those of a load.
     Replay(varn_program::Outcome),
+    /// The words are this load.
+    Load(LoadOptions, varn_program::Outcome),
     /// The words are this order.
     Serve(ServeOptions, Served),
-    /// The words begin as those of a server, and give no order.
-    Unasked(OrderError),
+    /// The words begin as those of this command, and give no order.
+    Unasked(CommandName, OrderError),
 }
 
 impl Outcome {
@@ -46,21 +50,24 @@ impl Outcome {
     {
         match self {
             Outcome::Replay(outcome) => outcome.status.code(),
+            Outcome::Load(_, outcome) => outcome.status.code(),
             Outcome::Serve(_, served) => served.status.code(),
-            Outcome::Unasked(OrderError::Refused(_)) => 2,
-            Outcome::Unasked(OrderError::NoMemory) => 6,
+            Outcome::Unasked(_, OrderError::Refused(_)) => 2,
+            Outcome::Unasked(_, OrderError::NoMemory) => 6,
         }
     }
 }
 
-/// The words behind `serve`, if that is the first.
-pub(crate) fn options_of(words: &[Text]) -> Option<&[Text]>
-    ensures { option_map (λ options. options.now) result ≡ options_of words.now }
+/// The command of the first word, if it is one with an order, and its options.
+pub(crate) fn command_of(words: &[Text]) -> Option<(CommandName, &[Text])>
+    ensures { option_map (λ asked. (asked.0, asked.1.now)) result ≡ command_of words.now }
 {
     match words {
         [command, options @ ..] => {
             if command.bytes() == b"serve".as_slice() {
-                Some(options)
+                Some((CommandName::Serve, options))
+            } else if command.bytes() == b"load".as_slice() {
+                Some((CommandName::Load, options))
             } else {
                 None
             }
@@ -69,8 +76,9 @@ pub(crate) fn options_of(words: &[Text]) -> Option<&[Text]>
     }
 }
 
-/// Does what the words say: `serve` serves connections at the world's port, by the VCL of the world's file; other words are those of
-/// a replay of the source's session. Texts of VCL may call the functions of the module `std`. The call may wait for good.
+/// Does what the words say: `serve` serves connections at the world's port, by the VCL of the world's file; `load` plays the session
+/// of a number and writes its summary; other words are those of a replay of the source's session. Texts of VCL may call the functions
+/// of the module `std`. The call may wait for good.
 pub fn run<R: Threads + Wait + Sync, W: World + Send, G: Gate + Sync, S: Source, K: Sink>(
     rt: &R,
     alloc: Global,
@@ -85,47 +93,61 @@ where
     W::Dialer: Sync,
     <W::Dialer as Dialer>::Link: Send,
     W::Clock: Sync,
-    ensures { Does
-        (λ outcome. Ends replay_functions words.now (S.left source.old) (S.left source.new) (K.held sink.old) (K.held sink.new) outcome
-        × ((params : Limits) → AsksReplay words.now params → IsComplete replay_functions params (S.left source.old) (K.held sink.old) (K.held sink.new) (Rose (S.faults source.old) (S.faults source.new) ⊎ Rose (K.faults sink.old) (K.faults sink.new)) outcome)
-        × (outcome.status ≡ replay_status.ReadFault → Rose (S.faults source.old) (S.faults source.new))
-        × (outcome.status ≡ replay_status.WriteFault → Rose (K.faults sink.old) (K.faults sink.new))
-        × (world.new ≡ world.old))
-        (λ order served. CameTo (RanBy (IsUnused W.Dialer.talks W.Dialer.dial_faults W.Dialer.read_faults W.Dialer.write_faults W.Clock.readings W.Clock.words)
-        (told_by W.Dialer.Link.flow W.Dialer.Link.read_faults W.Dialer.Link.write_faults W.Dialer.Link.peer W.Dialer.Link.is_open) W.Dialer.talks W.Dialer.dial_faults W.Clock.readings W.Clock.words (told_by W.Listener.Link.flow W.Listener.Link.read_faults W.Listener.Link.write_faults W.Listener.Link.peer W.Listener.Link.is_open)
-        (record { links = W.links world.old; kept = W.kept world.old; kits = W.kits world.old }) (record { links = W.links world.new; kept = W.kept world.new; kits = W.kits world.new }))
-        (record { links = W.links world.old; kept = W.kept world.old; kits = W.kits world.old }) (record { links = W.links world.new; kept = W.kept world.new; kits = W.kits world.new })
-        (W.files world.old) std_functions order served
-        × EndsAs (record {
-          read_failed = Rose (W.shelf_faults world.old) (W.shelf_faults world.new);
-          listen_failed = Rose (W.listen_faults world.old) (W.listen_faults world.new);
-          write_failed = Rose (K.faults sink.old) (K.faults sink.new);
-          ended = W.ended world.new;
-          held = K.held sink.old;
-          holds = K.held sink.new;
-        }) (W.files world.old) std_functions order served served.status
-        × IsWhole (record {
-          read_failed = Rose (W.shelf_faults world.old) (W.shelf_faults world.new);
-          listen_failed = Rose (W.listen_faults world.old) (W.listen_faults world.new);
-          write_failed = Rose (K.faults sink.old) (K.faults sink.new);
-          ended = W.ended world.new;
-          held = K.held sink.old;
-          holds = K.held sink.new;
-        }) (W.files world.old) std_functions order served
-        × (length served.transcripts ≤ order.conns)
-        × (is_full_status served.status ≡ list_any is_full served.transcripts)
-        × MayAdd (W.ports world.old) (W.ports world.new) order.port
-        × GaveFor (W.given world.old) (W.given world.new) (length served.transcripts)
-        × (source.new ≡ source.old))
-        ((source.new ≡ source.old) × (sink.new ≡ sink.old) × (world.new ≡ world.old)) words.now result }
+    ensures { Does (record {
+      replays = λ outcome. Ends replay_functions words.now (S.left source.old) (S.left source.new) (K.held sink.old) (K.held sink.new) outcome
+          × ((params : Limits) → AsksReplay words.now params → IsComplete replay_functions params (S.left source.old) (K.held sink.old) (K.held sink.new) (Rose (S.faults source.old) (S.faults source.new) ⊎ Rose (K.faults sink.old) (K.faults sink.new)) outcome)
+          × (outcome.status ≡ replay_status.ReadFault → Rose (S.faults source.old) (S.faults source.new))
+          × (outcome.status ≡ replay_status.WriteFault → Rose (K.faults sink.old) (K.faults sink.new))
+          × (world.new ≡ world.old);
+      loads = λ load outcome. Loads replay_functions load.seed load.steps (K.held sink.old) (K.held sink.new) outcome
+          × IsLoaded replay_functions load.seed load.steps (Rose (K.faults sink.old) (K.faults sink.new)) outcome
+          × (outcome.status ≡ replay_status.WriteFault → Rose (K.faults sink.old) (K.faults sink.new))
+          × (source.new ≡ source.old) × (world.new ≡ world.old);
+      serves = λ order served. CameTo (RanBy (IsUnused W.Dialer.talks W.Dialer.dial_faults W.Dialer.read_faults W.Dialer.write_faults W.Clock.readings W.Clock.words)
+          (told_by W.Dialer.Link.flow W.Dialer.Link.read_faults W.Dialer.Link.write_faults W.Dialer.Link.peer W.Dialer.Link.is_open) W.Dialer.talks W.Dialer.dial_faults W.Clock.readings W.Clock.words (told_by W.Listener.Link.flow W.Listener.Link.read_faults W.Listener.Link.write_faults W.Listener.Link.peer W.Listener.Link.is_open)
+          (record { links = W.links world.old; kept = W.kept world.old; kits = W.kits world.old }) (record { links = W.links world.new; kept = W.kept world.new; kits = W.kits world.new }))
+          (record { links = W.links world.old; kept = W.kept world.old; kits = W.kits world.old }) (record { links = W.links world.new; kept = W.kept world.new; kits = W.kits world.new })
+          (W.files world.old) std_functions order served
+          × EndsAs (record {
+            read_failed = Rose (W.shelf_faults world.old) (W.shelf_faults world.new);
+            listen_failed = Rose (W.listen_faults world.old) (W.listen_faults world.new);
+            write_failed = Rose (K.faults sink.old) (K.faults sink.new);
+            ended = W.ended world.new;
+            held = K.held sink.old;
+            holds = K.held sink.new;
+          }) (W.files world.old) std_functions order served served.status
+          × IsWhole (record {
+            read_failed = Rose (W.shelf_faults world.old) (W.shelf_faults world.new);
+            listen_failed = Rose (W.listen_faults world.old) (W.listen_faults world.new);
+            write_failed = Rose (K.faults sink.old) (K.faults sink.new);
+            ended = W.ended world.new;
+            held = K.held sink.old;
+            holds = K.held sink.new;
+          }) (W.files world.old) std_functions order served
+          × (length served.transcripts ≤ order.conns)
+          × (is_full_status served.status ≡ list_any is_full served.transcripts)
+          × MayAdd (W.ports world.old) (W.ports world.new) order.port
+          × GaveFor (W.given world.old) (W.given world.new) (length served.transcripts)
+          × (source.new ≡ source.old);
+      nothing = (source.new ≡ source.old) × (sink.new ≡ sink.old) × (world.new ≡ world.old);
+    }) words.now result }
 {
-    match options_of(words) {
-        Some(options) => match read_order(options) {
+    match command_of(words) {
+        Some((CommandName::Serve, options)) => match read_order(options) {
             Ok(order) => {
                 let served = serve_with_std(rt, alloc, &order, world, gate, sink);
                 Outcome::Serve(order, served)
             }
-            Err(error) => Outcome::Unasked(error),
+            Err(error) => Outcome::Unasked(CommandName::Serve, error),
+        },
+        Some((CommandName::Load, options)) => match read_load(options) {
+            Ok(load) => {
+                let LoadOptions { seed, steps } = load;
+                let job = Job::Load { seed, steps };
+                let played = do_with_std::<Core, S, K>(alloc, &job, source, sink);
+                Outcome::Load(load, played)
+            }
+            Err(error) => Outcome::Unasked(CommandName::Load, error),
         },
         None => Outcome::Replay(varn_program::run::<Core, S, K>(alloc, words, source, sink)),
     }

@@ -2,3 +2,5 @@ pub mod Statuses
 pub mod Words
 pub mod Texts
 pub mod Run
+pub mod Load
+pub mod Jobs

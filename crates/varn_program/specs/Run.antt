@@ -36,6 +36,19 @@ opening_boot = record { text = opening_text; backends = codes "default" ∷ [] }
 abbrev pub note_of : ℕ → ℕ → Option Note
 note_of line kind = Some (record { line = line; kind = kind })
 
+-- the outcome of a run in which nothing was played
+abbrev pub stopped : Status → Option Note → Outcome
+stopped status note = record { status = status; note = note; history = []; swept = [] }
+
+-- the outcome of a session that was played
+abbrev pub outcome_of : List Entry → List ℕ → Option ReplayError → Outcome
+outcome_of history swept None = record { status = Done; note = None; history = history; swept = swept }
+outcome_of history swept (Some (refusals.Idle line)) = record { status = Session; note = note_of line 7; history = history; swept = swept }
+outcome_of history swept (Some (refusals.Unanswered line)) = record { status = Session; note = note_of line 8; history = history; swept = swept }
+outcome_of history swept (Some refusals.WriteFault) = record { status = WriteFault; note = None; history = history; swept = swept }
+outcome_of history swept (Some refusals.HistoryFull) = record { status = HistoryFull; note = None; history = history; swept = swept }
+outcome_of history swept (Some refusals.NoMemory) = record { status = NoMemory; note = None; history = history; swept = swept }
+
 -- what a client of a session wants, led by VCL
 abbrev pub Wants : Request → List Given → Want → Type 0
 Wants = TurnWants vcl
@@ -87,6 +100,18 @@ EndsAs stored params left0 left1 held0 held1 history told NoMemory =
 abbrev pub EndsReplay : List Stored → Params → Option (List ℕ) → Option (List ℕ) → Option (List ℕ) → Option (List ℕ) → Outcome → Type 0
 EndsReplay stored params left0 left1 held0 held1 outcome = EndsAs stored params left0 left1 held0 held1 outcome.history outcome.note outcome.status
 
+-- The session was played, and this came of it.
+pub record HasEnded (stored : List Stored) (params : Params) (session : TheSession) (held0 held1 : Option (List ℕ)) (outcome : Outcome) : Type 0 where
+  pub ending : Option ReplayError
+  pub ends : SessionEnds stored (plan params opening_boot) session outcome.history held0 held1 ending
+  pub outcome_is : outcome ≡ outcome_of outcome.history outcome.swept ending
+
+-- The text isn't played: it is no session, or memory was wanting.
+abbrev pub IsUnplayed : List ℕ → Outcome → Type 0
+IsUnplayed text outcome =
+    ((line : ℕ) × (kind : FaultKind) × IsFault text line kind × (outcome ≡ stopped Session (note_of line (kind_number kind))))
+    ⊎ (outcome ≡ stopped NoMemory None)
+
 -- The source has the bytes of this session left.
 pub record HasSession (left : Option (List ℕ)) (session : TheSession) : Type 0 where
   pub bytes : List ℕ
@@ -105,14 +130,5 @@ IsComplete stored params left held0 held1 failed outcome =
 -- that they ask for.
 abbrev pub Ends : List Stored → List (List ℕ) → Option (List ℕ) → Option (List ℕ) → Option (List ℕ) → Option (List ℕ) → Outcome → Type 0
 Ends stored words left0 left1 held0 held1 outcome =
-    (((params : Params) → AsksReplay words params → ⊥) × (outcome ≡ record { status = Words; note = None; history = []; swept = [] }) × (left1 ≡ left0) × (held1 ≡ held0))
+    (((params : Params) → AsksReplay words params → ⊥) × (outcome ≡ stopped Words None) × (left1 ≡ left0) × (held1 ≡ held0))
     ⊎ ((params : Params) × AsksReplay words params × EndsReplay stored params left0 left1 held0 held1 outcome)
-
--- the outcome of a session that was played
-abbrev pub outcome_of : List Entry → List ℕ → Option ReplayError → Outcome
-outcome_of history swept None = record { status = Done; note = None; history = history; swept = swept }
-outcome_of history swept (Some (refusals.Idle line)) = record { status = Session; note = note_of line 7; history = history; swept = swept }
-outcome_of history swept (Some (refusals.Unanswered line)) = record { status = Session; note = note_of line 8; history = history; swept = swept }
-outcome_of history swept (Some refusals.WriteFault) = record { status = WriteFault; note = None; history = history; swept = swept }
-outcome_of history swept (Some refusals.HistoryFull) = record { status = HistoryFull; note = None; history = history; swept = swept }
-outcome_of history swept (Some refusals.NoMemory) = record { status = NoMemory; note = None; history = history; swept = swept }

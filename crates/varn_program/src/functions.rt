@@ -1,13 +1,15 @@
-// A replay with the stored functions that the program has.
-ghost use Rattle.std.specs.Prelude.{◌≡◌, ◌⊎◌, false, IfOk, OnErr};
+// A job with the stored functions that the program has.
+ghost use Rattle.std.specs.Prelude.{◌≡◌, IfOk, OnErr};
 ghost use Rattle.vcl_library.specs.Functions.{std_functions, std_signature};
-ghost use Rattle.varn_program.specs.Run.{EndsReplay, IsComplete};
+ghost use Rattle.varn_program.specs.Jobs.{IsUnsegmented, IsWhole, Plays};
 ghost use Rattle.wire.specs.Causes.{Rose};
 
-use crate::command::{replay, stopped};
+use crate::command::replay;
+use crate::job::Job;
+use crate::loading::load;
 use crate::outcome::{Outcome, Status};
+use crate::playing::stopped;
 use ban_lurker::LurkCore;
-use cache_law::Params;
 use std::alloc::{AllocError, Global};
 use units::Shared;
 use vcl_values::Kind;
@@ -29,17 +31,38 @@ fn std_signature(
     Signature::of(alloc, b"std", name, takes, gives)
 }
 
-// The replay, or want of memory for the table. A function that makes a table of code can't hand it out, for a caller
-// would know nothing of the code: so the table is made where it is used.
-fn try_replay<C: LurkCore + Drop, S: Source, K: Sink>(
+// Does the job with a table of stored functions.
+fn do_job<C: LurkCore + Drop, S: Source, K: Sink>(
     alloc: Global,
-    params: &Params,
+    job: &Job,
+    vmods: &Shared<VmodTable>,
+    source: &mut S,
+    sink: &mut K,
+) -> Outcome
+    requires functions { vmods.now.stored ≡ std_functions }
+    requires unsegmented { IsUnsegmented job.now }
+    ensures plays { Plays vmods.now.stored job.now (S.left source.old) (S.left source.new) (K.held sink.old) (K.held sink.new) (source.new ≡ source.old) result }
+    ensures complete { IsWhole vmods.now.stored job.now (S.left source.old) (K.held sink.old) (K.held sink.new) (Rose (S.faults source.old) (S.faults source.new)) (Rose (K.faults sink.old) (K.faults sink.new)) result }
+    ensures read_fault { result.status ≡ Status.ReadFault → Rose (S.faults source.old) (S.faults source.new) }
+    ensures write_fault { result.status ≡ Status.WriteFault → Rose (K.faults sink.old) (K.faults sink.new) }
+{
+    match job {
+        Job::Replay(params) => replay::<C, S, K>(alloc, params, vmods, source, sink),
+        Job::Load { seed, steps } => load::<C, K>(alloc, *seed, *steps, vmods, sink),
+    }
+}
+
+// The job, or want of memory for the table. A function that makes a table of code can't hand it out, for a caller
+// would know nothing of the code: so the table is made where it is used.
+fn try_job<C: LurkCore + Drop, S: Source, K: Sink>(
+    alloc: Global,
+    job: &Job,
     source: &mut S,
     sink: &mut K,
 ) -> Result<Outcome, AllocError>
-    requires { params.now.segments ≡ false }
-    ensures ends { IfOk result (λ outcome. EndsReplay std_functions params.now (S.left source.old) (S.left source.new) (K.held sink.old) (K.held sink.new) outcome) }
-    ensures complete { IfOk result (λ outcome. IsComplete std_functions params.now (S.left source.old) (K.held sink.old) (K.held sink.new) (Rose (S.faults source.old) (S.faults source.new) ⊎ Rose (K.faults sink.old) (K.faults sink.new)) outcome) }
+    requires { IsUnsegmented job.now }
+    ensures plays { IfOk result (λ outcome. Plays std_functions job.now (S.left source.old) (S.left source.new) (K.held sink.old) (K.held sink.new) (source.new ≡ source.old) outcome) }
+    ensures complete { IfOk result (λ outcome. IsWhole std_functions job.now (S.left source.old) (K.held sink.old) (K.held sink.new) (Rose (S.faults source.old) (S.faults source.new)) (Rose (K.faults sink.old) (K.faults sink.new)) outcome) }
     ensures read_fault { IfOk result (λ outcome. outcome.status ≡ Status.ReadFault → Rose (S.faults source.old) (S.faults source.new)) }
     ensures write_fault { IfOk result (λ outcome. outcome.status ≡ Status.WriteFault → Rose (K.faults sink.old) (K.faults sink.new)) }
     ensures source { OnErr result (source.new ≡ source.old) }
@@ -81,26 +104,26 @@ fn try_replay<C: LurkCore + Drop, S: Source, K: Sink>(
     match VmodTable::of(alloc, Vec::from_array(alloc, list)?) {
         Ok(vmods) => {
             let vmods = Shared::new(alloc, vmods)?;
-            Ok(replay::<C, S, K>(alloc, params, &vmods, source, sink))
+            Ok(do_job::<C, S, K>(alloc, job, &vmods, source, sink))
         }
         Err(_) => Err(AllocError),
     }
 }
 
-/// Replays the session of the source within these limits, as `replay` does, with the functions of the module `std`.
-pub fn replay_with_std<C: LurkCore + Drop, S: Source, K: Sink>(
+/// Does the job over a cache of this kind. Texts of VCL may call the functions of the module `std`.
+pub fn do_with_std<C: LurkCore + Drop, S: Source, K: Sink>(
     alloc: Global,
-    params: &Params,
+    job: &Job,
     source: &mut S,
     sink: &mut K,
 ) -> Outcome
-    requires { params.now.segments ≡ false }
-    ensures ends { EndsReplay std_functions params.now (S.left source.old) (S.left source.new) (K.held sink.old) (K.held sink.new) result }
-    ensures complete { IsComplete std_functions params.now (S.left source.old) (K.held sink.old) (K.held sink.new) (Rose (S.faults source.old) (S.faults source.new) ⊎ Rose (K.faults sink.old) (K.faults sink.new)) result }
+    requires { IsUnsegmented job.now }
+    ensures plays { Plays std_functions job.now (S.left source.old) (S.left source.new) (K.held sink.old) (K.held sink.new) (source.new ≡ source.old) result }
+    ensures complete { IsWhole std_functions job.now (S.left source.old) (K.held sink.old) (K.held sink.new) (Rose (S.faults source.old) (S.faults source.new)) (Rose (K.faults sink.old) (K.faults sink.new)) result }
     ensures read_fault { result.status ≡ Status.ReadFault → Rose (S.faults source.old) (S.faults source.new) }
     ensures write_fault { result.status ≡ Status.WriteFault → Rose (K.faults sink.old) (K.faults sink.new) }
 {
-    match try_replay::<C, S, K>(alloc, params, source, sink) {
+    match try_job::<C, S, K>(alloc, job, source, sink) {
         Ok(outcome) => outcome,
         Err(_) => stopped(alloc, Status::NoMemory, None),
     }

@@ -6,11 +6,16 @@
 
 mod command;
 mod functions;
+mod job;
 mod limits;
+mod loading;
 mod outcome;
+mod playing;
 mod words;
 
 pub use command::{replay, run};
-pub use functions::replay_with_std;
+pub use functions::do_with_std;
+pub use job::Job;
+pub use loading::load;
 pub use outcome::{Note, Outcome, Status};
 pub use words::faulty_word;

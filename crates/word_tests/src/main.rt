@@ -53,7 +53,8 @@ fn said(alloc: Global, row: &str) -> Result<String, AllocError> {
         "meaning" => sessions::meaning_shown(alloc, rest),
         "generated" => sessions::generated_shown(alloc, rest),
         "options" => options::options_shown(alloc, rest),
-        "help" | "serve" | "replay" | "replay-" | "vcl" | "session_fault" => {
+        "load_options" => options::load_shown(alloc, rest),
+        "help" | "serve" | "load" | "replay" | "replay-" | "vcl" | "session_fault" => {
             telling::told(alloc, word, rest)?.replace(alloc, '\n', "\\n")
         }
         _ => readings::reading_shown(alloc, word, rest),

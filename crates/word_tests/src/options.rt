@@ -1,16 +1,31 @@
-// The options of a server.
+// The options of a server and of a load.
 use crate::escapes::words_of;
-use command_line::{Fault, OrderError, ServeOptions, read_order};
+use command_line::{Fault, LoadOptions, OrderError, ServeOptions, read_load, read_order};
 use std::alloc::{AllocError, Global};
 use units::Text;
 
-/// The order that the words give, or their first fault and the word that is to blame.
+/// The order of a server that the words give, or their first fault and the word that is to blame.
 pub fn options_shown(alloc: Global, row: &str) -> Result<String, AllocError> {
     let words = words_of(alloc, row)?;
     match read_order(words.as_slice()) {
         Ok(order) => order_shown(alloc, &order),
-        Err(OrderError::Refused(fault)) => fault_shown(alloc, words.as_slice(), fault),
-        Err(OrderError::NoMemory) => Err(AllocError),
+        Err(error) => error_shown(alloc, words.as_slice(), error),
+    }
+}
+
+/// The same of a load.
+pub fn load_shown(alloc: Global, row: &str) -> Result<String, AllocError> {
+    let words = words_of(alloc, row)?;
+    match read_load(words.as_slice()) {
+        Ok(LoadOptions { seed, steps }) => format!(in alloc; "seed {seed} steps {steps}"),
+        Err(error) => error_shown(alloc, words.as_slice(), error),
+    }
+}
+
+fn error_shown(alloc: Global, words: &[Text], error: OrderError) -> Result<String, AllocError> {
+    match error {
+        OrderError::Refused(fault) => fault_shown(alloc, words, fault),
+        OrderError::NoMemory => Err(AllocError),
     }
 }
 

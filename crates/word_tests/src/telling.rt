@@ -1,6 +1,6 @@
 // What is told of command lines and refusals.
 use crate::escapes::{unescaped, words_of};
-use command_line::{OrderError, read_order};
+use command_line::{CommandName, OrderError, read_load, read_order};
 use diagnostics::{Help, order_fault, replay_fault, session_refusal, unseen_refusal, vcl_refusal};
 use std::alloc::{AllocError, Global};
 use units::Text;
@@ -21,7 +21,7 @@ const KINDS: [Refusal; 12] = [
     Refusal::TooLong,
 ];
 
-/// What help the words ask for (`help`), what is told of a server's options (`serve`), of a command line whose second word is
+/// What help the words ask for (`help`), what is told of options (`serve`, `load`), of a command line whose second word is
 /// faulty (`replay`) or in which a word is missing (`replay-`), and of a refusal: `vcl PLACE KIND TEXT` or a session's kind.
 pub fn told(alloc: Global, name: &str, rest: &str) -> Result<String, AllocError> {
     match name {
@@ -36,7 +36,8 @@ pub fn told(alloc: Global, name: &str, rest: &str) -> Result<String, AllocError>
 fn words_told(alloc: Global, name: &str, words: &[Text]) -> Result<String, AllocError> {
     match name {
         "help" => help_told(alloc, words),
-        "serve" => order_told(alloc, words),
+        "serve" => order_told(alloc, CommandName::Serve, words, read_order(words).err()),
+        "load" => order_told(alloc, CommandName::Load, words, read_load(words).err()),
         "replay" => replay_fault(alloc, words, words.get(1)),
         _ => replay_fault(alloc, words, None),
     }
@@ -49,11 +50,16 @@ fn help_told(alloc: Global, words: &[Text]) -> Result<String, AllocError> {
     }
 }
 
-fn order_told(alloc: Global, options: &[Text]) -> Result<String, AllocError> {
-    match read_order(options) {
-        Ok(_) => String::from_str(alloc, "an order"),
-        Err(OrderError::Refused(fault)) => order_fault(alloc, options, fault),
-        Err(OrderError::NoMemory) => Err(AllocError),
+fn order_told(
+    alloc: Global,
+    command: CommandName,
+    options: &[Text],
+    error: Option<OrderError>,
+) -> Result<String, AllocError> {
+    match error {
+        None => String::from_str(alloc, "an order"),
+        Some(OrderError::Refused(fault)) => order_fault(alloc, command, options, fault),
+        Some(OrderError::NoMemory) => Err(AllocError),
     }
 }
 
