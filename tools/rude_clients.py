@@ -5,6 +5,9 @@
   taker     asks for /large and takes nothing: the response breaks off, some 30 seconds after the client took its last
   upload    sends a body of 2,000,000 bytes, which is refused: the 400 comes whole, and then the end
   idle      has one answer, says so, and then waits to be ended
+  hold      100 connections that are idle behind an answer, 40 that have sent half a request, and 2 that take nothing of /large: others
+            are answered all the same, and so are the idle ones in the end
+  leave     asks for leave to send a body, and gets it before it sends one
   crowd     more connections than the server has descriptors for: those that come later are answered once the first are gone
 """
 import socket
@@ -99,8 +102,54 @@ def idle(port):
     began = time.monotonic()
     last = link.recv(4096)
     passed = time.monotonic() - began
-    if last or passed > 4:
+    if last or passed > 20:
         sys.exit("got %r after %.1f s" % (last, passed))
+
+
+def ask(link, path):
+    link.sendall(b"GET %s HTTP/1.1\r\nHost: h\r\n\r\n" % path)
+    head, _ = whole_answer(link)
+    if not head.startswith(b"HTTP/1.1 200 "):
+        sys.exit("got %r" % head)
+
+
+def hold(port):
+    resting = [connect(port) for _ in range(100)]
+    for link in resting:
+        ask(link, b"/hold")
+    halves = [connect(port) for _ in range(40)]
+    for link in halves:
+        link.sendall(b"GET /hold HTTP/1.1\r\nHo")
+    takers = [connect(port, 4096) for _ in range(2)]
+    for link in takers:
+        link.sendall(b"GET /large HTTP/1.1\r\nHost: h\r\n\r\n")
+    time.sleep(1)
+    began = time.monotonic()
+    for _ in range(20):
+        ask(connect(port), b"/hold")
+    passed = time.monotonic() - began
+    if passed > 20:
+        sys.exit("20 answers took %.1f s" % passed)
+    for link in resting:
+        ask(link, b"/hold")
+    for link in halves:
+        link.sendall(b"st: h\r\n\r\n")
+        whole_answer(link)
+
+
+def leave(port):
+    link = connect(port)
+    link.sendall(b"POST /form HTTP/1.1\r\nHost: h\r\nExpect: 100-continue\r\nContent-Length: 10\r\n\r\n")
+    link.settimeout(20)
+    said = b""
+    while not said.endswith(b"\r\n\r\n"):
+        said += link.recv(1) or sys.exit("the connection ended behind %r" % said)
+    if not said.startswith(b"HTTP/1.1 100 "):
+        sys.exit("got %r" % said)
+    link.sendall(b"some words")
+    head, body = whole_answer(link)
+    if not head.startswith(b"HTTP/1.1 200 ") or b"some words" not in body:
+        sys.exit("got %r %r" % (head, body))
 
 
 def crowd(port):
@@ -120,5 +169,5 @@ def crowd(port):
 
 
 if __name__ == "__main__":
-    kinds = {kind.__name__: kind for kind in (drip, taker, upload, idle, crowd)}
+    kinds = {kind.__name__: kind for kind in (drip, taker, upload, idle, hold, leave, crowd)}
     kinds[sys.argv[1]](int(sys.argv[2]))

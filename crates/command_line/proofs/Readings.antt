@@ -97,7 +97,7 @@ unstopped command given place (word ∷ value ∷ more) fault after (inr stops) 
 -- ---- what is asked for
 
 pub unmissed : (given : Given) (order : ServeOptions) → IsOrder given order → missing_of_serve given ≡ None
-unmissed given order is = rw is.port (rw is.file (rw is.workers (rw is.conns refl)))
+unmissed given order is = rw is.port (rw is.file (rw is.workers refl))
 
 pub unmissed_load : (given : Given) (load : LoadOptions) → IsLoad given load → missing_of_load given ≡ None
 unmissed_load given load is = rw is.seed (rw is.steps refl)

@@ -1,7 +1,7 @@
 -- The first fault of options.
 use Rattle.std.specs.Prelude.{◌≡◌, ◌⊎◌, ℕ, ◌+◌, List, [], ◌∷◌, Option, Some, None, Result, Ok, Err, is_none, if◌then◌else◌, ⊤}
 use Rattle.command_line.specs.declared.name.OptionName.{OptionName}
-use Rattle.command_line.specs.declared.name.OptionName.TheVariants.{Listen, Vcl, Workers, Conns, Seed, Steps}
+use Rattle.command_line.specs.declared.name.OptionName.TheVariants.{Listen, Vcl, Workers, Seed, Steps}
 use Rattle.command_line.specs.declared.name.CommandName.{CommandName}
 use Rattle.command_line.specs.declared.given.Given.{Given}
 use Rattle.command_line.specs.declared.fault.Fault.{Fault}
@@ -43,7 +43,6 @@ missing_of_serve given =
     if is_none given.listen then Some Listen else
     if is_none given.file then Some Vcl else
     if is_none given.workers then Some Workers else
-    if is_none given.conns then Some Conns else
     None
 
 abbrev pub missing_of_load : Given → Option OptionName

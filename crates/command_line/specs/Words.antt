@@ -91,12 +91,16 @@ Reads command given (word ∷ value ∷ more) after = (mid : Given) × Takes com
 abbrev pub usual : ℕ
 usual = 268435456
 
--- The order of a server is what was given; the room and the history may be wanting.
+-- more connections than the greatest history has requests
+abbrev pub endless : ℕ
+endless = 10000000
+
+-- The order of a server is what was given; the number of connections, the room and the history may be wanting.
 pub record IsOrder (given : Given) (order : ServeOptions) : Type 0 where
   pub port : given.listen ≡ Some order.port
   pub file : given.file ≡ Some order.file
   pub workers : given.workers ≡ Some order.workers
-  pub conns : given.conns ≡ Some order.conns
+  pub conns : order.conns ≡ unwrap_or given.conns endless
   pub room : order.room ≡ unwrap_or given.room usual
   pub history : order.history ≡ unwrap_or given.history usual
 

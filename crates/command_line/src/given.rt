@@ -13,6 +13,9 @@ use units::{Text, read_number};
 /// The room and the history that aren't given.
 const USUAL: u64 = 268_435_456;
 
+/// The number of connections that isn't given: the greatest history has fewer requests.
+const ENDLESS: u32 = 10_000_000;
+
 /// What the options in front have given.
 #[derive(Drop)]
 pub(crate) struct Given {
@@ -172,14 +175,11 @@ impl Given {
         let Some(workers) = workers else {
             return Err(Fault::Missing(OptionName::Workers));
         };
-        let Some(conns) = conns else {
-            return Err(Fault::Missing(OptionName::Conns));
-        };
         Ok(ServeOptions {
             port,
             file,
             workers,
-            conns,
+            conns: conns.unwrap_or(ENDLESS),
             room: room.unwrap_or(USUAL),
             history: history.unwrap_or(USUAL),
         })

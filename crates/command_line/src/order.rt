@@ -1,8 +1,8 @@
 // What a command is asked for.
 use units::Text;
 
-/// A server: where it listens, the file of its VCL, how many workers it has and how many connections it serves, and the most bytes
-/// that its objects and its history may have.
+/// A server: where it listens, the file of its VCL, how many workers it has and how many connections it serves (10,000,000 where
+/// that isn't said), and the most bytes that its objects and its history may have.
 #[derive(Drop)]
 pub struct ServeOptions {
     pub port: u16,

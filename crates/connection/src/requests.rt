@@ -6,14 +6,11 @@ ghost use Rattle.connection.specs.Reading.{RequestTold, MoreTold, FramedTold};
 
 use http_bodies::{Framing, Kind, frame};
 use http_heads::RequestHead;
-use message_reader::{Intake, Stop, fill, read_body, read_head};
+use message_reader::{Intake, MAX_REQUEST_BODY, Stop, fill, read_body, read_head};
 use seen_request::is_of_one_site;
 use std::alloc::Global;
 use units::Text;
 use wire::{Link, Readiness};
-
-/// The most bytes of a request's body.
-const MAX_BODY: u64 = 1_048_576;
 
 // Asks again and again until a read answers at once.
 fn await_more<L: Link>(link: &mut L)
@@ -78,6 +75,6 @@ pub fn read_request<L: Link>(
     }
     let head: RequestHead = read_head(alloc, link, held, room)?;
     let framing = frame_request(&head)?;
-    let body = read_body(alloc, link, held, room, framing, MAX_BODY)?;
+    let body = read_body(alloc, link, held, room, framing, MAX_REQUEST_BODY)?;
     Ok(Some((head, body)))
 }

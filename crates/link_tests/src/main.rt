@@ -15,8 +15,14 @@ mod serving;
 mod streams;
 mod tcp;
 
-use std::alloc::{AllocError, Global};
+use std::alloc::{AllocError, AllocGlobal, Global};
 use std::io;
+use std::net::{Net, TcpListener, TcpStream};
+use std::random::RandomSource;
+use std::rt::Clock;
+use std::sync::Wait;
+use std::thread::Threads;
+use system::Outside;
 
 fn main(rt: HostRuntime) -> io::Result<()> {
     let mut count: u64 = 0;
@@ -24,21 +30,34 @@ fn main(rt: HostRuntime) -> io::Result<()> {
         let line = line?;
         if !line.starts_with('#') {
             count = count.saturating_add(1);
-            print_row(&rt, line.as_str())?;
+            print_row(&rt, rt, line.as_str())?;
         }
     }
     println!(rt; "{count} rows")
 }
 
-// Prints the row for each number with which it goes otherwise than it says.
-fn print_row(rt: &HostRuntime, line: &str) -> io::Result<()> {
+// Prints the row for each number with which it goes otherwise than it says. Its bounds are those of `Outside` written out, as a call
+// from `main` asks.
+fn print_row<
+    R: Net<Listener = TcpListener, Stream = TcpStream>
+        + AllocGlobal
+        + Clock
+        + Eprint
+        + RandomSource
+        + Threads
+        + Wait
+        + Copy
+        + Drop
+        + Send
+        + 'static,
+>(rt: &HostRuntime, outside: R, line: &str) -> io::Result<()> {
     let (row, wanted) = line.split_once(" => ").unwrap_or((line, ""));
     let (word, row) = row.split_once(' ').unwrap_or((row, ""));
     let (numbers, rest) = row.split_once(' ').unwrap_or((row, ""));
     let (first, last) = numbers.split_once('-').unwrap_or((numbers, numbers));
     let first = first.parse::<usize>().unwrap_or(0);
     for number in first..=last.parse::<usize>().unwrap_or(0) {
-        let said = said(rt, word, number, rest)?;
+        let said = said(rt, outside, word, number, rest)?;
         if said.as_str() != wanted {
             println!(rt; "{word} {number} {rest} => {said}")?;
         }
@@ -46,15 +65,22 @@ fn print_row(rt: &HostRuntime, line: &str) -> io::Result<()> {
     Ok(())
 }
 
-fn said(rt: &HostRuntime, word: &str, number: usize, row: &str) -> Result<String, AllocError> {
+fn said<R: Outside + Threads + Send + 'static>(
+    rt: &HostRuntime,
+    outside: R,
+    word: &str,
+    number: usize,
+    row: &str,
+) -> Result<String, AllocError> {
     let alloc = rt.alloc();
     match word {
         "word" => process::word_shown(rt, alloc, number),
         "tell" => process::tell_shown(rt, alloc, row),
         "system_clock" => process::system_clock_shown(*rt, alloc, number),
-        "tcp" => tcp::tcp_shown(*rt, alloc, number),
-        "tcp_within" => tcp::within_shown(*rt, alloc, number),
-        "reuse" => reuse::reuse_shown(*rt, alloc, row),
+        "tcp" => tcp::tcp_shown(outside, alloc, number),
+        "tcp_within" => tcp::within_shown(outside, alloc, number),
+        "tcp_name" => tcp::name_shown(outside, alloc, row),
+        "reuse" => reuse::reuse_shown(outside, alloc, row),
         "rest" => process::rest_shown(*rt, alloc, number),
         "clock" => process::clock_shown(alloc, number, row),
         "stream_read" => streams::read_shown(alloc, number, row),

@@ -1,11 +1,11 @@
 // Streams to a backend that serve one exchange after another.
 use crate::tcp::port_text;
-use std::alloc::{AllocError, AllocGlobal, Global};
+use std::alloc::{AllocError, Global};
 use std::io::{self, ErrorKind, Read, Write};
-use std::net::{Net, OpenStream, TcpListener, TcpStream};
-use std::rt::Clock;
+use std::net::{OpenStream, TcpListener, TcpStream};
+use std::thread::Threads;
 use std::time::Duration;
-use system::{BackendLink, TcpDialer};
+use system::{BackendLink, Outside, TcpDialer, begin_names};
 use units::Text;
 use wire::{Dialer, Link, TimeLimits, write_link};
 
@@ -22,9 +22,7 @@ fn failed() -> io::Error {
 
 // A backend and who dials it.
 #[derive(Drop)]
-struct Scene<
-    R: Net<Listener = TcpListener, Stream = TcpStream> + Clock + AllocGlobal + Copy + Drop,
-> {
+struct Scene<R: Outside> {
     listener: TcpListener,
     dialer: TcpDialer<R>,
     host: Text,
@@ -32,14 +30,12 @@ struct Scene<
     alloc: Global,
 }
 
-impl<R: Net<Listener = TcpListener, Stream = TcpStream> + Clock + AllocGlobal + Copy + Drop> Scene<
-    R,
-> {
+impl<R: Outside + Threads + Send + 'static> Scene<R> {
     fn new(rt: R, alloc: Global) -> io::Result<Scene<R>> {
         let listener = TcpListener::bind(&rt, "127.0.0.1:0")?;
         let host = Text::of(alloc, b"127.0.0.1")?;
         let port = port_text(alloc, listener.local_addr()?.port())?;
-        let mut dialer = TcpDialer::new(rt);
+        let mut dialer = TcpDialer::new(rt, begin_names(&rt)?);
         dialer.within(LIMITS);
         Ok(Scene {
             listener,
@@ -49,7 +45,9 @@ impl<R: Net<Listener = TcpListener, Stream = TcpStream> + Clock + AllocGlobal + 
             alloc,
         })
     }
+}
 
+impl<R: Outside> Scene<R> {
     fn dial(&mut self) -> io::Result<BackendLink<R>> {
         self.dialer
             .dial(&self.host, &self.port)
@@ -107,7 +105,7 @@ fn meanwhile(stream: TcpStream, event: &str) -> io::Result<Option<TcpStream>> {
 }
 
 // Where the second request came: at the first stream, or at a new one.
-fn place_of<R: Net<Listener = TcpListener, Stream = TcpStream> + Clock + AllocGlobal + Copy + Drop>(
+fn place_of<R: Outside>(
     scene: &Scene<R>,
     first: Option<TcpStream>,
     method: &str,
@@ -127,7 +125,7 @@ fn place_of<R: Net<Listener = TcpListener, Stream = TcpStream> + Clock + AllocGl
     })
 }
 
-fn reused<R: Net<Listener = TcpListener, Stream = TcpStream> + Clock + AllocGlobal + Copy + Drop>(
+fn reused<R: Outside + Threads + Send + 'static>(
     rt: R,
     alloc: Global,
     event: &str,
@@ -145,9 +143,11 @@ fn reused<R: Net<Listener = TcpListener, Stream = TcpStream> + Clock + AllocGlob
 }
 
 /// Where a second request came.
-pub fn reuse_shown<
-    R: Net<Listener = TcpListener, Stream = TcpStream> + Clock + AllocGlobal + Copy + Drop,
->(rt: R, alloc: Global, row: &str) -> Result<String, AllocError> {
+pub fn reuse_shown<R: Outside + Threads + Send + 'static>(
+    rt: R,
+    alloc: Global,
+    row: &str,
+) -> Result<String, AllocError> {
     let (event, method) = row.split_once(' ').unwrap_or((row, ""));
     match reused(rt, alloc, event, method) {
         Ok(place) => String::from_str(alloc, place),

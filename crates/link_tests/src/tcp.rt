@@ -1,10 +1,11 @@
 // A connection over TCP.
-use std::alloc::{AllocError, AllocGlobal, Global};
+use std::alloc::{AllocError, Global};
 use std::io;
-use std::net::{Net, OpenStream, TcpListener, TcpStream};
-use std::rt::Clock;
+use std::net::{OpenStream, TcpListener, TcpStream};
+use std::sync::Arc;
+use std::thread::Threads;
 use std::time::{Duration, Instant};
-use system::{BackendLink, TcpDialer, TcpLink};
+use system::{BackendLink, Outside, TcpDialer, TcpLink, begin_names};
 use units::Text;
 use wire::{Dialer, Link, Peer, TimeLimits, write_link};
 
@@ -43,7 +44,7 @@ fn write_on<L: Link>(link: &mut L) {
 }
 
 // What is exchanged over a dialed connection, and its faults once the other end is gone.
-fn talk<R: Net<Stream = TcpStream> + Clock + AllocGlobal + Copy + Drop>(
+fn talk<R: Outside>(
     dialer: &mut TcpDialer<R>,
     alloc: Global,
     mut link: BackendLink<R>,
@@ -62,7 +63,7 @@ fn talk<R: Net<Stream = TcpStream> + Clock + AllocGlobal + Copy + Drop>(
 }
 
 // A dial to a port at which someone listens, and one when nobody does any more.
-fn dial<R: Net<Listener = TcpListener, Stream = TcpStream> + Clock + AllocGlobal + Copy + Drop>(
+fn dial<R: Outside>(
     dialer: &mut TcpDialer<R>,
     alloc: Global,
     listener: TcpListener,
@@ -82,13 +83,18 @@ fn dial<R: Net<Listener = TcpListener, Stream = TcpStream> + Clock + AllocGlobal
 
 /// A connection over TCP: whether it is set up with so many seconds for a call, whether pieces go both ways, its faults of reads
 /// and writes, whether a dial to a closed port fails, and the dialer's faults of dials and writes.
-pub fn tcp_shown<
-    R: Net<Listener = TcpListener, Stream = TcpStream> + Clock + AllocGlobal + Copy + Drop,
->(rt: R, alloc: Global, seconds: usize) -> Result<String, AllocError> {
+pub fn tcp_shown<R: Outside + Threads + Send + 'static>(
+    rt: R,
+    alloc: Global,
+    seconds: usize,
+) -> Result<String, AllocError> {
     let Ok(listener) = TcpListener::bind(&rt, "127.0.0.1:0") else {
         return format!(in alloc; "no port");
     };
-    let mut dialer = TcpDialer::new(rt);
+    let Ok(names) = begin_names(&rt) else {
+        return format!(in alloc; "no names");
+    };
+    let mut dialer = TcpDialer::new(rt, names);
     let Ok(said) = dial(&mut dialer, alloc, listener, seconds as u64) else {
         return format!(in alloc; "the system fails");
     };
@@ -96,9 +102,12 @@ pub fn tcp_shown<
 }
 
 // A read from someone who sends nothing: whether it fails, in no less than so many milliseconds and no more than ten seconds more.
-fn unanswered<
-    R: Net<Listener = TcpListener, Stream = TcpStream> + Clock + AllocGlobal + Copy + Drop,
->(rt: R, alloc: Global, dialer: &mut TcpDialer<R>, millis: u64) -> io::Result<String> {
+fn unanswered<R: Outside>(
+    rt: R,
+    alloc: Global,
+    dialer: &mut TcpDialer<R>,
+    millis: u64,
+) -> io::Result<String> {
     let listener = TcpListener::bind(&rt, "127.0.0.1:0")?;
     let host = Text::of(alloc, b"127.0.0.1")?;
     let port = port_text(alloc, listener.local_addr()?.port())?;
@@ -117,16 +126,21 @@ fn unanswered<
 
 /// The same where the first byte, and then where the whole, is to come within so many milliseconds; each with the dialer's faults of
 /// reads.
-pub fn within_shown<
-    R: Net<Listener = TcpListener, Stream = TcpStream> + Clock + AllocGlobal + Copy + Drop,
->(rt: R, alloc: Global, millis: usize) -> Result<String, AllocError> {
+pub fn within_shown<R: Outside + Threads + Send + 'static>(
+    rt: R,
+    alloc: Global,
+    millis: usize,
+) -> Result<String, AllocError> {
     let limits = TimeLimits {
         connecting: 3_500,
         first_byte: millis as u64,
         between_bytes: 60_000,
         whole: None,
     };
-    let mut dialer = TcpDialer::new(rt);
+    let Ok(names) = begin_names(&rt) else {
+        return format!(in alloc; "no names");
+    };
+    let mut dialer = TcpDialer::new(rt, names);
     dialer.within(limits);
     let first = unanswered(rt, alloc, &mut dialer, millis as u64);
     dialer.within(TimeLimits {
@@ -138,5 +152,43 @@ pub fn within_shown<
     match (first, whole) {
         (Ok(first), Ok(whole)) => format!(in alloc; "{first}, {whole}"),
         _ => format!(in alloc; "the system fails"),
+    }
+}
+
+// Whether a dial to a host by this name comes to a listener of the machine's own, and another one behind it.
+fn dial_name<R: Outside + Threads + Send + 'static>(
+    rt: R,
+    alloc: Global,
+    name: &str,
+) -> io::Result<String> {
+    let listener = TcpListener::bind(&rt, "127.0.0.1:0")?;
+    let host = Text::of(alloc, name.as_bytes())?;
+    let port = port_text(alloc, listener.local_addr()?.port())?;
+    let names = begin_names(&rt)?;
+    let mut said = String::new(alloc);
+    for _ in 0..2 {
+        let mut dialer = TcpDialer::new(rt, Arc::try_clone(&names)?);
+        let is_dialed = match dialer.dial(&host, &port) {
+            Ok(mut link) => {
+                link.shut();
+                dialer.hang_up(link);
+                true
+            }
+            Err(_) => false,
+        };
+        write!(said, "{is_dialed} {} ", dialer.dial_faults)?;
+    }
+    Ok(said)
+}
+
+/// Two dials to a host by this name by dialers that share what they know: whether each is dialed, and its dialer's faults.
+pub fn name_shown<R: Outside + Threads + Send + 'static>(
+    rt: R,
+    alloc: Global,
+    name: &str,
+) -> Result<String, AllocError> {
+    match dial_name(rt, alloc, name) {
+        Ok(said) => Ok(said),
+        Err(_) => format!(in alloc; "the system fails"),
     }
 }

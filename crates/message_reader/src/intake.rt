@@ -59,7 +59,8 @@ impl Intake {
         }
     }
 
-    fn add(&mut self, piece: &[u8]) -> Result<(), AllocError>
+    /// Holds a piece behind what is held.
+    pub fn add(&mut self, piece: &[u8]) -> Result<(), AllocError>
         ensures added { OnOk result (self.new ≡ self.old ++ piece.now) }
         ensures same { OnErr result (self.new ≡ self.old) }
     {

@@ -6,12 +6,14 @@
 #![tactic(auto)]
 
 mod bodies;
+mod extent;
 mod heads;
 mod intake;
 mod stop;
 mod watch;
 
 pub use bodies::read_body;
+pub use extent::{Extent, MAX_REQUEST_BODY, RequestGauge};
 pub use heads::{Head, read_head};
 pub use intake::{Intake, fill};
 pub use stop::Stop;

@@ -12,9 +12,14 @@ mod together;
 mod working;
 mod worlds;
 
+use std::alloc::AllocGlobal;
 use std::io;
+use std::net::{Net, TcpListener, TcpStream};
+use std::random::RandomSource;
+use std::rt::{Clock, Files};
 use std::sync::Wait;
 use std::thread::Threads;
+use system::Outside;
 
 fn main(rt: HostRuntime) -> io::Result<()> {
     let mut count: u64 = 0;
@@ -28,7 +33,25 @@ fn main(rt: HostRuntime) -> io::Result<()> {
     println!(rt; "{count} rows")
 }
 
-fn check_row<W: Threads + Wait + Sync>(rt: HostRuntime, threads: &W, line: &str) -> io::Result<()> {
+// Its bounds are those of `Outside` written out, as a call from `main` asks.
+fn check_row<W>(rt: HostRuntime, threads: &W, line: &str) -> io::Result<()>
+where
+    W: Net<Listener = TcpListener, Stream = TcpStream>
+        + Files
+        + AllocGlobal
+        + Clock
+        + Eprint
+        + RandomSource
+        + Threads
+        + Wait
+        + Sync
+        + Copy
+        + Drop
+        + Send
+        + 'static,
+    <W as Files>::File: Send,
+    <W as Files>::Dir: Send,
+{
     let (row, wanted) = line.split_once(" => ").unwrap_or((line, ""));
     let said = said(rt, threads, row)?;
     if said.as_str() != wanted {
@@ -37,13 +60,21 @@ fn check_row<W: Threads + Wait + Sync>(rt: HostRuntime, threads: &W, line: &str)
     Ok(())
 }
 
-fn said<W: Threads + Wait + Sync>(rt: HostRuntime, threads: &W, row: &str) -> io::Result<String> {
+fn said<W: Outside + Files + Threads + Sync + Send + 'static>(
+    rt: HostRuntime,
+    threads: &W,
+    row: &str,
+) -> io::Result<String>
+where
+    <W as Files>::File: Send,
+    <W as Files>::Dir: Send,
+{
     let (word, rest) = row.split_once(' ').unwrap_or((row, ""));
     match word {
         "door" => Ok(doors::door_shown(threads, rt.alloc(), rest)?),
         "together" => Ok(together::together_shown(threads, rt.alloc(), rest)?),
         "worker" => Ok(working::worker_shown(threads, rt.alloc(), rest)?),
-        "system" => system_world::system_shown(rt, rest),
+        "system" => system_world::system_shown(*threads, rest),
         _ => Ok(memory_world::memory_shown(rt.alloc(), word, rest)?),
     }
 }

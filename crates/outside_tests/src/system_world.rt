@@ -1,282 +1,309 @@
-// The system's world: connections over a port of the machine's own, and files.
+// The system's world: clients over a port of the machine's own, and files.
 use crate::memory_world::push_files;
-use std::alloc::{AllocError, Global};
+use std::alloc::Global;
 use std::fs;
 use std::io::{self, ErrorKind};
-use std::net::TcpListener;
-use std::time::{Duration, Instant};
-use system::{PortLink, PortListener, SystemWorld};
+use std::net::{Shutdown, TcpListener};
+use std::rt::Files;
+use std::thread::Threads;
+use system::{BackendLink, Outside, PortLink, PortListener, SystemWorld, TcpDialer};
 use units::Text;
 use wire::{Dialer, Link, Readiness, write_link};
-use world::{Awaited, Listener, World};
+use world::{Awaited, Kit, Listener, World};
 
 const HOME: [u8; 4] = [127, 0, 0, 1];
+
+/// How many bytes an answer has that the system doesn't take at once.
+const LARGE: usize = 16_777_216;
+
+/// How often something is asked for at most until it comes.
+const TRIES: u32 = 400;
+
+/// Clients, and a server's links to them in the order in which it got them.
+#[derive(Drop)]
+struct Scene<R: Outside> {
+    rt: R,
+    listener: PortListener<R>,
+    dialer: TcpDialer<R>,
+    fars: Vec<BackendLink<R>>,
+    nears: Vec<PortLink<R>>,
+    /// The file whose coming ends the run.
+    file: String,
+}
 
 fn broken() -> io::Error {
     io::Error::from(ErrorKind::BrokenPipe)
 }
 
 // A file's name that no other run looks at, since a free port of the machine's stands in it.
-fn free_name(rt: HostRuntime) -> io::Result<String> {
-    let listener = TcpListener::bind(&rt, "127.0.0.1:0")?;
+fn free_name<R: Outside>(rt: &R) -> io::Result<String> {
+    let listener = TcpListener::bind(rt, "127.0.0.1:0")?;
     let port = listener.local_addr()?.port();
     Ok(format!(in rt.alloc(); "/tmp/varn-outside-tests-{port}")?)
 }
 
-fn dialed<D: Dialer>(alloc: Global, dialer: &mut D, port: u16) -> io::Result<D::Link> {
-    let host = Text::of(alloc, b"127.0.0.1")?;
-    let port = format!(in alloc; "{port}")?;
-    let port = Text::of(alloc, port.as_bytes())?;
-    dialer.dial(&host, &port).map_err(|_| broken())
+// What a client sends, by its name.
+fn piece_of(name: &str) -> &[u8] {
+    match name {
+        "get" => b"GET /a HTTP/1.1\r\nHost: h\r\n\r\n",
+        "two" => b"GET /a HTTP/1.1\r\nHost: h\r\n\r\nGET /b HTTP/1.1\r\nHost: h\r\n\r\n",
+        "front" => b"GET /a HTTP/1.1\r\nHo",
+        "back" => b"st: h\r\n\r\n",
+        "post" => b"POST /a HTTP/1.1\r\nHost: h\r\nContent-Length: 4\r\n\r\n",
+        "body" => b"abcd",
+        "asking" =>
+            b"POST /a HTTP/1.1\r\nHost: h\r\nExpect: 100-continue\r\nContent-Length: 4\r\n\r\n",
+        "chunks" => b"POST /a HTTP/1.1\r\nHost: h\r\nTransfer-Encoding: chunked\r\n\r\n4\r\nab",
+        "end" => b"cd\r\n0\r\n\r\n",
+        "large" => b"POST /a HTTP/1.1\r\nHost: h\r\nContent-Length: 2097152\r\n\r\n",
+        "junk" => &[b' '; 20_000],
+        _ => b"",
+    }
 }
 
-// The connection that was just dialed. It may take some waits to come.
-fn accepted<L: Listener>(listener: &mut L) -> io::Result<(L::Link, [u8; 4])> {
-    for _ in 0..99u32 {
-        match listener.accept() {
-            Ok(Awaited::Came(link, address)) => return Ok((link, address)),
+// What the listener says, in at most so many calls of it: a connection is kept among the links.
+fn push_asked<R: Outside + Files + Send>(
+    out: &mut String,
+    scene: &mut Scene<R>,
+    tries: u32,
+) -> io::Result<()> {
+    for _ in 0..tries {
+        match scene.listener.accept() {
+            Ok(Awaited::Came(link, address)) => {
+                let is_home = address == HOME && link.address == HOME;
+                scene.nears.push(link)?;
+                return Ok(write!(out, "came {is_home} ")?);
+            }
             Ok(Awaited::NobodyYet) => {}
-            _ => return Err(broken()),
+            Ok(Awaited::End) => return Ok(write!(out, "end ")?),
+            Err(_) => return Ok(write!(out, "failed ")?),
         }
     }
-    Err(broken())
+    Ok(write!(out, "nobody ")?)
 }
 
-// Small pieces are sent at once, and a call that writes takes 5 s at most.
-fn is_set_up(near: &PortLink<HostRuntime>) -> io::Result<bool> {
-    match &near.link {
-        Some(link) => {
-            let limit = link.stream.write_timeout()?;
-            Ok(link.stream.nodelay()? && limit == Some(Duration::from_secs(5)))
+// What a client reads at once, as text.
+fn push_heard<R: Outside>(out: &mut String, far: &mut BackendLink<R>) -> io::Result<()> {
+    let mut room = [0u8; 64];
+    match far.read(&mut room) {
+        Ok(count) => {
+            let bytes = room.get(..count).unwrap_or_default();
+            Ok(write!(out, "{:?} ", str::from_utf8(bytes).unwrap_or("?"))?)
         }
-        None => Ok(false),
+        Err(_) => Ok(write!(out, "fault ")?),
     }
 }
 
-// One piece each way.
-fn is_exchanged<A: Link, B: Link>(far: &mut A, near: &mut B) -> bool {
-    let mut room = [0u8; 8];
-    write_link(far, b"ping").is_ok()
-        && near.read(&mut room) == Ok(4)
-        && write_link(near, b"pong!").is_ok()
-        && far.read(&mut room) == Ok(5)
-}
-
-// Behind the near end's own end the far one reads its end, and nothing can be read or written.
-fn push_end<A: Link>(
-    out: &mut String,
-    far: &mut A,
-    near: &mut PortLink<HostRuntime>,
-) -> Result<(), AllocError> {
-    near.shut();
-    let ended = far.read(&mut [0u8; 8]) == Ok(0) && near.link.is_none();
-    let reads = near.read(&mut [0u8; 8]).is_ok();
-    let writes = write_link(near, b"late").is_ok();
-    let (of_reads, of_writes) = (near.read_faults, near.write_faults);
-    write!(
-        out,
-        "ended {ended} {reads} {writes} faults {of_reads} {of_writes} "
-    )
-}
-
-// A connection that is used both ways and ended.
-fn push_talk<A: Link>(
-    out: &mut String,
-    far: &mut A,
-    near: &mut PortLink<HostRuntime>,
-) -> io::Result<()> {
-    let set_up = is_set_up(near)?;
-    let exchanged = is_exchanged(far, near);
-    write!(out, "set up {set_up} exchanged {exchanged} ")?;
-    Ok(push_end(out, far, near)?)
-}
-
-fn push_write<A: Link>(out: &mut String, link: &mut A, piece: &[u8]) -> Result<(), AllocError> {
-    let written = write_link(link, piece).is_ok();
-    write!(out, "wrote {written} ")
-}
-
-// What a read of one byte gives, and how many seconds it takes at most.
-fn push_read(out: &mut String, near: &mut PortLink<HostRuntime>) -> io::Result<()> {
-    let count = near.read(&mut [0u8; 1]);
-    let limit = match &near.link {
-        Some(link) => link.stream.read_timeout()?,
-        None => None,
-    };
-    let seconds = limit.map_or(0, |limit| limit.as_secs());
-    Ok(write!(out, "read {count:?} in {seconds} s ")?)
-}
-
-// A connection's first read, and the first one behind a write, take 5 s at most, and others what is left of half a minute.
-fn push_waits<A: Link>(
-    rt: HostRuntime,
-    out: &mut String,
-    far: &mut A,
-    near: &mut PortLink<HostRuntime>,
-) -> io::Result<()> {
-    push_write(out, far, b"abc")?;
-    push_read(out, near)?;
-    push_read(out, near)?;
-    push_write(out, near, b"d")?;
-    push_read(out, near)?;
-    push_write(out, near, b"e")?;
-    let start = Instant::now(&rt)?;
-    push_read(out, near)?;
-    let seconds = start.elapsed(&rt)?.as_secs();
-    Ok(write!(out, "after {seconds} s faults {} ", near.read_faults)?)
-}
-
-// What a wait answers before anything comes, and behind that, and how long the next read takes then at most.
-fn push_asks<A: Link>(
-    out: &mut String,
-    far: &mut A,
-    near: &mut PortLink<HostRuntime>,
-) -> Result<(), AllocError> {
-    write!(out, "{:?} ", near.wait())?;
-    push_write(out, far, b"a")?;
-    write!(out, "{:?} {} ms ", near.wait(), near.waited)
-}
-
-// A client that sends on is answered, and the connection is ended before all was read: the answer reaches it.
-fn push_refusal<A: Link>(
-    rt: HostRuntime,
-    out: &mut String,
-    far: &mut A,
-    near: &mut PortLink<HostRuntime>,
-) -> io::Result<()> {
-    push_write(out, far, &[b'x'; 20_000])?;
-    push_read(out, near)?;
-    push_write(out, near, b"no")?;
-    let start = Instant::now(&rt)?;
-    near.shut();
-    let spent = start.elapsed(&rt)?.as_millis();
-    let lingers = spent >= 900 && spent < 10_000;
-    let mut room = [0u8; 8];
-    let answer = far.read(&mut room);
-    let end = far.read(&mut room);
-    Ok(write!(out, "lingers {lingers} {answer:?} {end:?} ")?)
-}
-
-// A request is answered, and the stop file comes: the connection ends, between two requests.
-fn push_stop<A: Link>(
-    rt: HostRuntime,
-    out: &mut String,
-    far: &mut A,
-    near: &mut PortLink<HostRuntime>,
-    file: &str,
-) -> io::Result<()> {
-    push_write(out, far, b"a")?;
-    push_read(out, near)?;
-    push_write(out, near, b"b")?;
-    write!(out, "{:?} ", near.wait())?;
-    fs::write(&rt, file, "")?;
-    let start = Instant::now(&rt)?;
-    for _ in 0..99u32 {
-        if near.wait() == Readiness::Ready {
+// How many bytes of an answer come that is so long as `fill` writes.
+fn push_drained<R: Outside>(out: &mut String, far: &mut BackendLink<R>) -> io::Result<()> {
+    let mut room = [0u8; 16_384];
+    let mut total: usize = 0;
+    for _ in 0..LARGE {
+        match far.read(&mut room) {
+            Ok(count) => total = total.saturating_add(count),
+            Err(_) => break,
+        }
+        if total >= LARGE {
             break;
         }
     }
-    let in_time = start.elapsed(&rt)?.as_millis() < 4_000;
-    write!(out, "stops in time {in_time} ")?;
-    push_read(out, near)
+    Ok(write!(out, "drained {total} ")?)
 }
 
-// How a connection is used, as the word says; the file is the one whose coming ends the run.
-fn push_use<A: Link>(
-    rt: HostRuntime,
+// Writes more than the system takes at once.
+fn push_filled<R: Outside + Files + Send>(
     out: &mut String,
-    far: &mut A,
-    near: &mut PortLink<HostRuntime>,
-    setting: (&str, &str),
+    near: &mut PortLink<R>,
 ) -> io::Result<()> {
-    let (word, file) = setting;
+    let piece = [b'x'; 16_384];
+    let mut is_filled = true;
+    for _ in 0..LARGE / 16_384 {
+        is_filled = is_filled && write_link(near, &piece).is_ok();
+    }
+    Ok(write!(out, "filled {is_filled} ")?)
+}
+
+// What a client does: the word, and what stands behind it.
+fn push_client<R: Outside>(
+    out: &mut String,
+    far: &mut BackendLink<R>,
+    word: &str,
+    name: &str,
+) -> io::Result<()> {
     match word {
-        "refuses" => push_refusal(rt, out, far, near),
-        "stops" => push_stop(rt, out, far, near, file),
-        "waits" => push_waits(rt, out, far, near),
-        "asks" => Ok(push_asks(out, far, near)?),
-        _ => push_talk(out, far, near),
+        "send" => {
+            if write_link(far, piece_of(name)).is_err() {
+                write!(out, "unsent ")?;
+            }
+            Ok(())
+        }
+        "drain" => push_drained(out, far),
+        "halve" => far.link.stream.shutdown(Shutdown::Write),
+        "leave" => far.link.stream.shutdown(Shutdown::Both),
+        _ => push_heard(out, far),
     }
 }
 
-// A connection comes to the port, is used, and is handed back.
-fn push_connection(
-    rt: HostRuntime,
+// Asks a link until a read answers at once.
+fn push_wait<R: Outside + Files + Send>(
     out: &mut String,
-    world: &mut SystemWorld<HostRuntime>,
-    listener: &mut PortListener<TcpListener, HostRuntime>,
-    setting: (&str, &str),
+    near: &mut PortLink<R>,
 ) -> io::Result<()> {
-    let port = listener.listener.local_addr()?.port();
-    let mut kit = world.kit()?;
-    let mut far = dialed(rt.alloc(), &mut kit.dialer, port)?;
-    let (mut near, address) = accepted(listener)?;
-    write!(out, "{address:?} ")?;
-    let used = push_use(rt, out, &mut far, &mut near, setting);
-    near.shut();
-    far.shut();
-    world.keep_link(near);
-    kit.dialer.hang_up(far);
-    world.keep_kit(kit);
-    used
+    for _ in 0..TRIES {
+        if near.wait() == Readiness::Ready {
+            return Ok(write!(out, "ready ")?);
+        }
+    }
+    Ok(write!(out, "nothing ")?)
 }
 
-// The same, and whether the port is taken meanwhile.
-fn push_listener(
-    rt: HostRuntime,
+// What the server does with a link.
+fn push_server<R: Outside + Files + Send>(
     out: &mut String,
-    world: &mut SystemWorld<HostRuntime>,
-    listener: &mut PortListener<TcpListener, HostRuntime>,
-    setting: (&str, &str),
-) -> io::Result<()> {
-    push_connection(rt, out, world, listener, setting)?;
-    let port = listener.listener.local_addr()?.port();
-    let taken = world.listen(port).is_err();
-    let said = match listener.accept() {
-        Ok(Awaited::NobodyYet) => "nobody",
-        Ok(Awaited::End) => "end",
-        _ => "other",
-    };
-    Ok(write!(out, "taken {taken} {said} ")?)
-}
-
-// The same of a listener that is handed back.
-fn push_port(
-    rt: HostRuntime,
-    out: &mut String,
-    world: &mut SystemWorld<HostRuntime>,
+    near: &mut PortLink<R>,
     word: &str,
 ) -> io::Result<()> {
-    let file = free_name(rt)?;
-    world.stop_file = Some(Text::of(rt.alloc(), file.as_bytes())?);
-    let mut listener = world.listen(0).map_err(|_| broken())?;
-    let used = push_listener(rt, out, world, &mut listener, (word, file.as_str()));
-    world.retire(listener);
-    let _ = fs::remove_file(&rt, file.as_str());
-    used
+    match word {
+        "ask" => write!(out, "{:?} ", near.wait())?,
+        "wait" => push_wait(out, near)?,
+        "fill" => push_filled(out, near)?,
+        "read" => write!(out, "{:?} ", near.read(&mut [0u8; 32_768]))?,
+        "answer" => write!(out, "wrote {} ", write_link(near, b"ok").is_ok())?,
+        "faults" => write!(out, "faults {} {} ", near.read_faults, near.write_faults)?,
+        _ => near.shut(),
+    }
+    Ok(())
 }
 
-/// What is said of a connection or of files, and what the world counts of it.
-pub fn system_shown(rt: HostRuntime, row: &str) -> io::Result<String> {
-    let (word, rest) = row.split_once(' ').unwrap_or((row, ""));
-    let mut world = SystemWorld::new(rt, HOME);
+// A new client.
+fn dial<R: Outside>(alloc: Global, scene: &mut Scene<R>) -> io::Result<()> {
+    let host = Text::of(alloc, b"127.0.0.1")?;
+    let port = format!(in alloc; "{}", scene.listener.port)?;
+    let port = Text::of(alloc, port.as_bytes())?;
+    let link = scene.dialer.dial(&host, &port).map_err(|_| broken())?;
+    Ok(scene.fars.push(link)?)
+}
+
+// A step of a scene: its word, then `-` and what is sent, and the number of the client or link, which is 0 where none is said.
+fn push_step<R: Outside + Files + Send>(
+    out: &mut String,
+    scene: &mut Scene<R>,
+    step: &str,
+) -> io::Result<()> {
+    let (step, number) = step.split_once(':').unwrap_or((step, "0"));
+    let (word, name) = step.split_once('-').unwrap_or((step, ""));
+    let number = number.parse::<usize>().unwrap_or(0);
+    match word {
+        "dial" => dial(scene.rt.alloc(), scene),
+        "look" => push_asked(out, scene, 1),
+        "take" => push_asked(out, scene, TRIES),
+        "stop" => fs::write(&scene.rt, scene.file.as_str(), ""),
+        "send" | "hear" | "drain" | "halve" | "leave" => match scene.fars.get_mut(number) {
+            Some(far) => push_client(out, far, word, name),
+            None => Err(broken()),
+        },
+        _ => match scene.nears.get_mut(number) {
+            Some(near) => push_server(out, near, word),
+            None => Err(broken()),
+        },
+    }
+}
+
+// All steps, then everything is handed back.
+fn push_steps<R: Outside + Files + Send>(
+    out: &mut String,
+    world: &mut SystemWorld<R>,
+    scene: Scene<R>,
+    row: &str,
+) -> io::Result<()> {
+    let mut scene = scene;
+    for step in row.split(' ') {
+        push_step(out, &mut scene, step)?;
+    }
+    let Scene {
+        rt,
+        listener,
+        nears,
+        file,
+        ..
+    } = scene;
+    for near in nears {
+        let mut near = near;
+        near.shut();
+        world.keep_link(near);
+    }
+    world.retire(listener);
+    let _ = fs::remove_file(&rt, file.as_str());
+    let (kept, given, ended) = (world.kept, world.given, world.has_ended);
+    Ok(write!(
+        out,
+        "kept {kept} of {given} ended {ended} faults {}",
+        world.listen_faults
+    )?)
+}
+
+// A scene at a free port: `kept` where a link is a whole connection, else it is a stretch.
+fn scene_shown<R: Outside + Files + Threads + Send + 'static>(
+    rt: R,
+    word: &str,
+    row: &str,
+) -> io::Result<String> {
     let mut out = String::new(rt.alloc());
-    push_said(rt, &mut out, &mut world, word, rest)?;
+    let mut world = SystemWorld::new(rt, HOME);
+    let file = free_name(&rt)?;
+    world.stop_file = Some(Text::of(rt.alloc(), file.as_bytes())?);
+    world.gives_stretches = word != "kept";
+    world.start()?;
+    let listener = world.listen(0).map_err(|_| broken())?;
+    let Kit { dialer, .. } = world.kit()?;
+    let scene = Scene {
+        rt,
+        listener,
+        dialer,
+        fars: Vec::new(rt.alloc()),
+        nears: Vec::new(rt.alloc()),
+        file,
+    };
+    push_steps(&mut out, &mut world, scene, row)?;
     Ok(out)
 }
 
-fn push_said(
-    rt: HostRuntime,
-    out: &mut String,
-    world: &mut SystemWorld<HostRuntime>,
-    word: &str,
+// A port that is taken isn't had, nor one where the loop hasn't begun.
+fn taken_shown<R: Outside + Files + Threads + Send + 'static>(rt: R) -> io::Result<String> {
+    let mut world = SystemWorld::new(rt, HOME);
+    let is_begun = world.listen(0).is_ok();
+    world.start()?;
+    let listener = world.listen(0).map_err(|_| broken())?;
+    let is_taken = world.listen(listener.port).is_err();
+    world.retire(listener);
+    Ok(format!(in rt.alloc(); "{is_begun} {is_taken} faults {}", world.listen_faults)?)
+}
+
+fn files_shown<R: Outside + Files + Send>(rt: R, row: &str) -> io::Result<String>
+where
+    <R as Files>::File: Send,
+    <R as Files>::Dir: Send,
+{
+    let mut world = SystemWorld::new(rt, HOME);
+    let mut out = String::new(rt.alloc());
+    push_files(rt.alloc(), &mut out, &mut world, row)?;
+    write!(out, " faults {}", world.shelf_faults)?;
+    Ok(out)
+}
+
+/// What is said of clients, of a port or of files, and what the world counts of it.
+pub fn system_shown<R: Outside + Files + Threads + Send + 'static>(
+    rt: R,
     row: &str,
-) -> io::Result<()> {
-    if word == "files" {
-        push_files(rt.alloc(), out, world, row)?;
-        return Ok(write!(out, " faults {}", world.shelf_faults)?);
+) -> io::Result<String>
+where
+    <R as Files>::File: Send,
+    <R as Files>::Dir: Send,
+{
+    let (word, rest) = row.split_once(' ').unwrap_or((row, ""));
+    match word {
+        "files" => files_shown(rt, rest),
+        "taken" => taken_shown(rt),
+        _ => scene_shown(rt, word, rest),
     }
-    push_port(rt, out, world, word)?;
-    let (kept, given) = (world.kept, world.given);
-    Ok(write!(out, "kept {kept} of {given} faults {}", world.listen_faults)?)
 }

@@ -3,11 +3,14 @@ ghost use Rattle.std.specs.Prelude.{◌≡◌, ◌≤◌, None};
 ghost use Rattle.std.specs.Io.{ReadsAtMost, WritesAtMost};
 
 use crate::TcpLink;
+use crate::known_names::KnownNames;
 use crate::tcp_dialer::connect;
+use edge::Outside;
+use std::alloc::Global;
 use std::io::{self, ErrorKind, Read, Write};
 use std::mem;
-use std::net::{Net, OpenStream};
-use std::rt::Clock;
+use std::net::TcpStream;
+use std::sync::Arc;
 use std::time::{Duration, Instant};
 use wire::{Failed, Link, Peer, Readiness, TimeLimits};
 
@@ -25,9 +28,10 @@ pub enum Past {
 /// without a body is sent once more over a new one (RFC 9112, section 9.3.1); others go over a new stream from the start. It tells
 /// nothing of what goes over it.
 #[derive(Drop)]
-pub struct BackendLink<R: Net + Clock + Drop> {
-    pub link: TcpLink<R::Stream>,
+pub struct BackendLink<R: Outside> {
+    pub link: TcpLink<TcpStream>,
     pub rt: R,
+    pub names: Arc<KnownNames, Global>,
     pub limits: TimeLimits,
     /// When it was dialed.
     pub start: Instant,
@@ -58,7 +62,7 @@ fn is_over(answer: &io::Result<usize>) -> bool {
     }
 }
 
-impl<R: Net + Clock + Drop> BackendLink<R> {
+impl<R: Outside> BackendLink<R> {
     // How long the next read may take; None where the time for the whole is over, or can't be told.
     fn allowed(&self) -> Option<Duration> {
         let single = Duration::from_millis(if self.has_begun {
@@ -92,7 +96,7 @@ impl<R: Net + Clock + Drop> BackendLink<R> {
     }
 }
 
-impl<R: Net + Clock + Drop> BackendLink<R> {
+impl<R: Outside> BackendLink<R> {
     // Has what was sent go over a new stream.
     fn begin_anew(&mut self, sent: &[u8]) -> io::Result<()>
         ensures reads { self.new.link.read_faults ≡ self.old.link.read_faults }
@@ -101,7 +105,9 @@ impl<R: Net + Clock + Drop> BackendLink<R> {
         ensures is_open { self.new.link.is_open ≡ self.old.link.is_open }
     {
         let (stream, _) = match &self.link.peer {
-            Peer::Dialed { host, port } => connect(&self.rt, host, port, &self.limits)?,
+            Peer::Dialed { host, port } => {
+                connect(&self.rt, &self.names, host, port, &self.limits)?
+            }
             Peer::Accepted(_) => return Err(io::Error::from(ErrorKind::NotConnected)),
         };
         self.link.stream = stream;
@@ -166,7 +172,7 @@ impl<R: Net + Clock + Drop> BackendLink<R> {
     }
 }
 
-impl<R: Net + Clock + Drop> Link for BackendLink<R> {
+impl<R: Outside> Link for BackendLink<R> {
     ghost flow = { λ _. None };
 
     ghost read_faults = { λ l. l.link.read_faults };

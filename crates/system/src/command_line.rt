@@ -64,8 +64,3 @@ fn words_behind_the_first(alloc: Global, line: &[String]) -> Result<Vec<Text>, A
     }
     Ok(words)
 }
-
-/// Writes a line on standard error. There is nobody to tell where that fails.
-pub fn tell(rt: &impl Eprint, line: &str) {
-    let _ = rt.eprintln(line);
-}

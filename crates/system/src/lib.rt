@@ -5,25 +5,20 @@
 #![tactic(auto)]
 
 mod backend_link;
-mod client_pace;
 mod command_line;
 mod kept_streams;
-mod lingering;
-mod port_link;
-mod port_listener;
-mod stop_sign;
+mod known_names;
 mod stream;
 mod system_clock;
 mod system_shelf;
 mod system_world;
 mod tcp_dialer;
 mod tcp_link;
-mod waiting;
 
 pub use backend_link::BackendLink;
-pub use command_line::{WordsError, read_words, tell};
-pub use port_link::PortLink;
-pub use port_listener::PortListener;
+pub use command_line::{WordsError, read_words};
+pub use edge::{Outside, PortLink, PortListener, tell};
+pub use known_names::{KnownNames, begin_names};
 pub use stream::{StreamSink, StreamSource};
 pub use system_clock::SystemClock;
 pub use system_shelf::SystemShelf;

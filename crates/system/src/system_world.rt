@@ -1,16 +1,16 @@
 // The outside of a program: the system's sockets, files and clock.
 ghost use Rattle.std.specs.Prelude.{◌≡◌, false, None, IfOk};
 
-use crate::command_line::tell;
-use crate::stop_sign::StopSign;
-use crate::{PortLink, PortListener, SystemClock, SystemShelf, TcpDialer};
-use std::alloc::{AllocError, AllocGlobal};
-use std::io;
-use std::net::{Ipv4Addr, Net, TcpListener, TcpStream};
-use std::random::RandomSource;
-use std::rt::{Clock, Files};
+use crate::known_names::{KnownNames, begin_names};
+use crate::{SystemClock, SystemShelf, TcpDialer};
+use edge::{Edge, Outside, PortLink, PortListener, begin_loop, tell};
+use mio::net::TcpListener;
+use std::alloc::{AllocError, Global};
+use std::io::{self, ErrorKind};
+use std::net::{Ipv4Addr, SocketAddr};
+use std::rt::Files;
 use std::sync::Arc;
-use std::time::Instant;
+use std::thread::Threads;
 use units::Text;
 use wire::Failed;
 use world::{Kit, World};
@@ -28,12 +28,22 @@ pub struct SystemWorld<R: Drop> {
     pub has_ended: bool,
     /// A file that is looked at: once it is there the run is to end.
     pub stop_file: Option<Text>,
+    /// Whether links end between two requests, and their connections are given again with the next one.
+    pub gives_stretches: bool,
+    /// What its workers share with the loop, once it has begun.
+    edge: Option<Arc<Edge, Global>>,
+    /// What its dialers know of hosts, once that has begun.
+    names: Option<Arc<KnownNames, Global>>,
 }
 
 impl<R: Drop> SystemWorld<R> {
     /// A world that listens at this address of the machine's; 0.0.0.0 is all of them.
     pub fn new(rt: R, address: [u8; 4]) -> SystemWorld<R>
-        ensures { result ≡ record { rt = rt; address = address; kept = 0; given = 0; listen_faults = 0; shelf_faults = 0; has_ended = false; stop_file = None } }
+        ensures kept { result.kept ≡ 0 }
+        ensures given { result.given ≡ 0 }
+        ensures listens { result.listen_faults ≡ 0 }
+        ensures shelves { result.shelf_faults ≡ 0 }
+        ensures ended { result.has_ended ≡ false }
     {
         SystemWorld {
             rt,
@@ -44,68 +54,54 @@ impl<R: Drop> SystemWorld<R> {
             shelf_faults: 0,
             has_ended: false,
             stop_file: None,
+            gives_stretches: false,
+            edge: None,
+            names: None,
         }
     }
 }
 
-impl<R: Clock + AllocGlobal + Drop> SystemWorld<R> {
-    // The request to end the run, as its listeners and links look for it.
-    fn stop_sign(&self) -> io::Result<Arc<StopSign>> {
+impl<R: Outside + Threads + Send + 'static> SystemWorld<R> {
+    /// Begins the threads of the outside: the loop that owns clients' connections, and those that look hosts up. Without them no
+    /// port is had, and no kit.
+    pub fn start(&mut self) -> io::Result<()> {
         let file = match &self.stop_file {
             Some(file) => Some(file.copy()?),
             None => None,
         };
-        let start = Instant::now(&self.rt)?;
-        Ok(Arc::new(self.rt.alloc(), StopSign::new(file, start))?)
+        self.edge = Some(begin_loop(&self.rt, file)?);
+        self.names = Some(begin_names(&self.rt)?);
+        Ok(())
     }
 }
 
-// A listener at this port whose links end where the run is to end.
-fn listener_at<R>(world: &SystemWorld<R>, port: u16) -> io::Result<PortListener<TcpListener, R>>
-where
-    R: Net<Listener = TcpListener, Stream = TcpStream>
-        + Files
-        + AllocGlobal
-        + Clock
-        + Eprint
-        + Copy
-        + Drop,
+// Says where it is listened.
+fn tell_port<R: Outside>(world: &SystemWorld<R>, port: u16) -> Result<(), AllocError> {
+    let address = Ipv4Addr::from_octets(world.address);
+    let line = format!(in world.rt.alloc(); "listening at {address}:{port}")?;
+    tell(&world.rt, line.as_str());
+    Ok(())
+}
+
+// A listener at this port, over the loop.
+fn listener_at<R: Outside>(world: &SystemWorld<R>, port: u16) -> io::Result<PortListener<R>>
     ensures given { IfOk result (λ listener. listener.given ≡ 0) }
     ensures faults { IfOk result (λ listener. listener.faults ≡ 0) }
     ensures going { IfOk result (λ listener. listener.has_ended ≡ false) }
 {
-    let stop = world.stop_sign()?;
-    let listener = bound(&world.rt, world.address, port)?;
-    let address = Ipv4Addr::from_octets(world.address);
-    let line = format!(in world.rt.alloc(); "listening at {address}:{port}")?;
-    tell(&world.rt, line.as_str());
-    Ok(PortListener::new(world.rt, stop, listener))
+    let Some(edge) = &world.edge else {
+        return Err(io::Error::from(ErrorKind::NotConnected));
+    };
+    let theirs = Arc::try_clone(edge)?;
+    let listener = TcpListener::bind(&world.rt, SocketAddr::from((world.address, port)))?;
+    let port = listener.local_addr()?.port();
+    tell_port(world, port)?;
+    edge.open(&world.rt, listener);
+    Ok(PortListener::new(world.rt, theirs, port, world.gives_stretches))
 }
 
-// A listener at this port, whose calls don't block.
-fn bound<R: Net<Listener = TcpListener, Stream = TcpStream>>(
-    rt: &R,
-    address: [u8; 4],
-    port: u16,
-) -> io::Result<TcpListener> {
-    let listener = TcpListener::bind(rt, (Ipv4Addr::from_octets(address), port))?;
-    listener.set_nonblocking(true)?;
-    Ok(listener)
-}
-
-impl<R> World for SystemWorld<R>
-where
-    R: Net<Listener = TcpListener, Stream = TcpStream>
-        + Files
-        + AllocGlobal
-        + Clock
-        + Eprint
-        + RandomSource
-        + Copy
-        + Drop
-        + Send,
-{
-    type Listener = PortListener<TcpListener, R>;
+impl<R: Outside + Files + Send> World for SystemWorld<R> {
+    type Listener = PortListener<R>;
 
     type Dialer = TcpDialer<R>;
 
@@ -133,7 +129,7 @@ where
 
     ghost ended = { λ w. w.has_ended };
 
-    fn listen(&mut self, port: u16) -> Result<PortListener<TcpListener, R>, Failed> {
+    fn listen(&mut self, port: u16) -> Result<PortListener<R>, Failed> {
         match listener_at(self, port) {
             Ok(listener) => Ok(listener),
             Err(_) => {
@@ -148,8 +144,9 @@ where
     }
 
     fn kit(&mut self) -> Result<Kit<TcpDialer<R>, SystemClock<R>>, AllocError> {
+        let names = self.names.as_ref().ok_or(AllocError)?;
         Ok(Kit {
-            dialer: TcpDialer::new(self.rt),
+            dialer: TcpDialer::new(self.rt, Arc::try_clone(names)?),
             clock: SystemClock::new(self.rt),
         })
     }
@@ -166,7 +163,9 @@ where
         ensures same { self.new ≡ self.old }
     {}
 
-    fn retire(&mut self, listener: PortListener<TcpListener, R>) {
+    /// The port is closed, and what was sent is brought out before, for half a minute at most.
+    fn retire(&mut self, listener: PortListener<R>) {
+        listener.close();
         self.listen_faults = self.listen_faults.saturating_add(listener.faults);
         self.given = self.given.saturating_add(listener.given);
         self.has_ended = listener.has_ended || self.has_ended;

@@ -3,11 +3,13 @@ ghost use Rattle.std.specs.Prelude.{◌≡◌, None};
 
 use crate::backend_link::Past;
 use crate::kept_streams::KeptStreams;
+use crate::known_names::{KnownNames, addresses_of};
 use crate::{BackendLink, TcpLink};
-use std::alloc::AllocGlobal;
+use edge::Outside;
+use std::alloc::Global;
 use std::io::{self, ErrorKind};
-use std::net::{Net, OpenStream, TcpStream, ToSocketAddrs};
-use std::rt::Clock;
+use std::net::{SocketAddr, TcpStream};
+use std::sync::Arc;
 use std::time::{Duration, Instant};
 use units::Text;
 use wire::{DialError, Dialer, Peer, TimeLimits};
@@ -25,18 +27,20 @@ const LIMITS: TimeLimits = TimeLimits {
 
 /// A dialer over the system's network. It tells nothing of its talks.
 #[derive(Drop)]
-pub struct TcpDialer<R: Net + Clock + Copy + Drop> {
+pub struct TcpDialer<R: Outside> {
     pub rt: R,
     /// What each later dial and the reads on its connection may take.
     pub limits: TimeLimits,
     pub dial_faults: u64,
     pub read_faults: u64,
     pub write_faults: u64,
-    kept: KeptStreams<R::Stream>,
+    /// What is known of hosts, for all dialers that share it.
+    pub names: Arc<KnownNames, Global>,
+    kept: KeptStreams<TcpStream>,
 }
 
-impl<R: Net + Clock + AllocGlobal + Copy + Drop> TcpDialer<R> {
-    pub fn new(rt: R) -> TcpDialer<R>
+impl<R: Outside> TcpDialer<R> {
+    pub fn new(rt: R, names: Arc<KnownNames, Global>) -> TcpDialer<R>
         ensures dials { result.dial_faults ≡ 0 }
         ensures reads { result.read_faults ≡ 0 }
         ensures writes { result.write_faults ≡ 0 }
@@ -47,12 +51,13 @@ impl<R: Net + Clock + AllocGlobal + Copy + Drop> TcpDialer<R> {
             dial_faults: 0,
             read_faults: 0,
             write_faults: 0,
+            names,
             kept: KeptStreams::new(rt.alloc()),
         }
     }
 
     // A stream that an earlier exchange with there left, and the moment; or a new one.
-    fn stream_to(&mut self, host: &Text, port: &Text) -> io::Result<(R::Stream, Instant, Past)>
+    fn stream_to(&mut self, host: &Text, port: &Text) -> io::Result<(TcpStream, Instant, Past)>
         ensures dials { self.new.dial_faults ≡ self.old.dial_faults }
         ensures reads { self.new.read_faults ≡ self.old.read_faults }
         ensures writes { self.new.write_faults ≡ self.old.write_faults }
@@ -61,43 +66,49 @@ impl<R: Net + Clock + AllocGlobal + Copy + Drop> TcpDialer<R> {
             let start = Instant::now(&self.rt)?;
             return Ok((stream, start, Past::Earlier(Vec::new(self.rt.alloc()))));
         }
-        let (stream, start) = connect(&self.rt, host, port, &self.limits)?;
+        let (stream, start) = connect(&self.rt, &self.names, host, port, &self.limits)?;
         Ok((stream, start, Past::Own))
     }
 }
 
-fn bad_name() -> io::Error {
-    io::Error::from(ErrorKind::InvalidInput)
-}
-
-// A stream to the first address of the host that answers in time, and when it was dialed. Small pieces are sent at once, and writes
-// that take too long fail.
-pub(crate) fn connect<R: Net + Clock>(
+// A stream to the first of the addresses that answers, by what is left of the time from the start. Small pieces are sent at once, and
+// writes that take too long fail.
+fn connect_to_one<R: Outside>(
     rt: &R,
-    host: &Text,
-    port: &Text,
-    limits: &TimeLimits,
-) -> io::Result<(R::Stream, Instant)> {
-    let host = str::from_utf8(host.bytes()).map_err(|_| bad_name())?;
-    let port = str::from_utf8(port.bytes()).map_err(|_| bad_name())?;
-    let port: u16 = port.parse().map_err(|_| bad_name())?;
-    let dial_time = Duration::from_millis(limits.connecting);
-    let start = Instant::now(rt)?;
-    for address in (host, port).to_socket_addrs(rt)? {
-        let left = dial_time.saturating_sub(start.elapsed(rt)?);
+    addresses: &[SocketAddr],
+    start: Instant,
+    limit: Duration,
+) -> io::Result<TcpStream> {
+    for address in addresses {
+        let left = limit.saturating_sub(start.elapsed(rt)?);
         if left.is_zero() {
             break;
         }
-        if let Ok(stream) = TcpStream::connect_timeout(rt, &address, left) {
+        if let Ok(stream) = TcpStream::connect_timeout(rt, address, left) {
             stream.set_nodelay(true)?;
             stream.set_write_timeout(Some(Duration::from_secs(CALL_SECONDS)))?;
-            return Ok((stream, start));
+            return Ok(stream);
         }
     }
     Err(io::Error::from(ErrorKind::TimedOut))
 }
 
-impl<R: Net + Clock + AllocGlobal + Copy + Drop> Dialer for TcpDialer<R> {
+// A stream to a host's port, and when it was dialed. That its name is looked up counts.
+pub(crate) fn connect<R: Outside>(
+    rt: &R,
+    names: &Arc<KnownNames, Global>,
+    host: &Text,
+    port: &Text,
+    limits: &TimeLimits,
+) -> io::Result<(TcpStream, Instant)> {
+    let limit = Duration::from_millis(limits.connecting);
+    let start = Instant::now(rt)?;
+    let addresses = addresses_of(rt, names, host, port, limit)?;
+    let stream = connect_to_one(rt, addresses.as_slice(), start, limit)?;
+    Ok((stream, start))
+}
+
+impl<R: Outside> Dialer for TcpDialer<R> {
     type Link = BackendLink<R>;
 
     ghost talks = { λ _. None };
@@ -118,10 +129,12 @@ impl<R: Net + Clock + AllocGlobal + Copy + Drop> Dialer for TcpDialer<R> {
             port: port.copy()?,
         };
         self.kept.reserve()?;
+        let names = Arc::try_clone(&self.names)?;
         match self.stream_to(host, port) {
             Ok((stream, start, past)) => Ok(BackendLink {
                 link: TcpLink::new(stream, peer),
                 rt: self.rt,
+                names,
                 limits: self.limits,
                 start,
                 has_begun: false,

@@ -1,6 +1,6 @@
 // How fast a client sends a request and takes a response.
 ghost use Rattle.std.specs.Prelude.{◌≡◌};
-ghost use Rattle.system.specs.Pace.{request_millis, is_slow, behind_write};
+ghost use Rattle.edge.specs.Pace.{request_millis, is_slow, behind_write};
 
 /// How many milliseconds a request may take from its first byte on, and once more for each part of an upload.
 const PART_MILLIS: u64 = 30_000;

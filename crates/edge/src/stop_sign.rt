@@ -82,9 +82,14 @@ impl StopSign {
         }
     }
 
+    /// Whether somebody has seen it.
+    pub fn is_seen(&self) -> bool {
+        self.is_seen.load(Ordering::SeqCst)
+    }
+
     /// Whether it was seen, looked at four times a second at most.
     pub fn is_set<R: Files + Clock + AllocGlobal>(&self, rt: &R) -> bool {
-        if self.is_seen.load(Ordering::SeqCst) {
+        if self.is_seen() {
             return true;
         }
         if !self.is_due(rt) {

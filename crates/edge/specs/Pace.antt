@@ -1,7 +1,7 @@
 -- How fast a client sends a request and takes a response.
 use Rattle.std.specs.Prelude.{ℕ, Bool, ◌+◌, ◌*◌, ◌/◌, ◌&&◌, nat_lt, if◌then◌else◌}
 use Rattle.wire.specs.Calls.{joined_count}
-use Rattle.system.specs.declared.client_pace.Taking.{Taking}
+use Rattle.edge.specs.declared.client_pace.Taking.{Taking}
 
 -- 30 s from a request's first byte on, and 30 s more for each 512 KiB of it that came, in milliseconds
 abbrev pub request_millis : ℕ → ℕ
