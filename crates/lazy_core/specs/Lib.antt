@@ -1,0 +1,11 @@
+pub mod Placed
+pub mod Scan
+pub mod Purging
+pub mod Insertion
+pub mod Banning
+pub mod Sweeping
+pub mod Stands
+pub mod Late
+pub mod Standing
+pub mod Reopening
+pub mod Beside
