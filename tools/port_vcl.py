@@ -27,8 +27,9 @@ TOKEN = re.compile(
 )
 HOLDERS = ("req", "req_top", "bereq", "beresp", "resp", "obj", "client", "server", "local", "remote", "sess", "storage")
 FIELD = re.compile(r"(req|bereq|beresp|resp|obj)\.http\.\S+")
-MODULES = ("std", "directors", "xkey")
+MODULES = ("std", "cookie", "directors", "xkey")
 FUNCTIONS = {f"std.{name}" for name in ("tolower", "toupper", "strlen", "integer")}
+FUNCTIONS |= {f"cookie.{name}" for name in ("parse", "set", "get", "isset", "delete", "keep", "filter", "clean", "get_string")}
 FUNCTIONS |= {f"directors.{name}" for name in ("round_robin", "fallback", "random", "hash")}
 SEARCHES = ("~", "!~")
 # The forms of patterns, each with the words of the document's row that it belongs to.

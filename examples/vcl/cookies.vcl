@@ -2,6 +2,8 @@
 # change with the visitor, as pictures and styles, is stored whatever cookies come and go with it.
 vcl 4.1;
 
+import cookie;
+
 backend default {
   .host = "127.0.0.1";
   .port = "8080";
@@ -11,8 +13,9 @@ sub vcl_recv {
   if (req.url ~ "\.(css|js|png|svg)(\?|$)") {
     unset req.http.Cookie;
   } elseif (req.http.Cookie) {
-    set req.http.Cookie = regsuball(req.http.Cookie, "(^|; *)(_ga|_gid|utm_[a-z]+)=[^;]*", "");
-    set req.http.Cookie = regsub(req.http.Cookie, "^; *", "");
+    cookie.parse(req.http.Cookie);
+    cookie.filter("_ga, _gid, utm_source, utm_medium, utm_campaign, utm_term, utm_content");
+    set req.http.Cookie = cookie.get_string();
     if (req.http.Cookie == "") {
       unset req.http.Cookie;
     }

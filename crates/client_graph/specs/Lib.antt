@@ -5,3 +5,4 @@ pub mod Wants
 pub mod Graph
 pub mod Answers
 pub mod Forwarded
+pub mod Jar

@@ -11,6 +11,7 @@ mod contexts;
 mod dropping;
 mod finding;
 mod forwarding;
+mod laws;
 mod leading;
 mod opening;
 mod round;
@@ -18,6 +19,7 @@ mod taking;
 
 pub use asking::ask;
 pub use forwarding::forward;
+pub use laws::jar_lives;
 pub use leading::lead;
 pub use opening::open;
 pub use round::{

@@ -3,3 +3,4 @@ pub mod Opening
 pub mod Graph
 pub mod Answers
 pub mod Wants
+pub mod Jar

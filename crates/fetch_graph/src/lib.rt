@@ -11,11 +11,13 @@ mod asking;
 mod contexts;
 mod fetch;
 mod keeping;
+mod laws;
 mod leading;
 mod opening;
 
 pub use answering::take;
 pub use asking::ask;
 pub use fetch::{Arrived, Fetch, FetchWant, Insertion, Next, State, StoreAs, WaitPoint};
+pub use laws::jar_lives;
 pub use leading::{MAX_RETRIES, abandon, lead};
 pub use opening::open;

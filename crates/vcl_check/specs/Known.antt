@@ -20,6 +20,9 @@ use Rattle.vcl_language.specs.declared.functions.Slot.TheVariants.{Closed, Neede
 use Rattle.vcl_language.specs.declared.functions.Parameter.TheVariants.{Value}
 use Rattle.vcl_language.specs.declared.scope.Scope.TheVariants.{Traffic}
 use Rattle.vcl_values.specs.declared.value.Kind.{Kind}
+use Rattle.vcl_values.specs.declared.value.Kind.TheVariants.{String}
+use Rattle.vmod_host.specs.declared.signature.JarUse.{JarUse}
+use Rattle.vmod_host.specs.declared.signature.JarUse.TheVariants as jar
 use Rattle.vmod_host.specs.declared.signature.Signature.{Signature}
 use Rattle.vmod_host.specs.declared.signature.Stored.{Stored}
 use Rattle.vcl_symbols.specs.declared.symbol_table.Symbol.{Symbol}
@@ -78,12 +81,29 @@ abbrev pub takes_values : List Kind → Option (List Slot)
 takes_values (a ∷ b ∷ c ∷ d ∷ more) = None
 takes_values kinds = Some (values 3 kinds)
 
-abbrev pub giving : Kind → Option (List Slot) → Option Function
-giving kind None = None
-giving kind (Some t) = Some (record { takes = t; gives = Some kind; scope = Traffic; «module» = Language })
+-- the same behind the jar's text, which no call writes: up to two values
+abbrev pub takes_behind_jar : List Kind → Option (List Slot)
+takes_behind_jar (String ∷ a ∷ b ∷ c ∷ more) = None
+takes_behind_jar (String ∷ kinds) = Some (values 3 kinds)
+takes_behind_jar _ = None
+
+abbrev pub written_of : JarUse → List Kind → Option (List Slot)
+written_of jar.None kinds = takes_values kinds
+written_of jar.Asks kinds = takes_behind_jar kinds
+written_of jar.Changes kinds = takes_behind_jar kinds
+
+-- a function that changes the jar gives no value
+abbrev pub value_given : JarUse → Kind → Option Kind
+value_given jar.None kind = Some kind
+value_given jar.Asks kind = Some kind
+value_given jar.Changes kind = None
+
+abbrev pub giving : Option Kind → Option (List Slot) → Option Function
+giving given None = None
+giving given (Some t) = Some (record { takes = t; gives = given; scope = Traffic; «module» = Language })
 
 abbrev pub function_of : Signature → Option Function
-function_of signature = giving signature.gives (takes_values signature.takes)
+function_of signature = giving (value_given signature.jar signature.gives) (written_of signature.jar signature.takes)
 
 abbrev pub function_at : List Stored → ℕ → Option Function
 function_at stored k = option_and_then (λ entry. function_of entry.signature) (slice_get stored k)

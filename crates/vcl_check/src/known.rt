@@ -1,6 +1,6 @@
 // What the names of a text stand for by what they are used for.
 ghost use Rattle.std.specs.Prelude.{◌≡◌};
-ghost use Rattle.vcl_check.specs.Known.{is_truth, of_variable, of_read_symbol, of_declared, of_read, of_object, of_method, stored_named, of_stored, value, takes_values, function_of, function_at, is_available, of_function, of_maker, of_word, of_called, meaning_of};
+ghost use Rattle.vcl_check.specs.Known.{is_truth, of_variable, of_read_symbol, of_declared, of_read, of_object, of_method, stored_named, of_stored, value, takes_values, takes_behind_jar, written_of, value_given, function_of, function_at, is_available, of_function, of_maker, of_word, of_called, meaning_of};
 
 use crate::form::Use;
 use crate::seen::Meaning;
@@ -12,7 +12,7 @@ use vcl_language::{
 use vcl_symbols::{Symbol, SymbolTable};
 use vcl_tree::ends_in;
 use vcl_values::Kind;
-use vmod_host::{Signature, Stored};
+use vmod_host::{JarUse, Signature, Stored};
 
 /// What a name stands for by what it is used for.
 #[tactic(auto, unfolding(crate::specs::Known::meaning_of))]
@@ -189,10 +189,10 @@ fn is_truth(name: &[u8]) -> bool
 fn function_of(signature: &Signature) -> Option<Function>
     ensures { result ≡ function_of signature.now }
 {
-    let takes = takes_values(signature.takes.as_slice())?;
+    let takes = written_of(signature.jar, signature.takes.as_slice())?;
     Some(Function {
         takes,
-        gives: Some(signature.gives),
+        gives: value_given(signature.jar, signature.gives),
         scope: Scope::Traffic,
         module: Module::Language,
     })
@@ -207,6 +207,36 @@ fn takes_values(kinds: &[Kind]) -> Option<Takes>
         [a, b] => Some([value(*a), value(*b), Slot::Closed]),
         [a, b, c] => Some([value(*a), value(*b), value(*c)]),
         _ => None,
+    }
+}
+
+// What a call writes of what a function takes.
+fn written_of(jar: JarUse, kinds: &[Kind]) -> Option<Takes>
+    ensures { result ≡ written_of jar kinds.now }
+{
+    match jar {
+        JarUse::None => takes_values(kinds),
+        JarUse::Asks | JarUse::Changes => takes_behind_jar(kinds),
+    }
+}
+
+fn takes_behind_jar(kinds: &[Kind]) -> Option<Takes>
+    ensures { result ≡ takes_behind_jar kinds.now }
+{
+    match kinds {
+        [Kind::String] => Some(NOTHING),
+        [Kind::String, a] => Some([value(*a), Slot::Closed, Slot::Closed]),
+        [Kind::String, a, b] => Some([value(*a), value(*b), Slot::Closed]),
+        _ => None,
+    }
+}
+
+fn value_given(jar: JarUse, kind: Kind) -> Option<Kind>
+    ensures { result ≡ value_given jar kind }
+{
+    match jar {
+        JarUse::None | JarUse::Asks => Some(kind),
+        JarUse::Changes => None,
     }
 }
 

@@ -7,6 +7,9 @@ use Rattle.vcl_tree.specs.declared.expression.Comparison.{Comparison as Asked}
 use Rattle.vcl_tree.specs.declared.expression.Comparison.TheVariants as asked
 use Rattle.vcl_values.specs.declared.comparisons.Comparison.{Comparison}
 use Rattle.vcl_values.specs.declared.comparisons.Comparison.TheVariants as compared
+use Rattle.vmod_host.specs.declared.signature.JarUse.{JarUse}
+use Rattle.vmod_host.specs.declared.signature.JarUse.TheVariants as jar
+use Rattle.vcl_context.specs.declared.variable.Variable.TheVariants.{Jar}
 use Rattle.vcl_code.specs.declared.arena.Arena.{Arena}
 use Rattle.vcl_code.specs.declared.callees.Builtin.TheVariants as builtin
 use Rattle.vcl_code.specs.declared.names.Callee.{Callee}
@@ -114,11 +117,30 @@ director k Zero a = with_node (node.Director k) a
 director k (One text) a = with_node (node.DirectorFor k text) a
 director k _ a = absent a
 
+-- the jar's text before the arguments of a function that has a jar
+abbrev pub in_front : ℕ → Arguments → Arguments
+in_front x Zero = One x
+in_front x (One y) = Two x y
+in_front x (Two y z) = Three x y z
+in_front x (Three y z other) = TooMany
+in_front x TooMany = TooMany
+
+abbrev pub behind_jar : Given → Given
+behind_jar g = let read = with_node (node.Read Jar) g.arena in given (in_front read.number g.arguments) read.arena
+
+abbrev pub passed : JarUse → Given → Given
+passed jar.None g = g
+passed jar.Asks g = behind_jar g
+passed jar.Changes g = behind_jar g
+
+abbrev pub stored : ℕ → Given → Numbered
+stored k g = with_node (node.Stored k g.arguments) g.arena
+
 -- what is called with which arguments
 abbrev pub called : Callee → Option (List ℕ) → Given → Numbered
 called (callee.Builtin (builtin.Substitute all)) second g = substitution all second g.arguments g.arena
 called (callee.Builtin (builtin.Xkey soft)) second g = xkey soft g.arguments g.arena
-called (callee.Stored k) second g = with_node (node.Stored k g.arguments) g.arena
+called (callee.Stored k use_of_jar) second g = stored k (passed use_of_jar g)
 called (callee.Director k) second g = director k g.arguments g.arena
 called _ second g = absent g.arena
 

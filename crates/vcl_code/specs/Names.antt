@@ -1,6 +1,9 @@
 -- What names stand for in the numbered form.
 use Rattle.std.specs.Prelude.{ℕ, Bool, true, false, List, Option, Some, None, option_and_then, position, slice_get, codes, if◌then◌else◌}
 use Rattle.std.specs.Str.{bytes_eq}
+use Rattle.vmod_host.specs.declared.signature.JarUse.{JarUse}
+use Rattle.vmod_host.specs.declared.signature.JarUse.TheVariants as jar
+use Rattle.vmod_host.specs.declared.signature.Stored.{Stored}
 use Rattle.vcl_symbols.specs.Known.{Known, symbol_named, object_named, stored_of}
 use Rattle.vcl_symbols.specs.declared.symbol_table.Symbol.{Symbol}
 use Rattle.vcl_symbols.specs.declared.symbol_table.Symbol.TheVariants as symbol
@@ -77,8 +80,16 @@ director_in _ = callee.Absent
 abbrev pub director_of : Known → List ℕ → Callee
 director_of known name = director_in (object_named known (codes ".backend") name)
 
+-- what a stored function has to do with the jar, by its place
+abbrev pub jar_in : Option Stored → JarUse
+jar_in (Some entry) = entry.signature.jar
+jar_in None = jar.None
+
+abbrev pub jar_at : List Stored → ℕ → JarUse
+jar_at stored k = jar_in (slice_get stored k)
+
 abbrev pub stored_or_director : Known → List ℕ → Option ℕ → Callee
-stored_or_director known name (Some k) = callee.Stored k
+stored_or_director known name (Some k) = callee.Stored k (jar_at known.stored k)
 stored_or_director known name None = director_of known name
 
 abbrev pub builtin_or_other : Known → List ℕ → Option Builtin → Callee

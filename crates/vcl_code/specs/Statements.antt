@@ -2,6 +2,8 @@
 use Rattle.std.specs.Prelude.{ℕ, List, [], ◌∷◌, ◌++◌, Option, Some, None}
 use Rattle.vcl_tree.specs.Phrase as phrase
 use Rattle.vcl_tree.specs.Phrase.{Phrase, Node, Named, More, Bound, Called, Set, Append, Unset, Jump, Return, If, ElseIf, Else}
+use Rattle.vmod_host.specs.declared.signature.JarUse.TheVariants as jar
+use Rattle.vcl_context.specs.declared.variable.Variable.TheVariants.{Jar}
 use Rattle.vcl_code.specs.declared.arena.Arena.{Arena}
 use Rattle.vcl_code.specs.declared.callees.Builtin.TheVariants as builtin
 use Rattle.vcl_code.specs.declared.names.Callee.{Callee}
@@ -121,6 +123,10 @@ return_acted None g = acted action.Absent g.arena
 abbrev pub evaluated : Numbered → Acted
 evaluated e = acted (action.Evaluate e.number) e.arena
 
+-- the answer of a function that changes the jar is the jar's text from then on
+abbrev pub jar_changed : Numbered → Acted
+jar_changed e = acted (action.Set Jar e.number) e.arena
+
 abbrev pub with_one : (ℕ → Action) → Arguments → Arena → Acted
 with_one make (One x) a = acted (make x) a
 with_one make _ a = acted action.Absent a
@@ -131,6 +137,7 @@ performed (callee.Builtin builtin.HashData) second g = with_one action.HashData 
 performed (callee.Builtin builtin.Synthetic) second g = with_one action.Synthetic g.arguments g.arena
 performed (callee.Builtin builtin.Ban) second g = with_one action.Ban g.arguments g.arena
 performed callee.Absent second g = acted action.Absent g.arena
+performed (callee.Stored k jar.Changes) second g = jar_changed (called (callee.Stored k jar.Changes) second g)
 performed function second g = evaluated (called function second g)
 
 unfoldable mutual

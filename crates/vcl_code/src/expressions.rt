@@ -4,7 +4,7 @@ ghost use Rattle.std.specs.Option.{option_copied};
 ghost use Rattle.vcl_tree.specs.Phrase.{list_of};
 ghost use Rattle.vcl_code.specs.Arenas.{with_node, at};
 ghost use Rattle.vcl_code.specs.Sights.{read_seen};
-ghost use Rattle.vcl_code.specs.Expressions.{numbered, numbered_arguments, operands_of, terms_of, joined, text_node, read_node, matched, in_acl, searched, ordered_as, asks_match, given, with_argument, second_string, string_of, summed, substitution, xkey, director, called};
+ghost use Rattle.vcl_code.specs.Expressions.{numbered, numbered_arguments, operands_of, terms_of, joined, text_node, read_node, matched, in_acl, searched, ordered_as, asks_match, given, with_argument, in_front, passed, second_string, string_of, summed, substitution, xkey, director, called};
 
 use crate::arena::Arena;
 use crate::callees::Builtin;
@@ -12,9 +12,11 @@ use crate::names::{Callee, Read, Target, acl_of, callee_of, read_of};
 use crate::node::{Arguments, Node};
 use std::alloc::{AllocError, Global};
 use units::Text;
+use vcl_context::Variable;
 use vcl_symbols::SymbolTable;
 use vcl_tree::{Addend, Addition, Comparison as Asked, Expression, Operation};
 use vcl_values::Comparison;
+use vmod_host::JarUse;
 
 impl Arena {
     /// An expression, with all its parts before it.
@@ -189,13 +191,29 @@ impl Arena {
                 Arguments::One(keys) => self.push_node(Node::Xkey(soft, keys)),
                 _ => self.push_node(Node::Absent),
             },
-            Callee::Stored(number) => self.push_node(Node::Stored(number, arguments)),
+            Callee::Stored(number, jar) => {
+                let passed = self.push_jar(jar, arguments)?;
+                self.push_node(Node::Stored(number, passed))
+            }
             Callee::Director(number) => match arguments {
                 Arguments::Zero => self.push_node(Node::Director(number)),
                 Arguments::One(text) => self.push_node(Node::DirectorFor(number, text)),
                 _ => self.push_node(Node::Absent),
             },
             _ => self.push_node(Node::Absent),
+        }
+    }
+
+    // The arguments of a stored function, behind the jar's text where it has a jar.
+    fn push_jar(&mut self, jar: JarUse, arguments: Arguments) -> Result<Arguments, AllocError>
+        ensures { IfOk result (λ arguments'. passed jar (given arguments self.old) ≡ given arguments' self.new) }
+    {
+        match jar {
+            JarUse::None => Ok(arguments),
+            JarUse::Asks | JarUse::Changes => {
+                let text = self.push_node(Node::Read(Variable::Jar))?;
+                Ok(arguments.behind(text))
+            }
         }
     }
 
@@ -226,6 +244,18 @@ impl Arguments {
             Arguments::Zero => Arguments::One(number),
             Arguments::One(first) => Arguments::Two(first, number),
             Arguments::Two(first, second) => Arguments::Three(first, second, number),
+            Arguments::Three(_, _, _) | Arguments::More => Arguments::More,
+        }
+    }
+
+    // One argument before them.
+    fn behind(self, number: usize) -> Arguments
+        ensures { result ≡ in_front number self }
+    {
+        match self {
+            Arguments::Zero => Arguments::One(number),
+            Arguments::One(second) => Arguments::Two(number, second),
+            Arguments::Two(second, third) => Arguments::Three(number, second, third),
             Arguments::Three(_, _, _) | Arguments::More => Arguments::More,
         }
     }

@@ -1,11 +1,12 @@
 // What names stand for in the numbered form.
 ghost use Rattle.std.specs.Prelude.{◌≡◌};
-ghost use Rattle.vcl_code.specs.Names.{NoTarget, target_of, read_of, of_target, acl_of, subroutine_of, director_of, callee_of};
+ghost use Rattle.vcl_code.specs.Names.{NoTarget, target_of, read_of, of_target, acl_of, subroutine_of, director_of, callee_of, jar_at};
 ghost use Rattle.vcl_code.specs.Sights.{target_seen, read_seen};
 
 use crate::callees::{Builtin, builtin_of};
 use vcl_context::{Message, Variable, field_of, variable_of};
 use vcl_symbols::{Symbol, SymbolTable};
+use vmod_host::{JarUse, Stored};
 
 /// What may be set or unset by its name.
 #[derive(Clone, Copy)]
@@ -28,8 +29,8 @@ pub enum Read<'n> {
 #[derive(Clone, Copy)]
 pub enum Callee {
     Builtin(Builtin),
-    /// A stored function by its place in the table.
-    Stored(usize),
+    /// A stored function by its place in the table, and what it has to do with the jar.
+    Stored(usize, JarUse),
     /// `backend` of a director.
     Director(usize),
     Absent,
@@ -106,9 +107,18 @@ pub fn callee_of(names: &SymbolTable<'_>, name: &[u8]) -> Callee
     match builtin_of(name) {
         Some(builtin) => Callee::Builtin(builtin),
         None => match names.stored_of(name) {
-            Some(number) => Callee::Stored(number),
+            Some(number) => Callee::Stored(number, jar_at(names.stored, number)),
             None => director_of(names, name),
         },
+    }
+}
+
+fn jar_at(stored: &[Stored], number: usize) -> JarUse
+    ensures { result ≡ jar_at stored.now number }
+{
+    match stored.get(number) {
+        Some(entry) => entry.signature.jar,
+        None => JarUse::None,
     }
 }
 

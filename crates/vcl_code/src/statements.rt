@@ -14,8 +14,10 @@ use crate::names::{Callee, Target, callee_of, subroutine_of, target_of};
 use crate::node::{Action, Arguments, Arm, Block, Branch, Choice, ReturnWord};
 use std::alloc::{AllocError, Global};
 use units::Text;
+use vcl_context::Variable;
 use vcl_symbols::SymbolTable;
 use vcl_tree::{Action as Written, Block as WrittenBlock, Branch as WrittenBranch, Statement};
+use vmod_host::JarUse;
 
 impl Arena {
     /// A block, with the block of the number `next` behind it. The block of number 0 has no statement.
@@ -218,6 +220,10 @@ impl Arena {
                 Ok(Action::Absent)
             }
             (Callee::Absent, _) => Ok(Action::Absent),
+            (Callee::Stored(_, JarUse::Changes), _) => {
+                let text = self.push_call(callee, second, arguments)?;
+                Ok(Action::Set(Variable::Jar, text))
+            }
             _ => {
                 let value = self.push_call(callee, second, arguments)?;
                 Ok(Action::Evaluate(value))

@@ -46,7 +46,7 @@ fn name_in(alloc: Global, word: &str, name: &[u8]) -> Result<String, AllocError>
 fn callee_shown(alloc: Global, callee: Callee) -> Result<String, AllocError> {
     match callee {
         Callee::Builtin(builtin) => format!(in alloc; "{builtin:?}"),
-        Callee::Stored(number) => format!(in alloc; "stored {number}"),
+        Callee::Stored(number, _) => format!(in alloc; "stored {number}"),
         Callee::Director(number) => format!(in alloc; "director {number}"),
         Callee::Absent => format!(in alloc; "absent"),
     }

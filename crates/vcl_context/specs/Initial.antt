@@ -65,6 +65,7 @@ empty_context address = record {
   response = no_response;
   key = [];
   body = None;
+  jar = [];
   statements = 0;
 }
 

@@ -3,7 +3,7 @@ use Rattle.std.specs.Prelude.{Bool, true, false}
 use Rattle.vcl_values.specs.declared.value.Kind.{Kind}
 use Rattle.vcl_values.specs.declared.value.Kind.TheVariants as kind
 use Rattle.vcl_context.specs.declared.variable.Variable.{Variable}
-use Rattle.vcl_context.specs.declared.variable.Variable.TheVariants.{ClientIp, ServerIp, ClientIdentity, Request, Object, FetchRequest, FetchResponse, Response, Body}
+use Rattle.vcl_context.specs.declared.variable.Variable.TheVariants.{ClientIp, ServerIp, ClientIdentity, Request, Object, FetchRequest, FetchResponse, Response, Body, Jar}
 use Rattle.vcl_context.specs.declared.variable.RequestVariable.{RequestVariable}
 use Rattle.vcl_context.specs.declared.variable.RequestVariable.TheVariants as request
 use Rattle.vcl_context.specs.declared.variable.ObjectVariable.{ObjectVariable}
@@ -66,6 +66,7 @@ kind_of_variable (FetchRequest v) = fetch_request_kind v
 kind_of_variable (FetchResponse v) = fetch_response_kind v
 kind_of_variable (Response v) = response_kind v
 kind_of_variable Body = kind.String
+kind_of_variable Jar = kind.String
 
 -- whether a variable may be set
 abbrev pub is_set_request : RequestVariable → Bool
@@ -102,6 +103,7 @@ is_set (FetchRequest v) = is_set_fetch_request v
 is_set (FetchResponse v) = is_set_fetch_response v
 is_set (Response v) = is_set_response v
 is_set Body = true
+is_set Jar = true
 
 -- whether the fields of a message may be set
 abbrev pub has_set_fields : Message → Bool

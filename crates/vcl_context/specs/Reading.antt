@@ -99,3 +99,4 @@ value_of default (variable.FetchRequest v) c = fetch_request_value default v c.f
 value_of default (variable.FetchResponse v) c = fetch_response_value v c.fetch_response
 value_of default (variable.Response v) c = response_value v c.response
 value_of default variable.Body c = String c.body
+value_of default variable.Jar c = String (Some c.jar)

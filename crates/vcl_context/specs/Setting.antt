@@ -1,10 +1,11 @@
 -- What a context becomes where a variable is set, and where the subroutine ends as `fail` instead (docs/VCL.md, "Variables").
 -- A text is taken of whatever value a STRING is set to. A variable that is never set, and a value of another type, have no
 -- meaning here: the checker lets neither through.
-use Rattle.std.specs.Prelude.{ℤ, pos, ◌||◌, unsigned_abs, Option, Some, None, option_map, unwrap_or, if◌then◌else◌}
+use Rattle.std.specs.Prelude.{ℤ, pos, ◌||◌, nat_lt, length, unsigned_abs, Option, Some, None, option_map, unwrap_or, if◌then◌else◌}
 use Rattle.std.specs.Int.Signed.{lt_z}
 use Rattle.vcl_values.specs.declared.value.Value.{Value}
 use Rattle.vcl_values.specs.declared.value.Value.TheVariants as value
+use Rattle.vcl_values.specs.Operators.{text_limit}
 use Rattle.vcl_values.specs.Values.{text_of}
 use Rattle.http_heads.specs.declared.message.RequestHead.{RequestHead}
 use Rattle.http_heads.specs.declared.message.ResponseHead.{ResponseHead}
@@ -94,6 +95,10 @@ response_set response.Status v head = status_set v head
 response_set response.Reason v head = reason_set v head
 response_set _ v head = None
 
+-- a jar's text has a limit, as any text that VCL makes
+abbrev pub jar_set : Value → Context → Option Context
+jar_set v c = if nat_lt text_limit (length (text_of v)) then None else Some (record c { jar = text_of v })
+
 abbrev pub variable_set : Variable → Value → Context → Option Context
 variable_set variable.ClientIdentity v c = Some (record c { peer = record c.peer { identity = text_of v } })
 variable_set (variable.Request w) v c = option_map (λ r. record c { request = r }) (request_set w v c.request)
@@ -101,4 +106,5 @@ variable_set (variable.FetchRequest w) v c = option_map (λ r. record c { fetch_
 variable_set (variable.FetchResponse w) v c = option_map (λ r. record c { fetch_response = r }) (fetch_response_set w v c.fetch_response)
 variable_set (variable.Response w) v c = option_map (λ head. record c { response = head }) (response_set w v c.response)
 variable_set variable.Body v c = Some (record c { body = Some (text_of v) })
+variable_set variable.Jar v c = jar_set v c
 variable_set _ v c = None

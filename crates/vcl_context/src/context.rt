@@ -22,6 +22,8 @@ pub struct Context {
     pub key: Sequence<Text>,
     /// The body that was made, if one was.
     pub body: Option<Text>,
+    /// The jar of cookies, as the functions on it write it; empty at first.
+    pub jar: Text,
     /// How many statements were run.
     pub statements: u32,
 }

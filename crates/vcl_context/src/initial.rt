@@ -118,6 +118,16 @@ pub fn empty_context(alloc: Global, address: [u8; 4]) -> Result<Context, AllocEr
     let Ok(response) = no_response(alloc) else {
         return Err(out_of_memory((peer, request, object, fetch_request, fetch_response)));
     };
+    let Ok(jar) = Text::of(alloc, b"") else {
+        return Err(out_of_memory((
+            peer,
+            request,
+            object,
+            fetch_request,
+            fetch_response,
+            response,
+        )));
+    };
     Ok(Context {
         peer,
         request,
@@ -127,6 +137,7 @@ pub fn empty_context(alloc: Global, address: [u8; 4]) -> Result<Context, AllocEr
         response,
         key: Sequence::new(alloc),
         body: None,
+        jar,
         statements: 0,
     })
 }

@@ -47,6 +47,7 @@ impl Context {
             }
             Variable::Response(response) => read_response(alloc, &self.response, response),
             Variable::Body => body_value(&self.body),
+            Variable::Jar => text_value(&self.jar),
         }
     }
 }

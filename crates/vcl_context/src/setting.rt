@@ -16,7 +16,7 @@ use crate::variable::{
 use http_heads::{RequestHead, ResponseHead};
 use std::alloc::{AllocError, Global};
 use units::Text;
-use vcl_values::Value;
+use vcl_values::{MAX_TEXT, Value};
 
 /// What a `set` comes to.
 #[derive(Clone, Copy, Debug, PartialEq, Eq)]
@@ -56,8 +56,20 @@ impl Context {
                 self.body = Some(value.text(alloc)?);
                 Ok(Setting::Done)
             }
+            Variable::Jar => self.set_jar(alloc, value),
             Variable::ClientIp | Variable::ServerIp | Variable::Object(_) => unreachable!(),
         }
+    }
+
+    fn set_jar(&mut self, alloc: Global, value: &Value) -> Result<Setting, AllocError>
+        ensures { Sets result self.old self.new (due.jar_set value.now self.old) }
+    {
+        let text = value.text(alloc)?;
+        if text.bytes().len() > MAX_TEXT {
+            return Ok(Setting::Refused);
+        }
+        self.jar = text;
+        Ok(Setting::Done)
     }
 }
 

@@ -13,6 +13,8 @@ pub enum Variable {
     Response(ResponseVariable),
     /// The body that is made: `beresp.body`, and `resp.body`.
     Body,
+    /// The text of the jar of cookies, which no name stands for.
+    Jar,
 }
 
 /// What is behind `req.`.

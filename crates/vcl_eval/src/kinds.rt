@@ -14,7 +14,7 @@ pub fn kind_of_variable(variable: Variable) -> Kind
 {
     match variable {
         Variable::ClientIp | Variable::ServerIp => Kind::Ip,
-        Variable::ClientIdentity | Variable::Body => Kind::String,
+        Variable::ClientIdentity | Variable::Body | Variable::Jar => Kind::String,
         Variable::Request(request) => request_kind(request),
         Variable::Object(object) => object_kind(object),
         Variable::FetchRequest(fetch) => fetch_request_kind(fetch),

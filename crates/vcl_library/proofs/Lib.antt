@@ -1,2 +1,3 @@
 pub mod Tables
 mod Standard
+mod Tags

@@ -1,20 +1,16 @@
 -- The table of the functions that the program has.
-use Rattle.std.proofs.Common.{◌≡◌, ◌∙◌, ap, List, [], ◌∷◌, codes}
-use Rattle.vcl_values.specs.declared.value.Kind.TheVariants.{String, Int}
-use Rattle.vmod_host.specs.declared.TheConstants.{TOLOWER, TOUPPER, INTEGER, STRLEN}
-use Rattle.vmod_host.specs.declared.signature.Signature.{Signature}
-use Rattle.vmod_host.specs.declared.signature.Stored.{Stored}
-use Rattle.vmod_host.specs.Stored.{entry_of}
-use Rattle.vcl_library.specs.Functions.{std_functions, std_signature}
+use Rattle.std.proofs.Common.{◌≡◌, ◌∙◌, ap, List}
+use Rattle.vcl_library.specs.declared.functions.StdSignatures.{StdSignatures}
+use Rattle.vcl_library.specs.declared.functions.JarSignatures.{JarSignatures}
+use Rattle.vcl_library.specs.declared.functions.ChoiceSignatures.{ChoiceSignatures}
+use Rattle.vcl_library.specs.declared.functions.LookSignatures.{LookSignatures}
+use Rattle.vcl_library.specs.Functions.{std_signatures, jar_signatures, choice_signatures, look_signatures, table_of, std_functions}
 
-abbrev pub four : Signature → Signature → Signature → Signature → List Stored
-four a b c d = entry_of TOLOWER a ∷ entry_of TOUPPER b ∷ entry_of INTEGER c ∷ entry_of STRLEN d ∷ []
-
-pub all_four : (a b c d : Signature)
-    → a ≡ std_signature (codes "tolower") (String ∷ []) String → b ≡ std_signature (codes "toupper") (String ∷ []) String
-    → c ≡ std_signature (codes "integer") (String ∷ Int ∷ []) Int → d ≡ std_signature (codes "strlen") (String ∷ []) Int
-    → four a b c d ≡ std_functions
-all_four a b c d p q r s =
-    ap (λ (x : Signature). four x b c d) p ∙ (ap (λ (x : Signature). four (std_signature (codes "tolower") (String ∷ []) String) x c d) q
-    ∙ (ap (λ (x : Signature). four (std_signature (codes "tolower") (String ∷ []) String) (std_signature (codes "toupper") (String ∷ []) String) x d) r
-    ∙ ap (λ (x : Signature). four (std_signature (codes "tolower") (String ∷ []) String) (std_signature (codes "toupper") (String ∷ []) String) (std_signature (codes "integer") (String ∷ Int ∷ []) Int) x) s))
+pub table-made : (plain : StdSignatures) (jars : JarSignatures) (choices : ChoiceSignatures) (looks : LookSignatures)
+    → plain ≡ std_signatures → jars ≡ jar_signatures → choices ≡ choice_signatures → looks ≡ look_signatures → table_of plain jars choices looks ≡ std_functions
+unfolding std_functions
+table-made plain jars choices looks p q r s =
+    ap (λ (x : StdSignatures). table_of x jars choices looks) p
+    ∙ (ap (λ (x : JarSignatures). table_of std_signatures x choices looks) q
+    ∙ (ap (λ (x : ChoiceSignatures). table_of std_signatures jar_signatures x looks) r
+    ∙ ap (λ (x : LookSignatures). table_of std_signatures jar_signatures choice_signatures x) s))

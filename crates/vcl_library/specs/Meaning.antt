@@ -21,8 +21,8 @@ meant items stored = record {
   otherwise = default_target (code_of items stored);
 }
 
--- A text is its tree with the built-in text behind it, and may call the functions of the module `std`; its backends are where the tree
--- says.
+-- A text is its tree with the built-in text behind it, and may call the functions of the modules `std` and `cookie`; its
+-- backends are where the tree says.
 abbrev pub vcl : Language Tree
 vcl = record {
   programs = λ text tree. ∥ IsJoined text tree ∥₁;

@@ -23,7 +23,7 @@ pub struct Kept {
     pub ghost is: { IsProgramOf text program.compiled.program.tree program.compiled.program.stored },
 }
 
-/// The two programs that were asked for last. Their texts may call the functions of the module `std`.
+/// The two programs that were asked for last. Their texts may call the functions of the modules `std` and `cookie`.
 #[derive(Drop)]
 pub struct Library {
     latest: Option<Shared<Kept>>,

@@ -2,6 +2,7 @@
 use Rattle.std.proofs.Common.{ℕ, List, [], ◌∷◌, Option, Some, None}
 use Rattle.vcl_tree.specs.Phrase as phrase
 use Rattle.vcl_tree.specs.Phrase.{Phrase, Node, Named, More, Bound, Called, Set, Append, Unset, Jump, Return, If, ElseIf, Else}
+use Rattle.vmod_host.specs.declared.signature.JarUse.TheVariants as jar
 use Rattle.vcl_code.specs.declared.arena.Arena.{Arena}
 use Rattle.vcl_code.specs.declared.callees.Builtin.TheVariants as builtin
 use Rattle.vcl_code.specs.declared.names.Callee.{Callee}
@@ -71,7 +72,9 @@ performed-later (callee.Builtin builtin.Synthetic) second g = only-later action.
 performed-later (callee.Builtin builtin.Ban) second g = only-later action.Ban g.arguments g.arena
 performed-later (callee.Builtin (builtin.Substitute all)) second g = called-later (callee.Builtin (builtin.Substitute all)) second g
 performed-later (callee.Builtin (builtin.Xkey soft)) second g = called-later (callee.Builtin (builtin.Xkey soft)) second g
-performed-later (callee.Stored k) second g = called-later (callee.Stored k) second g
+performed-later (callee.Stored k jar.None) second g = called-later (callee.Stored k jar.None) second g
+performed-later (callee.Stored k jar.Asks) second g = called-later (callee.Stored k jar.Asks) second g
+performed-later (callee.Stored k jar.Changes) second g = called-later (callee.Stored k jar.Changes) second g
 performed-later (callee.Director k) second g = called-later (callee.Director k) second g
 performed-later callee.Absent second g = later-self g.arena
 

@@ -7,6 +7,7 @@ use Rattle.vcl_values.specs.declared.value.Value.{Value}
 use Rattle.vcl_values.specs.Values.{truth_of}
 use Rattle.vcl_context.specs.Fields.{field_unset}
 use Rattle.vcl_context.specs.declared.context.Context.{Context}
+use Rattle.vmod_host.specs.declared.signature.JarUse.TheVariants as jar
 use Rattle.vcl_code.specs.declared.arena.Arena.{Arena}
 use Rattle.vcl_code.specs.declared.callees.Builtin.TheVariants as builtin
 use Rattle.vcl_code.specs.declared.names.Callee.{Callee}
@@ -39,7 +40,7 @@ use Rattle.vcl_eval.specs.Returns.{with_two}
 use Rattle.vcl_eval.specs.Statements.{set_to, field_to, append_to, append_field, key_given, body_given}
 use Rattle.vcl_eval.specs.States.{State, Doing, in_state, nothing, set_on, set_due, ends_due, counted, banned, most_statements}
 use Rattle.vcl_eval.specs.Runs.{with_operand, block_on, choice_at, plan_of, begun_by, block_done, block_at}
-use Rattle.vcl_meaning.specs.Meaning.{Text, scene_in, then_with, with_value, with_only, set_target, append_target, unset_target, call_on, returned, performed, either_by, statement_of, branches_of, branch_of, block_of}
+use Rattle.vcl_meaning.specs.Meaning.{Text, scene_in, then_with, with_value, with_only, set_target, append_target, unset_target, call_on, returned, jar_changed, performed, either_by, statement_of, branches_of, branch_of, block_of}
 use Rattle.vcl_eval.proofs.Depths.{then-same, in-state-same, counted-same, SameFrom, block-is, nothing-is, block-chosen}
 use Rattle.vcl_eval.proofs.Rises.{least-less}
 use Rattle.vcl_meaning.proofs.Chains.{acts_done, arms_done, bind-nothing, chain-is, acts-append, acts-rise, arms-are, arms-append}
@@ -144,12 +145,17 @@ only-is r make next (Two x y) a ops s h same = sym (ap (λ (l : List Operand). w
 only-is r make next (Three x y z) a ops s h same = sym (ap (λ (l : List Operand). with_only l next s) h)
 only-is r make next TooMany a ops s h same = many-only ops next s h
 
+-- what is done with a call's value
+evaluated-is : (r : Reading) (f : Callee) (second : Option (List ℕ)) (g : Given) (ops : List Operand) (done : Operand → Out State (Unit {0})) (s : State) → ArgumentsMean (world_in r s) g.arguments ops
+    → Later (numbered_call f second g).arena r.code.arena
+    → done (value_at (world_in r s) (numbered_call f second g).number) ≡ done (call_value (scene_in r.text s.context) f second ops)
+evaluated-is r f second g ops done s h later =
+    ap done (call-is (world_in r s) r.nodes f second g ops h later ∙ ap {B = Operand} (λ (x : Scene). call_value x f second ops) (r.scenes s.context))
+
 forgotten-is : (r : Reading) (f : Callee) (second : Option (List ℕ)) (g : Given) (ops : List Operand) (s : State) → ArgumentsMean (world_in r s) g.arguments ops
     → Later (numbered_call f second g).arena r.code.arena
     → acts r (action.Evaluate (numbered_call f second g).number) s ≡ then_with (call_value (scene_in r.text s.context) f second ops) (λ v. nothing) s
-forgotten-is r f second g ops s h later =
-    ap (λ (o : Operand). then_with o (λ v. nothing) s)
-    (call-is (world_in r s) r.nodes f second g ops h later ∙ ap {B = Operand} (λ (x : Scene). call_value x f second ops) (r.scenes s.context))
+forgotten-is r f second g ops s h later = evaluated-is r f second g ops (λ (o : Operand). then_with o (λ v. nothing) s) s h later
 
 performed-is : (r : Reading) (f : Callee) (second : Option (List ℕ)) (g : Given) (ops : List Operand) (s : State) → ArgumentsMean (world_in r s) g.arguments ops
     → Later (performed_act f second g).arena r.code.arena → acts r (performed_act f second g).action s ≡ performed (scene_in r.text s.context) f second ops s
@@ -160,7 +166,10 @@ performed-is r (callee.Builtin builtin.Synthetic) second g ops s h later =
 performed-is r (callee.Builtin builtin.Ban) second g ops s h later = only-is r action.Ban banned g.arguments g.arena ops s h (λ x. refl)
 performed-is r (callee.Builtin (builtin.Substitute all)) second g ops s h later = forgotten-is r (callee.Builtin (builtin.Substitute all)) second g ops s h later
 performed-is r (callee.Builtin (builtin.Xkey soft)) second g ops s h later = forgotten-is r (callee.Builtin (builtin.Xkey soft)) second g ops s h later
-performed-is r (callee.Stored k) second g ops s h later = forgotten-is r (callee.Stored k) second g ops s h later
+performed-is r (callee.Stored k jar.None) second g ops s h later = forgotten-is r (callee.Stored k jar.None) second g ops s h later
+performed-is r (callee.Stored k jar.Asks) second g ops s h later = forgotten-is r (callee.Stored k jar.Asks) second g ops s h later
+performed-is r (callee.Stored k jar.Changes) second g ops s h later =
+    evaluated-is r (callee.Stored k jar.Changes) second g ops (λ (o : Operand). then_with o jar_changed s) s h later
 performed-is r (callee.Director k) second g ops s h later = forgotten-is r (callee.Director k) second g ops s h later
 performed-is r callee.Absent second g ops s h later = refl
 

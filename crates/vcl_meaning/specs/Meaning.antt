@@ -9,12 +9,14 @@ use Rattle.acl_match.specs.declared.entry.AclEntry.{AclEntry}
 use Rattle.vcl_values.specs.declared.value.Backend.{Backend}
 use Rattle.vcl_values.specs.declared.value.Value.{Value}
 use Rattle.vcl_values.specs.Values.{truth_of}
+use Rattle.vmod_host.specs.declared.signature.JarUse.TheVariants as jar
 use Rattle.vmod_host.specs.declared.signature.Stored.{Stored}
 use Rattle.vcl_language.specs.Names.{is_reserved, subroutine_named}
 use Rattle.vcl_language.specs.Scopes.{has, subroutine_number}
 use Rattle.vcl_language.specs.declared.scope.Scope.TheVariants.{Init}
 use Rattle.vcl_language.specs.declared.scope.Subroutine.{Subroutine}
 use Rattle.vcl_context.specs.declared.context.Context.{Context}
+use Rattle.vcl_context.specs.declared.variable.Variable.TheVariants.{Jar}
 use Rattle.vcl_context.specs.Fields.{field_unset}
 use Rattle.vcl_check.specs.Sentences.{known_in}
 use Rattle.vcl_check.specs.Texts.{says}
@@ -122,11 +124,16 @@ returned (Some word) (x ∷ []) s = then_with x (λ v. ends_due (with_one word v
 returned (Some word) (x ∷ y ∷ []) s = then_with x (λ v. then_with y (λ w. ends_due (with_two word v w))) s
 returned _ operands s = Stuck
 
--- a function that is called as a statement; a value that it has is forgotten
+-- the answer of a function that changes the jar is the jar's text from then on
+abbrev pub jar_changed : Value → Doing
+jar_changed v s = set_due (set_to Jar v s.context) s
+
+-- a function that is called as a statement; a value that another one has is forgotten
 abbrev pub performed : Scene → Callee → Option (List ℕ) → List Operand → Doing
 performed scene (callee.Builtin builtin.HashData) second operands s = with_only operands (λ v s. set_on (key_given v s.context) s) s
 performed scene (callee.Builtin builtin.Synthetic) second operands s = with_only operands (λ v s. set_on (body_given v s.context) s) s
 performed scene (callee.Builtin builtin.Ban) second operands s = with_only operands banned s
+performed scene (callee.Stored k jar.Changes) second operands s = then_with (call_value scene (callee.Stored k jar.Changes) second operands) jar_changed s
 performed scene function second operands s = then_with (call_value scene function second operands) (λ v. nothing) s
 
 -- a block, or what is done otherwise, by a value in a condition

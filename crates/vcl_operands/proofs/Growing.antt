@@ -3,6 +3,9 @@ use Rattle.std.proofs.lemmas.List.{append_assoc, append-nil}
 use Rattle.std.proofs.Common.{◌≡◌, ℕ, zero, suc, Bool, List, [], ◌∷◌, ◌++◌, length, Option, Some, None, refl, sym, ap, ◌∙◌, slice_get}
 use Rattle.vcl_tree.specs.Phrase.{Phrase, Node, String, Integer, Duration, Named, More, Either, Both, Not, Group, Compared, Added, Subtracted, Called}
 use Rattle.vcl_values.specs.declared.comparisons.Comparison.{Comparison}
+use Rattle.vmod_host.specs.declared.signature.JarUse.{JarUse}
+use Rattle.vmod_host.specs.declared.signature.JarUse.TheVariants as jar
+use Rattle.vcl_context.specs.declared.variable.Variable.TheVariants.{Jar}
 use Rattle.vcl_code.specs.declared.arena.Arena.{Arena}
 use Rattle.vcl_code.specs.declared.node.Node.{Node as Made}
 use Rattle.vcl_code.specs.declared.node.Arguments.{Arguments}
@@ -16,7 +19,7 @@ use Rattle.vcl_code.specs.declared.node.Branch.{Branch}
 use Rattle.vcl_code.specs.Arenas.{Numbered, with_node, with_block, with_branch, with_text, with_pattern, one, two}
 use Rattle.vcl_symbols.specs.Known.{Known}
 use Rattle.vcl_code.specs.Names.{Plain, Field, NoTarget, Read, OfTarget, Truth, Backend, NoRead, read_of, acl_of, callee_of}
-use Rattle.vcl_code.specs.Expressions.{numbered, numbered_arguments, read_node, in_acl, matched, ordered_as, asks_match, compared_with, Given, second_string, substitution, xkey, director, called}
+use Rattle.vcl_code.specs.Expressions.{numbered, numbered_arguments, read_node, in_acl, matched, ordered_as, asks_match, compared_with, Given, second_string, substitution, xkey, director, called, behind_jar, passed, stored}
 use Rattle.vcl_operands.specs.Later.{Begins, Later}
 
 pub begins-self : {T : Type 0} (xs : List T) → Begins xs xs
@@ -155,10 +158,22 @@ director-later k Zero a = later-node (node.Director k) a
 director-later k (One text) a = later-node (node.DirectorFor k text) a
 director-later k args a = later-node node.Absent a
 
+jar-later : (g : Given) → Later g.arena (behind_jar g).arena
+jar-later g = later-node (node.Read Jar) g.arena
+
+pub passed-later : (use_of_jar : JarUse) (g : Given) → Later g.arena (passed use_of_jar g).arena
+passed-later jar.None g = later-self g.arena
+passed-later jar.Asks g = jar-later g
+passed-later jar.Changes g = jar-later g
+
+stored-later : (k : ℕ) (g : Given) → Later g.arena (stored k g).arena
+stored-later k g = later-node (node.Stored k g.arguments) g.arena
+
 pub called-later : (f : Callee) (second : Option (List ℕ)) (g : Given) → Later g.arena (called f second g).arena
 called-later (callee.Builtin (builtin.Substitute all)) second g = substitution-later all second g.arguments g.arena
 called-later (callee.Builtin (builtin.Xkey soft)) second g = xkey-later soft g.arguments g.arena
-called-later (callee.Stored k) second g = later-node (node.Stored k g.arguments) g.arena
+called-later (callee.Stored k use_of_jar) second g =
+    later-trans g.arena (passed use_of_jar g).arena (stored k (passed use_of_jar g)).arena (passed-later use_of_jar g) (stored-later k (passed use_of_jar g))
 called-later (callee.Director k) second g = director-later k g.arguments g.arena
 called-later _ second g = later-node node.Absent g.arena
 

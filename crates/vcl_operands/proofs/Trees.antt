@@ -4,6 +4,9 @@ use Rattle.std.proofs.Math.Path.{fun_ext}
 use Rattle.vcl_tree.specs.Phrase.{Phrase, Node, String, Integer, Duration, Named, More, Either, Both, Not, Group, Compared, Added, Subtracted, Called}
 use Rattle.vcl_values.specs.declared.comparisons.Comparison.{Comparison}
 use Rattle.vcl_values.specs.declared.value.Value.{Value}
+use Rattle.vmod_host.specs.declared.signature.JarUse.{JarUse}
+use Rattle.vmod_host.specs.declared.signature.JarUse.TheVariants as jar
+use Rattle.vcl_context.specs.declared.variable.Variable.TheVariants.{Jar}
 use Rattle.vcl_code.specs.declared.arena.Arena.{Arena}
 use Rattle.vcl_code.specs.declared.node.Node.{Node as Made}
 use Rattle.vcl_code.specs.declared.node.Node.TheVariants as node
@@ -15,12 +18,12 @@ use Rattle.vcl_code.specs.declared.callees.Builtin.TheVariants as builtin
 use Rattle.vcl_code.specs.Arenas.{Numbered, with_node, with_text, with_pattern, one, two}
 use Rattle.vcl_symbols.specs.Known.{Known}
 use Rattle.vcl_code.specs.Names.{Plain, Field, NoTarget, Read, OfTarget, Truth, Backend, NoRead, read_of, acl_of, callee_of}
-use Rattle.vcl_code.specs.Expressions.{text_node, numbered, numbered_arguments, absent, read_node, in_acl, searched, matched, ordered_as, asks_match, compared_with, Given, with_argument, second_string, substitution, xkey, director, called}
+use Rattle.vcl_code.specs.Expressions.{text_node, numbered, numbered_arguments, absent, read_node, in_acl, searched, matched, ordered_as, asks_match, compared_with, Given, with_argument, in_front, behind_jar, passed, stored, second_string, substitution, xkey, director, called}
 use Rattle.vcl_context.specs.declared.turn.Answer.{Answer}
 use Rattle.vcl_operands.specs.Outs.{On, Stuck, and_then, known_on, made_on}
 use Rattle.vcl_operands.specs.Falls.{Falls}
 use Rattle.vcl_operands.specs.Later.{Later}
-use Rattle.vcl_operands.specs.Meaning.{Scene, scene, Operand, named_value, decides, sought_in, matched_in, comparison, values_of, all_values, value_of, operands_of}
+use Rattle.vcl_operands.specs.Meaning.{Scene, scene, Operand, named_value, decides, sought_in, matched_in, comparison, values_of, all_values, jar_text, with_jar, stored_value, value_of, operands_of}
 use Rattle.vcl_operands.specs.Meaning.{called as call_value}
 use Rattle.vcl_operands.specs.Nodes.{World, node_value, value_at, with_rest}
 use Rattle.vcl_context.specs.Fields.{field_value}
@@ -151,6 +154,29 @@ rest-is w k (Three x y z) ops s h =
     ∙ and-then-same (value_at w y t) (λ u r. values-cons (value_at w z) [] (λ values. made_on (applied w.stored k (v ∷ u ∷ values))) r)))
 rest-is w k TooMany ops s h = sym (ap (λ (b : Bool). and_then (if b then Stuck else values_of ops s) (λ values. made_on (applied w.stored k values))) (lt-test 3 (length ops) h))
 
+-- the jar's text before arguments
+jar-front-mean : (w : World) (x : ℕ) (p : Operand) (args : Arguments) (ops : List Operand) → value_at w x ≡ p → ArgumentsMean w args ops → ArgumentsMean w (in_front x args) (p ∷ ops)
+jar-front-mean w x p Zero ops e h = ap (λ (l : List Operand). p ∷ l) h ∙ ap (λ (o : Operand). o ∷ []) (sym e)
+jar-front-mean w x p (One y) ops e h = ap (λ (l : List Operand). p ∷ l) h ∙ ap (λ (o : Operand). o ∷ value_at w y ∷ []) (sym e)
+jar-front-mean w x p (Two y z) ops e h = ap (λ (l : List Operand). p ∷ l) h ∙ ap (λ (o : Operand). o ∷ value_at w y ∷ value_at w z ∷ []) (sym e)
+jar-front-mean w x p (Three y z u) ops e h = let n : length ops ≡ 3 = ap length h in omega arith
+jar-front-mean w x p TooMany ops e h = omega arith
+
+jar-is : (w : World) → Falls w.code.arena.nodes → (g : Given) (ops : List Operand) → ArgumentsMean w g.arguments ops → Later (behind_jar g).arena w.code.arena
+    → ArgumentsMean w (behind_jar g).arguments (jar_text (scene_of w) ∷ ops)
+jar-is w falls g ops h later =
+    jar-front-mean w (length g.arena.nodes) (jar_text (scene_of w)) g.arguments ops (node-is w falls (node.Read Jar) g.arena later) h
+
+passed-is : (w : World) → Falls w.code.arena.nodes → (use_of_jar : JarUse) (g : Given) (ops : List Operand) → ArgumentsMean w g.arguments ops → Later (passed use_of_jar g).arena w.code.arena
+    → ArgumentsMean w (passed use_of_jar g).arguments (with_jar (scene_of w) use_of_jar ops)
+passed-is w falls jar.None g ops h later = h
+passed-is w falls jar.Asks g ops h later = jar-is w falls g ops h later
+passed-is w falls jar.Changes g ops h later = jar-is w falls g ops h later
+
+stored-is : (w : World) → Falls w.code.arena.nodes → (k : ℕ) (g : Given) (ops : List Operand) → ArgumentsMean w g.arguments ops → Later (stored k g).arena w.code.arena
+    → value_at w (stored k g).number ≡ stored_value (scene_of w) k ops
+stored-is w falls k g ops h later = node-is w falls (node.Stored k g.arguments) g.arena later ∙ fun_ext (λ s. rest-is w k g.arguments ops s h)
+
 -- more arguments than any function takes
 many-substituted : (sc : Scene) (all : Bool) (source : List ℕ) (ops : List Operand) → 3 < length ops → call_value sc (callee.Builtin (builtin.Substitute all)) (Some source) ops ≡ (λ s. Stuck)
 many-substituted sc all source [] h = absurd (omega arith)
@@ -210,7 +236,10 @@ pub call-is : (w : World) → Falls w.code.arena.nodes → (f : Callee) (second 
     → Later (called f second g).arena w.code.arena → value_at w (called f second g).number ≡ call_value (scene_of w) f second ops
 call-is w falls (callee.Builtin (builtin.Substitute all)) second g ops h later = substitution-is w falls all second g.arguments g.arena ops h later
 call-is w falls (callee.Builtin (builtin.Xkey soft)) second g ops h later = xkey-is w falls soft second g.arguments g.arena ops h later
-call-is w falls (callee.Stored k) second g ops h later = node-is w falls (node.Stored k g.arguments) g.arena later ∙ fun_ext (λ s. rest-is w k g.arguments ops s h)
+call-is w falls (callee.Stored k use_of_jar) second g ops h later =
+    let all : Given = passed use_of_jar g in
+    stored-is w falls k all (with_jar (scene_of w) use_of_jar ops)
+    (passed-is w falls use_of_jar g ops h (later-trans all.arena (stored k all).arena w.code.arena (later-node (node.Stored k all.arguments) all.arena) later)) later
 call-is w falls (callee.Director k) second g ops h later = director-is w falls k second g.arguments g.arena ops h later
 call-is w falls _ second g ops h later = absent-is w falls g.arena later
 

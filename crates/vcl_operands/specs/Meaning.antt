@@ -10,10 +10,13 @@ use Rattle.vcl_values.specs.declared.comparisons.Comparison.{Comparison}
 use Rattle.vcl_values.specs.Values.{truth_of}
 use Rattle.vcl_values.specs.Operators.{text_value}
 use Rattle.acl_match.specs.declared.entry.AclEntry.{AclEntry}
+use Rattle.vmod_host.specs.declared.signature.JarUse.{JarUse}
+use Rattle.vmod_host.specs.declared.signature.JarUse.TheVariants as jar
 use Rattle.vmod_host.specs.declared.signature.Stored.{Stored}
 use Rattle.vcl_context.specs.Reading.{value_of as variable_value}
 use Rattle.vcl_context.specs.Fields.{field_value}
 use Rattle.vcl_context.specs.declared.context.Context.{Context}
+use Rattle.vcl_context.specs.declared.variable.Variable.TheVariants.{Jar}
 use Rattle.vcl_code.specs.declared.callees.Builtin.TheVariants as builtin
 use Rattle.vcl_code.specs.declared.names.Callee.{Callee}
 use Rattle.vcl_code.specs.declared.names.Callee.TheVariants as callee
@@ -94,11 +97,23 @@ values_of (operand ∷ operands) s = and_then (operand s) (λ v s. and_then (val
 abbrev pub all_values : List Operand → List Answer → Out (List Answer) (List Value)
 all_values operands s = if nat_lt 3 (length operands) then Stuck else values_of operands s
 
+-- a function that has to do with the jar of cookies gets the jar's text before what it is called with
+abbrev pub jar_text : Scene → Operand
+jar_text scene s = On (variable_value scene.default Jar scene.context) s
+
+abbrev pub with_jar : Scene → JarUse → List Operand → List Operand
+with_jar scene jar.None operands = operands
+with_jar scene jar.Asks operands = jar_text scene ∷ operands
+with_jar scene jar.Changes operands = jar_text scene ∷ operands
+
+abbrev pub stored_value : Scene → ℕ → List Operand → Operand
+stored_value scene k operands s = and_then (all_values operands s) (λ values. made_on (applied scene.stored k values))
+
 -- a function of these arguments; the pattern of a substitution is the second one
 abbrev pub called : Scene → Callee → Option (List ℕ) → List Operand → Operand
 called scene (callee.Builtin (builtin.Substitute all)) (Some pattern) (x ∷ y ∷ z ∷ []) s = and_then (x s) (λ v s. and_then (z s) (λ w. known_on (substituted pattern all v w)))
 called scene (callee.Builtin (builtin.Xkey soft)) second (x ∷ []) s = and_then (x s) (purged soft)
-called scene (callee.Stored k) second operands s = and_then (all_values operands s) (λ values. made_on (applied scene.stored k values))
+called scene (callee.Stored k use_of_jar) second operands s = stored_value scene k (with_jar scene use_of_jar operands) s
 called scene (callee.Director k) second [] s = made_on (director_at scene.directors k) s
 called scene (callee.Director k) second (x ∷ []) s = and_then (x s) (λ v. made_on (asked scene.directors k v))
 called scene _ second operands s = Stuck

@@ -4,6 +4,9 @@ use Rattle.std.proofs.lemmas.List.{length-append}
 use Rattle.std.proofs.Common.{◌≡◌, ◌≤◌, ◌<◌, ◌+◌, ℕ, Bool, length, List, [], ◌∷◌, ◌++◌, refl, sym, ◌∙◌, subst, Option, Some, None, arith, suc, add-zero, zero-add}
 use Rattle.vcl_tree.specs.Phrase.{Phrase, Node, String, Integer, Duration, Named, More, Either, Both, Not, Group, Compared, Added, Subtracted, Called}
 use Rattle.vcl_values.specs.declared.comparisons.Comparison.{Comparison}
+use Rattle.vmod_host.specs.declared.signature.JarUse.{JarUse}
+use Rattle.vmod_host.specs.declared.signature.JarUse.TheVariants as jar
+use Rattle.vcl_context.specs.declared.variable.Variable.TheVariants.{Jar}
 use Rattle.vcl_code.specs.declared.arena.Arena.{Arena}
 use Rattle.vcl_code.specs.declared.node.Node.{Node as Made}
 use Rattle.vcl_code.specs.declared.node.Node.TheVariants as node
@@ -16,7 +19,7 @@ use Rattle.vcl_code.specs.declared.callees.Builtin.TheVariants as builtin
 use Rattle.vcl_code.specs.Arenas.{Numbered, with_node, with_text, with_pattern, one, two}
 use Rattle.vcl_symbols.specs.Known.{Known}
 use Rattle.vcl_code.specs.Names.{Plain, Field, NoTarget, Read, OfTarget, Truth, Backend, NoRead, read_of, acl_of, callee_of}
-use Rattle.vcl_code.specs.Expressions.{numbered, numbered_arguments, absent, read_node, in_acl, matched, ordered_as, asks_match, compared_with, Given, given, one_more, with_argument, second_string, substitution, xkey, director, called}
+use Rattle.vcl_code.specs.Expressions.{numbered, numbered_arguments, absent, read_node, in_acl, matched, ordered_as, asks_match, compared_with, Given, given, one_more, with_argument, in_front, behind_jar, passed, stored, second_string, substitution, xkey, director, called}
 use Rattle.vcl_program.specs.Falling.{AreBelow, IsAbove, AllAbove, IsFalling}
 
 along : (n : Made) (i j : ℕ) → i ≡ j → IsAbove i n → IsAbove j n
@@ -166,10 +169,37 @@ director-step xs bs k Zero a s = behind xs bs (given Zero a) a (node.Director k)
 director-step xs bs k (One text) a s = behind xs bs (given (One text) a) a (node.DirectorFor k text) s refl refl s.within
 director-step xs bs k args a s = behind xs bs (given args a) a node.Absent s refl refl tt
 
+-- the jar's text before arguments
+front-below : (i : ℕ) (g : Arguments) (x : ℕ) → AreBelow i g → x < i → AreBelow i (in_front x g)
+front-below i Zero x p h = h
+front-below i (One y) x p h = (h, p)
+front-below i (Two y z) x p h = (h, p.0, p.1)
+front-below i (Three y z v) x p h = tt
+front-below i TooMany x p h = tt
+
+jar-step : (xs : List Made) (bs : List Branch) (g : Given) → Gives xs bs g → Gives xs bs (behind_jar g)
+jar-step xs bs g s =
+    let n : Numbered = with_node (node.Read Jar) g.arena in
+    let h : Step g.arena.nodes g.arena.branches n = pushed g.arena (node.Read Jar) tt in
+    record {
+      falls = λ p. h.falls (s.falls p);
+      within = front-below (length n.arena.nodes) g.arguments n.number (lasts (length g.arena.nodes) (length n.arena.nodes) g.arguments h.grows s.within) h.within;
+      grows = le-le (length xs) (length g.arena.nodes) (length n.arena.nodes) s.grows h.grows;
+      branches = h.branches ∙ s.branches;
+    }
+
+passed-step : (xs : List Made) (bs : List Branch) (use_of_jar : JarUse) (g : Given) → Gives xs bs g → Gives xs bs (passed use_of_jar g)
+passed-step xs bs jar.None g s = s
+passed-step xs bs jar.Asks g s = jar-step xs bs g s
+passed-step xs bs jar.Changes g s = jar-step xs bs g s
+
+stored-step : (xs : List Made) (bs : List Branch) (k : ℕ) (g : Given) → Gives xs bs g → Step xs bs (stored k g)
+stored-step xs bs k g s = behind xs bs g g.arena (node.Stored k g.arguments) s refl refl s.within
+
 pub call-step : (xs : List Made) (bs : List Branch) (f : Callee) (second : Option (List ℕ)) (g : Given) → Gives xs bs g → Step xs bs (called f second g)
 call-step xs bs (callee.Builtin (builtin.Substitute all)) second g s = substitution-step xs bs all second g.arguments g.arena s
 call-step xs bs (callee.Builtin (builtin.Xkey soft)) second g s = xkey-step xs bs soft g.arguments g.arena s
-call-step xs bs (callee.Stored k) second g s = behind xs bs g g.arena (node.Stored k g.arguments) s refl refl s.within
+call-step xs bs (callee.Stored k use_of_jar) second g s = stored-step xs bs k (passed use_of_jar g) (passed-step xs bs use_of_jar g s)
 call-step xs bs (callee.Director k) second g s = director-step xs bs k g.arguments g.arena s
 call-step xs bs _ second g s = behind xs bs g g.arena node.Absent s refl refl tt
 

@@ -8,6 +8,7 @@ use Rattle.vcl_tree.specs.declared.item.Item.TheVariants as item
 use Rattle.vmod_host.specs.declared.signature.Stored.{Stored}
 use Rattle.vcl_language.specs.Names.{is_reserved, subroutine_named}
 use Rattle.vcl_language.specs.declared.scope.Subroutine.{Subroutine}
+use Rattle.vmod_host.specs.declared.signature.JarUse.TheVariants as jar
 use Rattle.vcl_code.specs.declared.arena.Arena.{Arena}
 use Rattle.vcl_code.specs.declared.node.Action.{Action}
 use Rattle.vcl_code.specs.declared.node.Action.TheVariants as action
@@ -120,7 +121,10 @@ perform-keeps a (callee.Builtin builtin.Ban) second g s h = one-keeps action.Ban
 perform-keeps a callee.Absent second g s h = gives-keep a g s h
 perform-keeps a (callee.Builtin (builtin.Substitute all)) second g s h = step-keeps a (called (callee.Builtin (builtin.Substitute all)) second g) (call-step a.nodes a.branches (callee.Builtin (builtin.Substitute all)) second g s) h
 perform-keeps a (callee.Builtin (builtin.Xkey soft)) second g s h = step-keeps a (called (callee.Builtin (builtin.Xkey soft)) second g) (call-step a.nodes a.branches (callee.Builtin (builtin.Xkey soft)) second g s) h
-perform-keeps a (callee.Stored k) second g s h = step-keeps a (called (callee.Stored k) second g) (call-step a.nodes a.branches (callee.Stored k) second g s) h
+perform-keeps a (callee.Stored k jar.None) second g s h = step-keeps a (called (callee.Stored k jar.None) second g) (call-step a.nodes a.branches (callee.Stored k jar.None) second g s) h
+perform-keeps a (callee.Stored k jar.Asks) second g s h = step-keeps a (called (callee.Stored k jar.Asks) second g) (call-step a.nodes a.branches (callee.Stored k jar.Asks) second g s) h
+perform-keeps a (callee.Stored k jar.Changes) second g s h =
+    step-keeps a (called (callee.Stored k jar.Changes) second g) (call-step a.nodes a.branches (callee.Stored k jar.Changes) second g s) h
 perform-keeps a (callee.Director k) second g s h = step-keeps a (called (callee.Director k) second g) (call-step a.nodes a.branches (callee.Director k) second g s) h
 
 mutual

@@ -9,6 +9,8 @@ use Rattle.vcl_language.specs.Functions.{function_named}
 use Rattle.vcl_language.specs.declared.functions.TheConstants.{FUNCTIONS}
 use Rattle.vcl_check.specs.declared.mentions.MentionKind.TheVariants as kind
 use Rattle.vcl_check.specs.Mentions.{Said, said, said_string, own_string, called_string, has_pattern, with_found, with_strings, parts}
+use Rattle.vmod_host.specs.declared.signature.JarUse.{JarUse}
+use Rattle.vmod_host.specs.declared.signature.JarUse.TheVariants as jar
 use Rattle.vcl_code.specs.declared.arena.Arena.{Arena}
 use Rattle.vcl_code.specs.declared.callees.Builtin.{Builtin}
 use Rattle.vcl_code.specs.declared.callees.Builtin.TheVariants as builtin
@@ -22,7 +24,7 @@ use Rattle.vcl_code.specs.declared.node.Arguments.{Arguments}
 use Rattle.vcl_code.specs.declared.node.Arguments.TheVariants.{Zero, One, Two, Three, More as TooMany}
 use Rattle.vcl_code.specs.Arenas.{Numbered}
 use Rattle.vcl_code.specs.Names.{Plain, Field, NoTarget, Read, OfTarget, Truth, Backend, NoRead, read_of, acl_of, callee_of, builtin_of, director_in, stored_or_director, builtin_or_other}
-use Rattle.vcl_code.specs.Expressions.{numbered, numbered_arguments, read_node, in_acl, matched, Given, given, string_of, second_string, substitution, xkey, director, called}
+use Rattle.vcl_code.specs.Expressions.{numbered, numbered_arguments, read_node, in_acl, matched, Given, given, string_of, second_string, substitution, xkey, director, called, passed}
 
 -- a string is said to be a pattern
 abbrev pub IsSaid : List Said → List ℕ → Type 0
@@ -161,6 +163,11 @@ called-said place name source arguments fits e =
     let x = second-said arguments source e in
     (x.0, ap (λ (b : Bool). if b then option_and_then said_string (slice_get (parts arguments) 1) else None) fits ∙ x.1)
 
+passed-patterns : (use_of_jar : JarUse) (g : Given) → (passed use_of_jar g).arena.patterns ≡ g.arena.patterns
+passed-patterns jar.None g = refl
+passed-patterns jar.Asks g = refl
+passed-patterns jar.Changes g = refl
+
 -- a call, with what its arguments put in
 substitution-comes : (known : Known) (all : Bool) (place : ℕ) (name : List ℕ) (arguments : Phrase) (second : Option (List ℕ)) (given : Arguments) (a : Arena)
     (ps : List (List ℕ)) (xs : List Said) (p : List ℕ) → has_pattern (function_named name) ≡ true → second_string arguments ≡ second → (Contains a.patterns p → Comes ps xs p)
@@ -191,7 +198,8 @@ call-comes known place name arguments (callee.Builtin (builtin.Xkey soft)) g ps 
     plain-comes place name arguments _ g.arena.patterns ps xs p (xkey-patterns soft g.arguments g.arena) f h
 call-comes known place name arguments (callee.Director k) g ps xs p e f h =
     plain-comes place name arguments _ g.arena.patterns ps xs p (director-patterns k g.arguments g.arena) f h
-call-comes known place name arguments (callee.Stored k) g ps xs p e f h = plain-comes place name arguments _ g.arena.patterns ps xs p refl f h
+call-comes known place name arguments (callee.Stored k use_of_jar) g ps xs p e f h =
+    plain-comes place name arguments (passed use_of_jar g).arena.patterns g.arena.patterns ps xs p (passed-patterns use_of_jar g) f h
 call-comes known place name arguments callee.Absent g ps xs p e f h = plain-comes place name arguments _ g.arena.patterns ps xs p refl f h
 call-comes known place name arguments (callee.Builtin builtin.HashData) g ps xs p e f h = plain-comes place name arguments _ g.arena.patterns ps xs p refl f h
 call-comes known place name arguments (callee.Builtin builtin.Synthetic) g ps xs p e f h = plain-comes place name arguments _ g.arena.patterns ps xs p refl f h

@@ -15,6 +15,7 @@ use Rattle.vcl_check.specs.declared.mentions.MentionKind.{MentionKind}
 use Rattle.vcl_check.specs.declared.mentions.MentionKind.TheVariants as kind
 use Rattle.vcl_check.specs.Texts.{says, pattern_if, pattern_of, pattern_texts}
 use Rattle.vcl_check.specs.Mentions.{Said, said, said_of, called_string, with_found, with_strings, with_given, with_call, object_kind, made, with_object, with_answer, with_mentions, with_item, with_items}
+use Rattle.vmod_host.specs.declared.signature.JarUse.TheVariants as jar
 use Rattle.vcl_code.specs.declared.arena.Arena.{Arena}
 use Rattle.vcl_code.specs.declared.callees.Builtin.TheVariants as builtin
 use Rattle.vcl_code.specs.declared.names.Callee.{Callee}
@@ -141,7 +142,9 @@ perform-comes known place name arguments (callee.Builtin builtin.Ban) g ps xs p 
 perform-comes known place name arguments callee.Absent g ps xs p e f h = plain-comes place name arguments _ g.arena.patterns ps xs p refl f h
 perform-comes known place name arguments (callee.Builtin (builtin.Substitute all)) g ps xs p e f h = call-comes known place name arguments (callee.Builtin (builtin.Substitute all)) g ps xs p e f h
 perform-comes known place name arguments (callee.Builtin (builtin.Xkey soft)) g ps xs p e f h = call-comes known place name arguments (callee.Builtin (builtin.Xkey soft)) g ps xs p e f h
-perform-comes known place name arguments (callee.Stored k) g ps xs p e f h = call-comes known place name arguments (callee.Stored k) g ps xs p e f h
+perform-comes known place name arguments (callee.Stored k jar.None) g ps xs p e f h = call-comes known place name arguments (callee.Stored k jar.None) g ps xs p e f h
+perform-comes known place name arguments (callee.Stored k jar.Asks) g ps xs p e f h = call-comes known place name arguments (callee.Stored k jar.Asks) g ps xs p e f h
+perform-comes known place name arguments (callee.Stored k jar.Changes) g ps xs p e f h = call-comes known place name arguments (callee.Stored k jar.Changes) g ps xs p e f h
 perform-comes known place name arguments (callee.Director k) g ps xs p e f h = call-comes known place name arguments (callee.Director k) g ps xs p e f h
 
 chained-contains : (d : Acts) (next : ℕ) (p : List ℕ) → Contains (chained next d).arena.patterns p → Contains d.arena.patterns p

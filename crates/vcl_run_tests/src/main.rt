@@ -17,15 +17,12 @@ mod steps;
 mod stores;
 mod words;
 
-use functions::length_of_copy;
+use functions::{capital_of, length_of, length_of_copy, number_of, small_of};
 use std::alloc::{AllocError, Global};
 use std::io;
 use vcl_soundness::standard_are_meant;
 use vcl_values::Kind;
-use vmod_host::{
-    INTEGER, STRLEN, Signature, TOLOWER, TOUPPER, Vmod, VmodTable, integer, strlen, tolower,
-    toupper,
-};
+use vmod_host::{INTEGER, STRLEN, Signature, TOLOWER, TOUPPER, Vmod, VmodTable};
 
 fn main(rt: HostRuntime) -> io::Result<()> {
     let alloc = rt.alloc();
@@ -45,22 +42,22 @@ fn main(rt: HostRuntime) -> io::Result<()> {
         Vmod {
             tag: TOLOWER,
             signature: lower,
-            call: tolower,
+            call: small_of,
         },
         Vmod {
             tag: TOUPPER,
             signature: upper,
-            call: toupper,
+            call: capital_of,
         },
         Vmod {
             tag: INTEGER,
             signature: number,
-            call: integer,
+            call: number_of,
         },
         Vmod {
             tag: STRLEN,
             signature: length,
-            call: strlen,
+            call: length_of,
         },
     ];
     let copying = [Vmod {

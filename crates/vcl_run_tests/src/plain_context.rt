@@ -96,6 +96,7 @@ pub fn context(alloc: Global) -> Result<Box<Context>, AllocError> {
         response: sent,
         key: Sequence::new(alloc),
         body: None,
+        jar: Text::of(alloc, b"")?,
         statements: 0,
     };
     Ok(Box::new(alloc, context)?)

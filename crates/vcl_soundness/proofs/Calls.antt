@@ -8,6 +8,7 @@ use Rattle.vcl_language.specs.declared.functions.Function.{Function}
 use Rattle.vcl_language.specs.declared.functions.Method.{Method}
 use Rattle.vcl_language.specs.declared.functions.Method.TheVariants as method
 use Rattle.vcl_language.specs.declared.variables.Variable.{Variable as Row}
+use Rattle.vmod_host.specs.declared.signature.JarUse.{JarUse}
 use Rattle.vcl_symbols.specs.Known.{Known, symbol_named, object_named, stored_of, without}
 use Rattle.vcl_symbols.specs.declared.symbol_table.Symbol.{Symbol}
 use Rattle.vcl_symbols.specs.declared.symbol_table.Symbol.TheVariants as symbol
@@ -18,7 +19,7 @@ use Rattle.vcl_check.specs.Known.{is_available, meaning_of, of_variable, of_obje
 use Rattle.vcl_check.specs.Rules.{is_known}
 use Rattle.vcl_code.specs.declared.callees.Builtin.{Builtin}
 use Rattle.vcl_code.specs.declared.names.Callee.TheVariants as callee
-use Rattle.vcl_code.specs.Names.{subroutine_in, subroutine_of, builtin_of, director_in, stored_or_director, builtin_or_other, callee_of}
+use Rattle.vcl_code.specs.Names.{subroutine_in, subroutine_of, builtin_of, director_in, jar_at, stored_or_director, builtin_or_other, callee_of}
 use Rattle.vcl_soundness.proofs.Rows.{false-true, IsRowOf, function-row, no-function-row}
 
 -- each object has a maker that is known
@@ -62,7 +63,7 @@ subroutine-named known name k e = subroutine-symbol (symbol_named known name) k 
 -- What a function's name stands for: a function of the language, a stored one, or a method of a director.
 pub data Calls (known : Known) (name : List ℕ) (f : Function) : Type 0 where
   of_language : (b : Builtin) → callee_of known name ≡ callee.Builtin b → IsRowOf f b → Calls known name f
-  of_table : (k : ℕ) → callee_of known name ≡ callee.Stored k → Calls known name f
+  of_table : (k : ℕ) (use_of_jar : JarUse) → callee_of known name ≡ callee.Stored k use_of_jar → Calls known name f
   of_director : (k : ℕ) (kind : DirectorKind) → callee_of known name ≡ callee.Director k → f ≡ method_of kind method.Backend → Calls known name f
   to_director : (kind : DirectorKind) → f ≡ method_of kind method.AddBackend → Calls known name f
 
@@ -107,7 +108,7 @@ function-calls known made name h = by-language (function_named name) refl h
 
     directed : builtin_of name ≡ None → (kind : DirectorKind) (k : ℕ) → object_named known (codes ".backend") name ≡ Some (symbol.Director kind k)
         → (s : Option ℕ) → stored_of known name ≡ s → Calls known name (method_of kind method.Backend)
-    directed none kind k e (Some j) s-is = of_table j (other none ∙ ap (λ (o : Option ℕ). stored_or_director known name o) s-is)
+    directed none kind k e (Some j) s-is = of_table j (jar_at known.stored j) (other none ∙ ap (λ (o : Option ℕ). stored_or_director known name o) s-is)
     directed none kind k e None s-is =
         let found : stored_or_director known name (stored_of known name) ≡ callee.Director k =
         ap (λ (o : Option ℕ). stored_or_director known name o) s-is ∙ ap director_in e in
@@ -136,7 +137,7 @@ function-calls known made name h = by-language (function_named name) refl h
     by-stored : (o : Option Function) → stored_named known name ≡ o → builtin_of name ≡ None → is_known (of_stored known name o) ≡ true → KnownCall known name (of_stored known name o)
     by-stored (Some f) e none h =
         let r = stored-row known name f e in
-        (f, refl, of_table r.0 (other none ∙ ap (λ (o : Option ℕ). stored_or_director known name o) r.1))
+        (f, refl, of_table r.0 (jar_at known.stored r.0) (other none ∙ ap (λ (o : Option ℕ). stored_or_director known name o) r.1))
     by-stored None e none h = by-ending (ends_in (codes ".add_backend") name) none h
 
     by-import : (b : Bool) (f : Function) → function_named name ≡ Some f → is_known (if b then meaning.Function f else meaning.Unknown) ≡ true

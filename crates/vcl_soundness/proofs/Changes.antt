@@ -1,10 +1,11 @@
 -- What a set of a variable comes to, with a value that the variable takes.
-use Rattle.std.proofs.Common.{◌≡◌, refl, sym, subst, ℕ, ℤ, List, Bool, true, false, not, Option, Some, None, option_map, if◌then◌else◌}
+use Rattle.std.proofs.Common.{◌≡◌, refl, sym, subst, ℕ, ℤ, List, Bool, true, false, not, Option, Some, None, option_map, length, nat_lt, if◌then◌else◌}
 use Rattle.std.proofs.lemmas.Option.{none-some}
 use Rattle.vcl_values.specs.declared.value.Kind.{Kind}
 use Rattle.vcl_values.specs.declared.value.Kind.TheVariants as kind
 use Rattle.vcl_values.specs.declared.value.Value.{Value}
 use Rattle.vcl_values.specs.declared.value.Value.TheVariants as value
+use Rattle.vcl_values.specs.Operators.{text_limit}
 use Rattle.vcl_values.specs.Values.{kind_of, text_of}
 use Rattle.http_heads.specs.declared.message.RequestHead.{RequestHead}
 use Rattle.http_heads.specs.declared.message.ResponseHead.{ResponseHead}
@@ -71,6 +72,10 @@ map-none f (Some a) e = absurd (some-none (f a) e)
 refused-if : {A : Type 0} (b : Bool) (x : A) → (if b then Some x else None) ≡ None → not b ≡ true
 refused-if true x e = absurd (some-none x e)
 refused-if false x e = refl
+
+refused-unless : {A : Type 0} (b : Bool) (x : A) → (if b then None else Some x) ≡ None → b ≡ true
+refused-unless true x e = refl
+refused-unless false x e = absurd (some-none x e)
 
 method-refused : (v : Value) (head : RequestHead) → method_set v head ≡ None → not (is_token (text_of v)) ≡ true
 method-refused v head e = refused-if (is_token (text_of v)) _ e
@@ -148,6 +153,7 @@ variable-refused (variable.FetchRequest w) v c k s e = fetch-refused w v c.fetch
 variable-refused (variable.FetchResponse w) v c k s e = fetched-refused w v c.fetch_response k s (map-none _ (fetch_response_set w v c.fetch_response) e)
 variable-refused (variable.Response w) v c k s e = response-refused w v c.response k s (map-none _ (response_set w v c.response) e)
 variable-refused variable.Body v c k s e = absurd (some-none _ e)
+variable-refused variable.Jar v c k s e = refused-unless (nat_lt text_limit (length (text_of v))) _ e
 
 fits-itself : (k : Kind) → fits k k ≡ true
 fits-itself kind.String = refl

@@ -20,6 +20,8 @@ use Rattle.vcl_language.specs.declared.functions.Method.TheVariants as method
 use Rattle.vcl_language.specs.declared.functions.Parameter.TheVariants as parameter
 use Rattle.vcl_language.specs.declared.functions.Slot.{Slot}
 use Rattle.vcl_language.specs.declared.scope.Subroutine.{Subroutine}
+use Rattle.vmod_host.specs.declared.signature.JarUse.{JarUse}
+use Rattle.vmod_host.specs.declared.signature.JarUse.TheVariants as jar
 use Rattle.vmod_host.specs.declared.signature.Stored.{Stored}
 use Rattle.vcl_check.specs.declared.form.Use.TheVariants as use'
 use Rattle.vcl_check.specs.declared.seen.Argument.{Argument}
@@ -29,7 +31,7 @@ use Rattle.vcl_check.specs.declared.seen.Sort.{Sort}
 use Rattle.vcl_check.specs.declared.seen.Sort.TheVariants as sort
 use Rattle.vcl_check.specs.Calls.{is_string, with_argument, takes_so_many, mistyped, unwritten, or_else, leftmost_mistyped, leftmost_unwritten, ill_called}
 use Rattle.vcl_check.specs.Kinds.{is_value, is_condition, is_ordered, same_kind, alike, adds, may_add, sum_kind, sum_sort, difference_kind, difference_sort, accepts, grouped_sort, is_ip, is_acl, is_searched}
-use Rattle.vcl_check.specs.Known.{meaning_of, values, takes_values, giving, function_of}
+use Rattle.vcl_check.specs.Known.{meaning_of, values, takes_values, takes_behind_jar, written_of, value_given, giving, function_of}
 use Rattle.vcl_check.specs.Roles.{Name, Value, Arguments}
 use Rattle.vcl_check.specs.Rules.{may_use, is_reached, is_for_init, may_be_used, both_fit, ill_function, unwritten_call}
 use Rattle.vcl_check.specs.Views.{sort_of, given_sort, call_sort, integer_weight, argument_of, view_of}
@@ -41,10 +43,10 @@ use Rattle.vcl_symbols.specs.Known.{Known}
 use Rattle.vcl_code.specs.Names.{callee_of}
 use Rattle.vcl_code.specs.Expressions.{string_of, second_string}
 use Rattle.vcl_program.specs.declared.code.Director.{Director}
-use Rattle.vcl_operands.specs.Meaning.{Scene, Operand, value_of, operands_of}
+use Rattle.vcl_operands.specs.Meaning.{Scene, Operand, value_of, operands_of, jar_text, with_jar}
 use Rattle.vcl_soundness.proofs.Rows.{false-true, both-true, takes_of, gives_of, passes}
 use Rattle.vcl_soundness.proofs.Clean.{Clean, left-clean, right-clean, fits, written, known-name, used-name}
-use Rattle.vcl_soundness.proofs.Places.{not-none, placed, one-placed, AreFour, four-placed, values-are}
+use Rattle.vcl_soundness.proofs.Places.{not-none, placed, one-placed, AreFour, four-placed, values-are, behind-are}
 use Rattle.vcl_soundness.proofs.NoFault.{unless-none, if-none, both-fits, or-none, weight-no-string}
 use Rattle.vcl_soundness.proofs.Names as names
 use Rattle.vcl_soundness.proofs.Names.{Stands, AclNamed, ReadsAs, name-reads, Does, function-does}
@@ -96,6 +98,7 @@ abbrev pub Gives : Callee → Type 0
 Gives (callee.Builtin builtin.HashData) = ⊥
 Gives (callee.Builtin builtin.Synthetic) = ⊥
 Gives (callee.Builtin builtin.Ban) = ⊥
+Gives (callee.Stored k jar.Changes) = ⊥
 Gives _ = Unit {0}
 
 -- what holds of all subroutines from which a part is reached, and of one of them
@@ -299,10 +302,11 @@ module _ (known : Known) (scene : Scene) (stands : Stands known scene) (roots : 
   directed k d e director.Random {l} g c at i = director-worth scene k d e (second_string l) (operands_of known scene l) (zero-given g c at i)
   directed k d e director.Hash {l} g c at i = hash-worth scene k d e kind.String (second_string l) (operands_of known scene l) (one-given kind.String g c at i)
 
-  -- What a call of a function does: something by the text of one value, or it gives a value.
+  -- What a call of a function does: something by the text of one value, or it gives a value, or it changes the jar.
   pub data Call (f : Function) (name : List ℕ) (l : Phrase) : Type 0 where
     does : (c : Callee) → callee_of known name ≡ c → Performs c → f.gives ≡ None → Taken (kind.String ∷ []) l → Call f name l
     yields : (k : Kind) (c : Callee) → callee_of known name ≡ c → Gives c → f.gives ≡ Some k → Agrees k c l → Call f name l
+    changes : (k : Kind) (i : ℕ) → callee_of known name ≡ callee.Stored i jar.Changes → f.gives ≡ None → Agrees k (callee.Stored i jar.Changes) l → Call f name l
     enrols : (way : DirectorKind) → f ≡ method_of way method.AddBackend → Call f name l
 
   built : (b : Builtin) (f : Function) (name : List ℕ) {l : Phrase} → AreFine l → Clean known roots Arguments l → (at : ℕ) → callee_of known name ≡ callee.Builtin b → f.gives ≡ gives_of b
@@ -314,20 +318,42 @@ module _ (known : Known) (scene : Scene) (stands : Stands known scene) (roots : 
   built builtin.Synthetic f name g c at e v i u = does (callee.Builtin builtin.Synthetic) e tt v (one-given kind.String g c at i)
   built builtin.Ban f name g c at e v i u = does (callee.Builtin builtin.Ban) e tt v (one-given kind.String g c at i)
 
-  given-function : (of : Kind) (o : Option (List Slot)) (f : Function) → giving of o ≡ Some f → (t : List Slot) × (o ≡ Some t) × (f.takes ≡ t) × (f.gives ≡ Some of)
+  -- arguments behind the jar's text
+  jar-given : Given kind.String (jar_text scene)
+  jar-given = (kind.String, refl, λ s. refl)
+
+  behind-given : (kinds : List Kind) (t : List Slot) → takes_behind_jar kinds ≡ Some t → {l : Phrase} → AreFine l → Clean known roots Arguments l → (at : ℕ) → ill_called t (Listed l) at ≡ None
+      → AllGiven kinds (jar_text scene ∷ operands_of known scene l)
+  behind-given kinds t e {l} g c at i =
+      let v = behind-are kinds t e in
+      let taken = given-values v.0 v.2 g c at (subst (λ (y : List Slot). ill_called y (Listed l) at ≡ None) (sym v.3) i) in
+      subst (λ (ks : List Kind). AllGiven ks (jar_text scene ∷ operands_of known scene l)) (sym v.1) (jar-given, taken)
+
+  passed-given : (u : JarUse) (kinds : List Kind) (t : List Slot) → written_of u kinds ≡ Some t → {l : Phrase} → AreFine l → Clean known roots Arguments l → (at : ℕ) → ill_called t (Listed l) at ≡ None
+      → AllGiven kinds (with_jar scene u (operands_of known scene l))
+  passed-given jar.None kinds t e g c at i = values-given kinds t e g c at i
+  passed-given jar.Asks kinds t e g c at i = behind-given kinds t e g c at i
+  passed-given jar.Changes kinds t e g c at i = behind-given kinds t e g c at i
+
+  given-function : (of : Option Kind) (o : Option (List Slot)) (f : Function) → giving of o ≡ Some f → (t : List Slot) × (o ≡ Some t) × (f.takes ≡ t) × (f.gives ≡ of)
   given-function of None f e = absurd (none-some f e)
   given-function of (Some t) f e =
       let same = same_Some _ f e in
       (t, refl, ap (λ (x : Function). x.takes) (sym same), ap (λ (x : Function). x.gives) (sym same))
 
-  stored-call : (k : ℕ) (entry : Stored) (f : Function) (name : List ℕ) {l : Phrase} → AreFine l → Clean known roots Arguments l → (at : ℕ) → callee_of known name ≡ callee.Stored k
+  stored-call : (k : ℕ) (entry : Stored) (f : Function) (name : List ℕ) {l : Phrase} → AreFine l → Clean known roots Arguments l → (at : ℕ) → callee_of known name ≡ callee.Stored k entry.signature.jar
       → slice_get known.stored k ≡ Some entry → function_of entry.signature ≡ Some f → ill_called f.takes (Listed l) at ≡ None → Call f name l
   stored-call k entry f name {l} g c at e there is i =
-      let x = given-function entry.signature.gives (takes_values entry.signature.takes) f is in
+      let x = given-function (value_given entry.signature.jar entry.signature.gives) (written_of entry.signature.jar entry.signature.takes) f is in
       let m = stands.meant k entry there in
       let found = ap (λ (xs : List Stored). slice_get xs k) stands.stored ∙ there in
-      let taken = values-given entry.signature.takes x.0 x.1 g c at (subst (λ (t : List Slot). ill_called t (Listed l) at ≡ None) x.2 i) in
-      yields entry.signature.gives (callee.Stored k) e tt x.3 (stored-worth scene k entry found m.1 m.0 (second_string l) (operands_of known scene l) taken)
+      let taken = passed-given entry.signature.jar entry.signature.takes x.0 x.1 g c at (subst (λ (t : List Slot). ill_called t (Listed l) at ≡ None) x.2 i) in
+      by-jar entry.signature.jar e x.3 (stored-worth scene k entry found m.1 m.0 entry.signature.jar (second_string l) (operands_of known scene l) taken)
+    where
+      by-jar : (u : JarUse) → callee_of known name ≡ callee.Stored k u → f.gives ≡ value_given u entry.signature.gives → Agrees entry.signature.gives (callee.Stored k u) l → Call f name l
+      by-jar jar.None e v w = yields entry.signature.gives (callee.Stored k jar.None) e tt v w
+      by-jar jar.Asks e v w = yields entry.signature.gives (callee.Stored k jar.Asks) e tt v w
+      by-jar jar.Changes e v w = changes entry.signature.gives k e v w
 
   pub calls : (f : Function) (name : List ℕ) {l : Phrase} → Does known scene stands name f → AreFine l → Clean known roots Arguments l → (at : ℕ)
       → ill_called f.takes (Listed l) at ≡ None → leftmost_unwritten f.takes (Listed l) ≡ None → Call f name l
@@ -343,6 +369,7 @@ module _ (known : Known) (scene : Scene) (stands : Stands known scene) (roots : 
   call-good f place name l (does c e p n t) = subst (λ (o : Option Kind). Good (given_sort o) (Node Called (Named place name) l)) (sym n) tt
   call-good f place name l (yields k c e p n t) =
       subst (λ (o : Option Kind). Good (given_sort o) (Node Called (Named place name) l)) (sym n) (called-typed scene known k place name l c e t)
+  call-good f place name l (changes k i e n t) = subst (λ (o : Option Kind). Good (given_sort o) (Node Called (Named place name) l)) (sym n) tt
   call-good f place name l (enrols way same) = subst (λ (x : Function). Good (given_sort x.gives) (Node Called (Named place name) l)) (sym same) tt
 
   called-fine : (place : ℕ) (name : List ℕ) {l : Phrase} → AreFine l → Fine (Node Called (Named place name) l)

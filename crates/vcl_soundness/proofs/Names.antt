@@ -18,6 +18,8 @@ use Rattle.vcl_language.specs.declared.scope.Subroutine.{Subroutine}
 use Rattle.vcl_language.specs.declared.functions.Function.{Function}
 use Rattle.vcl_language.specs.declared.functions.Method.TheVariants as method
 use Rattle.vcl_language.specs.declared.variables.Variable.{Variable as Row}
+use Rattle.vmod_host.specs.declared.signature.JarUse.{JarUse}
+use Rattle.vmod_host.specs.declared.signature.JarUse.TheVariants as jar
 use Rattle.vmod_host.specs.declared.signature.Stored.{Stored}
 use Rattle.vmod_host.specs.Stored.{is_named}
 use Rattle.vcl_symbols.specs.Known.{Known, symbol_named, is_imported, object_named, without, stored_in, stored_of}
@@ -27,19 +29,19 @@ use Rattle.vcl_check.specs.declared.form.Use.TheVariants as use'
 use Rattle.vcl_check.specs.declared.seen.Meaning.TheVariants as meaning
 use Rattle.vcl_check.specs.declared.seen.Sort.{Sort}
 use Rattle.vcl_check.specs.declared.seen.Sort.TheVariants as sort
-use Rattle.vcl_check.specs.Known.{is_truth, meaning_of, of_read, of_read_symbol, of_declared, takes_values, giving, function_of, function_at, stored_named, of_stored, of_function}
+use Rattle.vcl_check.specs.Known.{is_truth, meaning_of, of_read, of_read_symbol, of_declared, takes_values, takes_behind_jar, written_of, value_given, giving, function_of, function_at, stored_named, of_stored, of_function}
 use Rattle.vcl_check.specs.Rules.{is_known, may_use}
 use Rattle.vcl_check.specs.Views.{sort_of}
 use Rattle.vcl_code.specs.declared.callees.Builtin.{Builtin}
 use Rattle.vcl_code.specs.declared.names.Callee.TheVariants as callee
-use Rattle.vcl_code.specs.Names.{Target, Plain, Field, NoTarget, Read, Truth, target_of, of_symbol, of_target, read_of, acl_in, acl_of, builtin_of, director_in, stored_or_director, builtin_or_other, callee_of}
+use Rattle.vcl_code.specs.Names.{Target, Plain, Field, NoTarget, Read, Truth, target_of, of_symbol, of_target, read_of, acl_in, acl_of, builtin_of, director_in, jar_in, jar_at, stored_or_director, builtin_or_other, callee_of}
 use Rattle.vcl_program.specs.declared.code.Director.{Director}
 use Rattle.vcl_operands.specs.Meaning.{Scene, named_value}
 use Rattle.vcl_operands.specs.Values.{backend_value, backend_at}
 use Rattle.vcl_soundness.proofs.Rows.{false-true, IsRowOf, function-row}
 use Rattle.vcl_soundness.proofs.Calls as names
 use Rattle.vcl_soundness.proofs.Calls.{AreMade, Calls, function-calls}
-use Rattle.vcl_soundness.specs.Laws.{AreMeant}
+use Rattle.vcl_soundness.specs.Laws.{AreMeant, BeginsWithJar}
 use Rattle.vcl_soundness.proofs.Holds.{IsOf, Makes}
 use Rattle.vcl_soundness.proofs.Tables.{TargetOf, target-is, no-target, reads-as}
 
@@ -136,17 +138,33 @@ module _ (known : Known) (scene : Scene) (stands : Stands known scene) where
   -- What a function's name stands for: a function of the language, a stored one that is there, or a method of a director that is.
   pub data Does (name : List ℕ) (f : Function) : Type 0 where
     of_language : (b : Builtin) → callee_of known name ≡ callee.Builtin b → IsRowOf f b → Does name f
-    of_table : (k : ℕ) (entry : Stored) → callee_of known name ≡ callee.Stored k → slice_get known.stored k ≡ Some entry → function_of entry.signature ≡ Some f → Does name f
+    of_table : (k : ℕ) (entry : Stored) → callee_of known name ≡ callee.Stored k entry.signature.jar → slice_get known.stored k ≡ Some entry → function_of entry.signature ≡ Some f → Does name f
     of_director : (k : ℕ) (d : Director) (kind : DirectorKind) → callee_of known name ≡ callee.Director k → slice_get scene.directors k ≡ Some d → f ≡ method_of kind method.Backend → Does name f
     to_director : (kind : DirectorKind) → f ≡ method_of kind method.AddBackend → Does name f
 
   -- a stored function takes three values at most, so that the check knows it
-  giving-some : (g : Kind) (kinds : List Kind) → length kinds ≤ 3 → (f : Function) × (giving g (takes_values kinds) ≡ Some f)
+  giving-some : (g : Option Kind) (kinds : List Kind) → length kinds ≤ 3 → (f : Function) × (giving g (takes_values kinds) ≡ Some f)
   giving-some g [] h = (_, refl)
   giving-some g (a ∷ []) h = (_, refl)
   giving-some g (a ∷ b ∷ []) h = (_, refl)
   giving-some g (a ∷ b ∷ c ∷ []) h = (_, refl)
   giving-some g (a ∷ b ∷ c ∷ d ∷ more) h = absurd (omega (arith, h))
+
+  -- the same behind the jar's text
+  behind-some : (g : Option Kind) (kinds : List Kind) → length kinds ≤ 2 → (f : Function) × (giving g (takes_behind_jar (kind.String ∷ kinds)) ≡ Some f)
+  behind-some g [] h = (_, refl)
+  behind-some g (a ∷ []) h = (_, refl)
+  behind-some g (a ∷ b ∷ []) h = (_, refl)
+  behind-some g (a ∷ b ∷ c ∷ more) h = absurd (omega (arith, h))
+
+  jar-some : (g : Option Kind) (kinds more : List Kind) → kinds ≡ kind.String ∷ more → length kinds ≤ 3 → (f : Function) × (giving g (takes_behind_jar kinds) ≡ Some f)
+  jar-some g kinds more e h =
+      subst (λ (ks : List Kind). (f : Function) × (giving g (takes_behind_jar ks) ≡ Some f)) (sym e) (behind-some g more (omega (arith, ap length e, h)))
+
+  written-some : (u : JarUse) (g : Option Kind) (kinds : List Kind) → length kinds ≤ 3 → BeginsWithJar u kinds → (f : Function) × (giving g (written_of u kinds) ≡ Some f)
+  written-some jar.None g kinds h b = giving-some g kinds h
+  written-some jar.Asks g kinds h b = jar-some g kinds b.0 b.1 h
+  written-some jar.Changes g kinds h b = jar-some g kinds b.0 b.1 h
 
   abbrev Entered : ℕ → Function → Type 0
   Entered k f = (entry : Stored) × (slice_get known.stored k ≡ Some entry) × (function_of entry.signature ≡ Some f)
@@ -158,7 +176,9 @@ module _ (known : Known) (scene : Scene) (stands : Stands known scene) where
   row-entered : (p : Stored → Bool) (k : ℕ) → position p known.stored ≡ Some k → (f : Function) × Entered k f
   row-entered p k e =
       let entry = entry-at known.stored p k e in
-      let f = giving-some entry.0.signature.gives entry.0.signature.takes (stands.meant k entry.0 entry.1).0 in
+      let s = entry.0.signature in
+      let m = stands.meant k entry.0 entry.1 in
+      let f = written-some s.jar (value_given s.jar s.gives) s.takes m.0 m.2 in
       (f.0, (entry.0, entry.1, f.1))
 
   at-entered : (k : ℕ) (f : Function) → Entered k f → function_at known.stored k ≡ Some f
@@ -188,15 +208,15 @@ module _ (known : Known) (scene : Scene) (stands : Stands known scene) where
   director-symbol (Some (symbol.Subroutine j)) k e = absurd (cc)
   director-symbol None k e = absurd (cc)
 
-  director-no-stored : (o : Option Symbol) (k : ℕ) → director_in o ≡ callee.Stored k → ⊥
-  director-no-stored (Some (symbol.Director kind j)) k e = cc
-  director-no-stored (Some symbol.Probe) k e = cc
-  director-no-stored (Some symbol.UnknownObject) k e = cc
-  director-no-stored (Some symbol.NoObject) k e = cc
-  director-no-stored (Some (symbol.Acl j)) k e = cc
-  director-no-stored (Some (symbol.Backend j)) k e = cc
-  director-no-stored (Some (symbol.Subroutine j)) k e = cc
-  director-no-stored None k e = cc
+  director-no-stored : (o : Option Symbol) (k : ℕ) (u : JarUse) → director_in o ≡ callee.Stored k u → ⊥
+  director-no-stored (Some (symbol.Director kind j)) k u e = cc
+  director-no-stored (Some symbol.Probe) k u e = cc
+  director-no-stored (Some symbol.UnknownObject) k u e = cc
+  director-no-stored (Some symbol.NoObject) k u e = cc
+  director-no-stored (Some (symbol.Acl j)) k u e = cc
+  director-no-stored (Some (symbol.Backend j)) k u e = cc
+  director-no-stored (Some (symbol.Subroutine j)) k u e = cc
+  director-no-stored None k u e = cc
 
   director-there : (name : List ℕ) (k : ℕ) → callee_of known name ≡ callee.Director k → (d : Director) × (slice_get scene.directors k ≡ Some d)
   unfolding callee_of
@@ -215,26 +235,33 @@ module _ (known : Known) (scene : Scene) (stands : Stands known scene) where
       by-builtin (Some b) e = absurd (cc)
       by-builtin None e = by-stored (stored_of known name) e
 
-  stored-there : (name : List ℕ) (k : ℕ) → callee_of known name ≡ callee.Stored k → (builtin_of name ≡ None) × (stored_of known name ≡ Some k)
+  stored-there : (name : List ℕ) (k : ℕ) (u : JarUse) → callee_of known name ≡ callee.Stored k u → (builtin_of name ≡ None) × (stored_of known name ≡ Some k) × (u ≡ jar_at known.stored k)
   unfolding callee_of
-  stored-there name k e = by-builtin (builtin_of name) refl e
+  stored-there name k u e = by-builtin (builtin_of name) refl e
     where
-      by-stored : (o : Option ℕ) → stored_or_director known name o ≡ callee.Stored k → o ≡ Some k
-      by-stored (Some j) e = ap Some (cc)
-      by-stored None e = absurd (director-no-stored (object_named known (codes ".backend") name) k e)
+      by-place : (j : ℕ) → callee.Stored j (jar_at known.stored j) ≡ callee.Stored k u → (Some j ≡ Some k) × (u ≡ jar_at known.stored k)
+      by-place j e =
+          let same : j ≡ k = cc in
+          let way : jar_at known.stored j ≡ u = cc in
+          (ap Some same, sym way ∙ ap (jar_at known.stored) same)
 
-      by-builtin : (o : Option Builtin) → builtin_of name ≡ o → builtin_or_other known name o ≡ callee.Stored k → (builtin_of name ≡ None) × (stored_of known name ≡ Some k)
+      by-stored : (o : Option ℕ) → stored_or_director known name o ≡ callee.Stored k u → (o ≡ Some k) × (u ≡ jar_at known.stored k)
+      by-stored (Some j) e = by-place j e
+      by-stored None e = absurd (director-no-stored (object_named known (codes ".backend") name) k u e)
+
+      by-builtin : (o : Option Builtin) → builtin_of name ≡ o → builtin_or_other known name o ≡ callee.Stored k u
+          → (builtin_of name ≡ None) × (stored_of known name ≡ Some k) × (u ≡ jar_at known.stored k)
       by-builtin (Some b) f e = absurd (cc)
-      by-builtin None f e = (f, by-stored (stored_of known name) e)
+      by-builtin None f e = let s = by-stored (stored_of known name) e in (f, s.0, s.1)
 
   no-function : (name : List ℕ) (o : Option Function) → function_named name ≡ o → builtin_of name ≡ None → o ≡ None
   no-function name None e n = refl
   no-function name (Some f) e n = absurd (none-some _ (sym n ∙ (function-row name f e).1))
 
-  of-table : (name : List ℕ) (k : ℕ) (f : Function) → meaning_of known use'.Function name ≡ meaning.Function f → callee_of known name ≡ callee.Stored k → Entered k f
+  of-table : (name : List ℕ) (k : ℕ) (u : JarUse) (f : Function) → meaning_of known use'.Function name ≡ meaning.Function f → callee_of known name ≡ callee.Stored k u → Entered k f
   unfolding meaning_of
-  of-table name k f m e =
-      let s = stored-there name k e in
+  of-table name k u f m e =
+      let s = stored-there name k u e in
       let g = named-entered name k s.1 in
       let none = no-function name (function_named name) refl s.0 in
       let is : meaning.Function g.0 ≡ meaning.Function f = sym (ap (of_function known name) none ∙ ap (of_stored known name) g.2) ∙ m in
@@ -246,6 +273,9 @@ module _ (known : Known) (scene : Scene) (stands : Stands known scene) where
     where
       by-call : (f : Function) → meaning_of known use'.Function name ≡ meaning.Function f → Calls known name f → Does name f
       by-call f m (names.of_language b e row) = of_language b e row
-      by-call f m (names.of_table k e) = let t = of-table name k f m e in of_table k t.0 e t.1 t.2
+      by-call f m (names.of_table k u e) =
+          let t = of-table name k u f m e in
+          let way : u ≡ t.0.signature.jar = (stored-there name k u e).2 ∙ ap jar_in t.1 in
+          of_table k t.0 (e ∙ ap (λ (x : JarUse). callee.Stored k x) way) t.1 t.2
       by-call f m (names.of_director k kind e same) = let d = director-there name k e in of_director k d.0 kind e d.1 same
       by-call f m (names.to_director kind same) = to_director kind same

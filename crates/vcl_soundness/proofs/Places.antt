@@ -2,10 +2,11 @@
 use Rattle.std.proofs.Common.{◌≡◌, ℕ, zero, suc, ◌≤◌, List, [], ◌∷◌, ◌++◌, length, refl, sym, ap, Option, Some, None, arith}
 use Rattle.std.proofs.lemmas.Option.{none-some, same_Some}
 use Rattle.vcl_values.specs.declared.value.Kind.{Kind}
+use Rattle.vcl_values.specs.declared.value.Kind.TheVariants as kind
 use Rattle.vcl_language.specs.declared.functions.Slot.{Slot}
 use Rattle.vcl_check.specs.declared.seen.Argument.{Argument}
 use Rattle.vcl_check.specs.Calls.{with_argument}
-use Rattle.vcl_check.specs.Known.{values, takes_values}
+use Rattle.vcl_check.specs.Known.{values, takes_values, takes_behind_jar}
 
 pub not-none : {A : Type 0} (x : A) → Some x ≡ None → ⊥
 not-none x e = none-some x (sym e)
@@ -39,3 +40,16 @@ values-are (a ∷ []) t e = (omega arith, same_Some _ t e)
 values-are (a ∷ b ∷ []) t e = (omega arith, same_Some _ t e)
 values-are (a ∷ b ∷ c ∷ []) t e = (omega arith, same_Some _ t e)
 values-are (a ∷ b ∷ c ∷ d ∷ more) t e = absurd (none-some t e)
+
+-- the same behind the jar's text
+pub behind-are : (kinds : List Kind) (t : List Slot) → takes_behind_jar kinds ≡ Some t → (written : List Kind) × (kinds ≡ kind.String ∷ written) × (length written ≤ 3) × (values 3 written ≡ t)
+behind-are (kind.String ∷ []) t e = ([], refl, omega arith, same_Some _ t e)
+behind-are (kind.String ∷ a ∷ []) t e = (a ∷ [], refl, omega arith, same_Some _ t e)
+behind-are (kind.String ∷ a ∷ b ∷ []) t e = (a ∷ b ∷ [], refl, omega arith, same_Some _ t e)
+behind-are (kind.String ∷ a ∷ b ∷ c ∷ more) t e = absurd (none-some t e)
+behind-are (kind.Int ∷ more) t e = absurd (none-some t e)
+behind-are (kind.Duration ∷ more) t e = absurd (none-some t e)
+behind-are (kind.Bool ∷ more) t e = absurd (none-some t e)
+behind-are (kind.Ip ∷ more) t e = absurd (none-some t e)
+behind-are (kind.Backend ∷ more) t e = absurd (none-some t e)
+behind-are [] t e = absurd (none-some t e)

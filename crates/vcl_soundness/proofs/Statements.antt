@@ -41,6 +41,8 @@ use Rattle.vcl_check.specs.Known.{meaning_of, of_variable, of_word}
 use Rattle.vcl_check.specs.Roles.{Name, Value, Arguments, Block, Statement, Branch, Assignment, Object, Answer, Unread}
 use Rattle.vcl_check.specs.Rules.{is_known, may_use, is_reached, is_for_init, may_be_used, may_stand, is_new, may_stand_in, misplaced, ill_set, ill_appended, ill_function, ill_answer, is_one, is_nowhere, answer_takes, other_scope, unwritten_call}
 use Rattle.vcl_check.specs.Views.{argument_of, view_of}
+use Rattle.vmod_host.specs.declared.signature.JarUse.TheVariants as jar
+use Rattle.vcl_context.specs.declared.variable.Variable.TheVariants.{Jar}
 use Rattle.vcl_code.specs.declared.callees.Builtin.TheVariants as builtin
 use Rattle.vcl_code.specs.declared.names.Callee.{Callee}
 use Rattle.vcl_code.specs.declared.names.Callee.TheVariants as callee
@@ -56,7 +58,7 @@ use Rattle.vcl_operands.specs.Meaning.{Operand, Scene, value_of, operands_of}
 use Rattle.vcl_operands.specs.Meaning.{called as call_value}
 use Rattle.vcl_eval.specs.States.{State, Doing, in_state, nothing, set_on, set_due, counted, banned, most_statements}
 use Rattle.vcl_eval.specs.Statements.{set_to, field_to, append_to, append_field, key_given, body_given}
-use Rattle.vcl_meaning.specs.Meaning.{Text, scene_in, then_with, with_value, with_only, set_target, append_target, unset_target, call_on, returned, performed, either_by, statement_of, branches_of, branch_of, block_of}
+use Rattle.vcl_meaning.specs.Meaning.{Text, scene_in, then_with, with_value, with_only, set_target, append_target, unset_target, call_on, returned, jar_changed, performed, either_by, statement_of, branches_of, branch_of, block_of}
 use Rattle.vcl_soundness.proofs.Rows.{false-true, both-true, IsField, field-unset}
 use Rattle.vcl_soundness.proofs.Calls.{known-variable, known-subroutine}
 use Rattle.vcl_soundness.proofs.NoFault.{unless-none, or-none}
@@ -67,7 +69,7 @@ use Rattle.vcl_soundness.proofs.Values.{truth-has}
 use Rattle.vcl_soundness.proofs.Tables.{TargetOf, target-is, is-set, is-set-too}
 use Rattle.vcl_soundness.proofs.Names.{Stands, function-does}
 use Rattle.vcl_soundness.proofs.Typed.{AllGiven, CallWorth, Typed}
-use Rattle.vcl_soundness.proofs.Expressions.{all-contained, Performs, Gives, Fine, AreFine, none, more, are-four, valued, conditional, accepted, Call, does, yields, enrols, calls, expression-fine, arguments-fine}
+use Rattle.vcl_soundness.proofs.Expressions.{all-contained, Performs, Gives, Fine, AreFine, none, more, are-four, valued, conditional, accepted, Call, does, yields, changes, enrols, calls, expression-fine, arguments-fine}
 use Rattle.vcl_soundness.proofs.Changes.{variable-set, variable-appended, field-set, field-appended}
 use Rattle.vcl_soundness.proofs.Words.{takes_of, is_untimed, IsWord, word-found, TakesOne, TakesTwo, StandsAlone, returned-alone, returned-one, returned-two}
 
@@ -151,7 +153,7 @@ performs-goes scene wanted (callee.Builtin builtin.Synthetic) p second xs h s = 
 performs-goes scene wanted (callee.Builtin builtin.Ban) p second xs h s = only-goes wanted xs h banned banned-goes s
 performs-goes scene wanted (callee.Builtin (builtin.Substitute all)) p second xs h s = absurd p
 performs-goes scene wanted (callee.Builtin (builtin.Xkey soft)) p second xs h s = absurd p
-performs-goes scene wanted (callee.Stored k) p second xs h s = absurd p
+performs-goes scene wanted (callee.Stored k u) p second xs h s = absurd p
 performs-goes scene wanted (callee.Director k) p second xs h s = absurd p
 performs-goes scene wanted callee.Absent p second xs h s = absurd p
 
@@ -159,10 +161,18 @@ module _ (scene : Scene) (k : Kind) (second : Option (List ℕ)) (xs : List Oper
   forgotten : (c : Callee) → CallWorth scene k c second xs → Goes (then_with (call_value scene c second xs) (λ v. nothing))
   forgotten c h s = then-goes (IsOf k) (call_value scene c second xs) (λ v. nothing) s (h s.answers) (λ v p. nothing-goes)
 
+  -- the jar takes a value of any type
+  changes-goes : (i : ℕ) → CallWorth scene k (callee.Stored i jar.Changes) second xs → Goes (performed scene (callee.Stored i jar.Changes) second xs)
+  changes-goes i h s =
+      then-goes (IsOf k) (call_value scene (callee.Stored i jar.Changes) second xs) jar_changed s (h s.answers)
+      (λ v p z. due-goes (set_to Jar v z.context) (variable-set Jar refl k refl v p z.context) z)
+
   gives-goes : (c : Callee) → Gives c → CallWorth scene k c second xs → Goes (performed scene c second xs)
   gives-goes (callee.Builtin (builtin.Substitute all)) g h s = forgotten (callee.Builtin (builtin.Substitute all)) h s
   gives-goes (callee.Builtin (builtin.Xkey soft)) g h s = forgotten (callee.Builtin (builtin.Xkey soft)) h s
-  gives-goes (callee.Stored i) g h s = forgotten (callee.Stored i) h s
+  gives-goes (callee.Stored i jar.None) g h s = forgotten (callee.Stored i jar.None) h s
+  gives-goes (callee.Stored i jar.Asks) g h s = forgotten (callee.Stored i jar.Asks) h s
+  gives-goes (callee.Stored i jar.Changes) g h s = absurd g
   gives-goes (callee.Director i) g h s = forgotten (callee.Director i) h s
   gives-goes callee.Absent g h s = forgotten callee.Absent h s
   gives-goes (callee.Builtin builtin.HashData) g h s = absurd g
@@ -413,6 +423,9 @@ module _ (t : Text) (stands : (c : Context) → Stands t.known (scene_in t c)) (
   performed-goes s f name l h (yields k x e p n g) =
       let scene = scene_in t s.context in
       subst (λ (y : Callee). PerformedGoes y l s) (sym e) (gives-goes scene k (second_string l) (operands_of t.known scene l) x p g s)
+  performed-goes s f name l h (changes k i e n g) =
+      let scene = scene_in t s.context in
+      subst (λ (y : Callee). PerformedGoes y l s) (sym e) (changes-goes scene k (second_string l) (operands_of t.known scene l) i g s)
   performed-goes s f name l h (enrols way same) = absurd (false-true (sym traffic ∙ subst (λ (x : Function). has x.scope root ≡ true) same h))
 
   run-goes : (place : ℕ) (name : List ℕ) {l : Phrase} → AreFines l → Clean t.known roots Statement (Node Called (Named place name) l) → StatementGoes (Node Called (Named place name) l)

@@ -306,6 +306,7 @@ reads-as d (variable.FetchRequest v) c = fetch-reads d v c.fetch_request
 reads-as d (variable.FetchResponse v) c = fetched-reads v c.fetch_response
 reads-as d (variable.Response v) c = response-reads v c.response
 reads-as d variable.Body c = refl
+reads-as d variable.Jar c = refl
 
 -- what is read somewhere is no body
 pub not-body : (v : Row) (w : Variable) (s : Subroutine) → IsRow v w → has v.read s ≡ true → is_body w ≡ false

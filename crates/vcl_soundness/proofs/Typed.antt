@@ -14,6 +14,7 @@ use Rattle.vcl_values.specs.Operators.{text_value, sum_of, difference_of}
 use Rattle.vcl_tree.specs.Phrase.{Phrase, Node, Named, String, Integer, Duration, Either, Both, Not, Group, Compared, Added, Subtracted, Called}
 use Rattle.vcl_tree.specs.declared.expression.Comparison.TheVariants as asked
 use Rattle.vmod_host.specs.Meanings.{IsMeaning}
+use Rattle.vmod_host.specs.declared.signature.JarUse.{JarUse}
 use Rattle.vmod_host.specs.declared.signature.Stored.{Stored}
 use Rattle.vcl_check.specs.declared.seen.Sort.TheVariants as sort
 use Rattle.vcl_check.specs.Kinds.{is_condition, is_ordered, same_kind, adds, sum_kind, difference_kind, accepts}
@@ -27,7 +28,7 @@ use Rattle.vcl_program.specs.declared.code.Director.{Director}
 use Rattle.vcl_context.specs.declared.turn.Answer.{Answer}
 use Rattle.vcl_context.specs.declared.turn.Command.TheVariants.{Xkey}
 use Rattle.vcl_operands.specs.Outs.{On, Stuck, and_then, known_on, made_on, ask, number_of}
-use Rattle.vcl_operands.specs.Meaning.{Scene, Operand, named_value, purged, values_of, all_values, called, decides, sought_in, matched_in, value_of, operands_of}
+use Rattle.vcl_operands.specs.Meaning.{Scene, Operand, named_value, purged, values_of, all_values, with_jar, called, decides, sought_in, matched_in, value_of, operands_of}
 use Rattle.vcl_operands.specs.Values.{ok_of, as_text, opposite, matched, sought, ordered, summed, lessened, substituted, director_value, director_at, asked_with, asked, fitted, joined, all_fitted, meant, answered, applied}
 use Rattle.vcl_soundness.proofs.Rows.{false-true}
 use Rattle.vcl_soundness.proofs.Names.{AclNamed, ReadIs}
@@ -122,10 +123,11 @@ module _ (scene : Scene) where
   abbrev pub CallWorth : Kind → Callee → Option (List ℕ) → List Operand → Type 0
   CallWorth k c second xs = (s : List Answer) → Holds (IsOf k) (called scene c second xs s)
 
-  pub stored-worth : (k : ℕ) (entry : Stored) → slice_get scene.stored k ≡ Some entry → Meant entry → length entry.signature.takes ≤ 3 → (second : Option (List ℕ)) (xs : List Operand)
-      → AllGiven entry.signature.takes xs → CallWorth entry.signature.gives (callee.Stored k) second xs
-  stored-worth k entry e means low second xs h s =
-      bind-holds (AllTaken entry.signature.takes) (IsOf entry.signature.gives) (all_values xs s) (λ values. made_on (applied scene.stored k values)) (all-values-hold entry.signature.takes xs low h s)
+  pub stored-worth : (k : ℕ) (entry : Stored) → slice_get scene.stored k ≡ Some entry → Meant entry → length entry.signature.takes ≤ 3 → (u : JarUse) (second : Option (List ℕ)) (xs : List Operand)
+      → AllGiven entry.signature.takes (with_jar scene u xs) → CallWorth entry.signature.gives (callee.Stored k u) second xs
+  stored-worth k entry e means low u second xs h s =
+      let all = with_jar scene u xs in
+      bind-holds (AllTaken entry.signature.takes) (IsOf entry.signature.gives) (all_values all s) (λ values. made_on (applied scene.stored k values)) (all-values-hold entry.signature.takes all low h s)
       (λ vs p s. made-holds (IsOf entry.signature.gives) (applied scene.stored k vs) (applied-makes (slice_get scene.stored k) entry e means vs p) s)
 
   purged-holds : (soft : Bool) (v : Value) (s : List Answer) → Holds (IsOf kind.Int) (purged soft v s)

@@ -23,12 +23,13 @@ pub fn backends_are_there(program: &Compiled)
     ensures members { All (λ member. member.backend < length program.now.code.backends) program.now.code.members }
 {}
 
-/// `set` of a variable to a value of its type is refused for what a head's line can't carry, and for nothing else.
+/// `set` of a variable to a value of its type is refused for what a head's line can't carry or for a jar's text over the limit, and for
+/// nothing else.
 pub fn refused_alone()
     ensures { RefusedAlone }
 {}
 
-/// The functions of the module `std` are as these laws ask it of stored functions.
+/// The functions of the modules `std` and `cookie` are as these laws ask it of stored functions.
 pub fn standard_are_meant()
     ensures { StandardAreMeant }
 {}

@@ -3,7 +3,9 @@
 //! The program prints the rows that go otherwise, and how many rows there are.
 #![tactic(auto)]
 
-ghost use Rattle.std.specs.Prelude.{IsErr};
+ghost use Rattle.std.specs.Prelude.{◌≡◌, ◌∷◌, [], map, IfOk, IsErr};
+ghost use Rattle.vcl_values.specs.Values.{kind_of};
+ghost use Rattle.vmod_host.specs.Meanings.{IsMeaning};
 
 mod expressions;
 mod faults;
@@ -18,8 +20,8 @@ use std::alloc::{AllocError, Global};
 use std::io;
 use vcl_values::{Kind, Value};
 use vmod_host::{
-    INTEGER, STRLEN, Signature, TOLOWER, TOUPPER, Vmod, VmodTable, integer, strlen, tolower,
-    toupper,
+    INTEGER, JarUse, STRLEN, Signature, TOLOWER, TOUPPER, Vmod, VmodTable, integer, strlen,
+    tolower, toupper,
 };
 
 // The functions of `std`, and behind them those that are never called, whose signatures alone rows read.
@@ -31,26 +33,26 @@ fn main(rt: HostRuntime) -> io::Result<()> {
     list.push(Vmod {
         tag: TOLOWER,
         signature,
-        call: tolower,
+        call: small_of,
     })?;
     let signature = Signature::of(alloc, b"std", b"toupper", &text, Kind::String)?;
     list.push(Vmod {
         tag: TOUPPER,
         signature,
-        call: toupper,
+        call: capital_of,
     })?;
     let number = [Kind::String, Kind::Int];
     let signature = Signature::of(alloc, b"std", b"integer", &number, Kind::Int)?;
     list.push(Vmod {
         tag: INTEGER,
         signature,
-        call: integer,
+        call: number_of,
     })?;
     let signature = Signature::of(alloc, b"std", b"strlen", &text, Kind::Int)?;
     list.push(Vmod {
         tag: STRLEN,
         signature,
-        call: strlen,
+        call: length_of,
     })?;
     let mut tag: u32 = 99;
     for signature in uncalled(alloc)? {
@@ -81,6 +83,7 @@ fn uncalled(alloc: Global) -> Result<Vec<Signature>, AllocError> {
     let text = [Kind::String, Kind::String];
     push_function(alloc, &mut list, b"n", b"add_backend", &text, Kind::Int)?;
     push_unreached(alloc, &mut list)?;
+    push_cookies(alloc, &mut list)?;
     Ok(list)
 }
 
@@ -92,6 +95,41 @@ fn push_unreached(alloc: Global, list: &mut Vec<Signature>) -> Result<(), AllocE
     push_function(alloc, list, b"directors", b"backend", &text, Kind::Int)?;
     let four = [Kind::String, Kind::String, Kind::String, Kind::String];
     push_function(alloc, list, b"std", b"four", &four, Kind::Int)
+}
+
+// The functions of the module `cookie`, and one that is passed four arguments with the jar's text.
+fn push_cookies(alloc: Global, list: &mut Vec<Signature>) -> Result<(), AllocError> {
+    let texts = [Kind::String, Kind::String, Kind::String];
+    let changes = JarUse::Changes;
+    for name in ["parse", "delete", "keep", "filter"] {
+        push_cookie(alloc, list, changes, name, &texts[..1], Kind::String)?;
+    }
+    push_cookie(alloc, list, changes, "set", &texts[..2], Kind::String)?;
+    push_cookie(alloc, list, changes, "clean", &texts[..0], Kind::String)?;
+    push_cookie(alloc, list, JarUse::Asks, "get", &texts[..1], Kind::String)?;
+    push_cookie(alloc, list, JarUse::Asks, "isset", &texts[..1], Kind::Bool)?;
+    push_cookie(
+        alloc,
+        list,
+        JarUse::Asks,
+        "get_string",
+        &texts[..0],
+        Kind::String,
+    )?;
+    push_cookie(alloc, list, JarUse::Asks, "three", &texts, Kind::String)
+}
+
+fn push_cookie(
+    alloc: Global,
+    list: &mut Vec<Signature>,
+    jar: JarUse,
+    name: &str,
+    takes: &[Kind],
+    gives: Kind,
+) -> Result<(), AllocError> {
+    let signature = Signature::with_jar(alloc, jar, b"cookie", name.as_bytes(), takes, gives)?;
+    list.push(signature)?;
+    Ok(())
 }
 
 fn push_function(
@@ -114,7 +152,35 @@ fn with_list(rt: &HostRuntime, list: Vec<Vmod>) -> io::Result<()> {
     }
 }
 
-fn no_answer(_alloc: Global, _arguments: &[Value]) -> Result<Value, AllocError>
+fn small_of(_tag: u32, alloc: Global, arguments: &[Value]) -> Result<Value, AllocError>
+    requires { map kind_of arguments.now ≡ Kind.String ∷ [] }
+    ensures { IfOk result (IsMeaning TOLOWER Kind.String arguments.now) }
+{
+    tolower(alloc, arguments)
+}
+
+fn capital_of(_tag: u32, alloc: Global, arguments: &[Value]) -> Result<Value, AllocError>
+    requires { map kind_of arguments.now ≡ Kind.String ∷ [] }
+    ensures { IfOk result (IsMeaning TOUPPER Kind.String arguments.now) }
+{
+    toupper(alloc, arguments)
+}
+
+fn number_of(_tag: u32, alloc: Global, arguments: &[Value]) -> Result<Value, AllocError>
+    requires { map kind_of arguments.now ≡ Kind.String ∷ Kind.Int ∷ [] }
+    ensures { IfOk result (IsMeaning INTEGER Kind.Int arguments.now) }
+{
+    integer(alloc, arguments)
+}
+
+fn length_of(_tag: u32, alloc: Global, arguments: &[Value]) -> Result<Value, AllocError>
+    requires { map kind_of arguments.now ≡ Kind.String ∷ [] }
+    ensures { IfOk result (IsMeaning STRLEN Kind.Int arguments.now) }
+{
+    strlen(alloc, arguments)
+}
+
+fn no_answer(_tag: u32, _alloc: Global, _arguments: &[Value]) -> Result<Value, AllocError>
     ensures { IsErr result }
 {
     Err(AllocError)

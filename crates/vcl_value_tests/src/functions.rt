@@ -1,6 +1,7 @@
 // Stored functions and tables of them.
-ghost use Rattle.std.specs.Prelude.{◌≡◌, map};
+ghost use Rattle.std.specs.Prelude.{◌≡◌, ◌∷◌, [], map, IfOk};
 ghost use Rattle.vcl_values.specs.Values.{kind_of};
+ghost use Rattle.vmod_host.specs.Meanings.{IsMeaning};
 
 use crate::samples::text_of;
 use crate::values::shown;
@@ -47,7 +48,7 @@ pub fn copies_shown(alloc: Global, row: &str) -> Result<String, AllocError> {
     let vmod = Vmod {
         tag: TOUPPER,
         signature,
-        call: toupper,
+        call: capital_of,
     };
     copy_shown(alloc, &vmod, &[Value::String(text)])
 }
@@ -89,17 +90,17 @@ pub fn table_shown(alloc: Global) -> Result<String, AllocError> {
         Vmod {
             tag: STRLEN,
             signature: first,
-            call: strlen,
+            call: length_of,
         },
         Vmod {
             tag: TOLOWER,
             signature: second,
-            call: tolower,
+            call: small_of,
         },
         Vmod {
             tag: STRLEN,
             signature: last,
-            call: strlen,
+            call: length_of,
         },
     ];
     match VmodTable::of(alloc, Vec::from_array(alloc, list)?) {
@@ -107,4 +108,25 @@ pub fn table_shown(alloc: Global) -> Result<String, AllocError> {
         Err(TableError::NoMemory) => Err(AllocError),
         Ok(_) => format!(in alloc; "a table"),
     }
+}
+
+fn capital_of(_tag: u32, alloc: Global, arguments: &[Value]) -> Result<Value, AllocError>
+    requires { map kind_of arguments.now ≡ Kind.String ∷ [] }
+    ensures { IfOk result (IsMeaning TOUPPER Kind.String arguments.now) }
+{
+    toupper(alloc, arguments)
+}
+
+fn small_of(_tag: u32, alloc: Global, arguments: &[Value]) -> Result<Value, AllocError>
+    requires { map kind_of arguments.now ≡ Kind.String ∷ [] }
+    ensures { IfOk result (IsMeaning TOLOWER Kind.String arguments.now) }
+{
+    tolower(alloc, arguments)
+}
+
+fn length_of(_tag: u32, alloc: Global, arguments: &[Value]) -> Result<Value, AllocError>
+    requires { map kind_of arguments.now ≡ Kind.String ∷ [] }
+    ensures { IfOk result (IsMeaning STRLEN Kind.Int arguments.now) }
+{
+    strlen(alloc, arguments)
 }

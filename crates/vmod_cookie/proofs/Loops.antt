@@ -9,7 +9,7 @@ use Rattle.std.proofs.lemmas.List.Sums.{fold_push}
 use Rattle.std.proofs.lemmas.List.Folds.{list_any-append}
 use denote.Ref.{Bor}
 use Rattle.units.specs.Blanks.{trimmed}
-use Rattle.vmod_cookie.specs.Jar.{Cookies, with_part, is_among}
+use Rattle.vmod_host.specs.Jar.{Cookies, with_part, is_among}
 
 or_false : (b : Bool) → (b || false) ≡ b
 or_false true = refl

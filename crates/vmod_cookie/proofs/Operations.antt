@@ -5,9 +5,9 @@ use Rattle.std.specs.List.{AllByRecursion}
 use Rattle.std.specs.Str.{byte}
 use Rattle.std.proofs.lemmas.List.Elements.{recursion_from_All}
 use Rattle.vcl_values.specs.declared.value.Value.TheVariants as value
-use Rattle.vmod_cookie.specs.Jar.{Cookies, with_cookie, without_name, without, only, parts_at, field_of, value_in}
-use Rattle.vmod_cookie.specs.Written.{written, jar_of}
-use Rattle.vmod_cookie.specs.Meanings.{jar_meaning, text_value}
+use Rattle.vmod_host.specs.Jar.{Cookies, with_cookie, without_name, without, only, parts_at, field_of, value_in}
+use Rattle.vmod_host.specs.JarText.{written, jar_of}
+use Rattle.vmod_host.specs.JarMeanings.{jar_meaning, text_value}
 use Rattle.vmod_cookie.specs.Operations.{Operation, Parse, Set, Delete, Keep, Filter, Clean, after, jar_after, tag_of, arguments_of, Leaves, HasBytes, Answers}
 use Rattle.vmod_cookie.proofs.ReadingBack.{IsGood, jar_back, good_none, good_set, good_filter, good_parsed}
 

@@ -6,7 +6,7 @@ use Rattle.std.specs.Str.{bytes_eq}
 use Rattle.std.specs.Cmp.Lexicographic.{nat_list_eq_equiv}
 use Rattle.indexmap.specs.IndexMap.{insert_entry, insert_all}
 use Rattle.indexmap.proofs.MapLemmas.{insert_entry-absent}
-use Rattle.vmod_cookie.specs.Jar.{Cookies}
+use Rattle.vmod_host.specs.Jar.{Cookies}
 
 abbrev pub AreOwn : Cookies → Type 0
 AreOwn jar = IsDistinct bytes_eq (keys_of jar)

@@ -8,8 +8,8 @@ use Rattle.std.proofs.lemmas.Bool.Decides.{eqb_tells}
 use Rattle.indexmap.specs.IndexMap.{insert_entry, insert_all}
 use Rattle.units.specs.Quoted.{ReadsPieces, IsQuoted, IsQuotedAt, piece}
 use Rattle.units.proofs.Pieces.{piece_ends, quoted_at}
-use Rattle.vmod_cookie.specs.Jar.{Cookies}
-use Rattle.vmod_cookie.specs.Written.{behind_quote, body_of, quoted_in, cookie_in, cookies_in}
+use Rattle.vmod_host.specs.Jar.{Cookies}
+use Rattle.vmod_host.specs.JarText.{behind_quote, body_of, quoted_in, cookie_in, cookies_in}
 
 pieces_long : (values body rest : List ℕ) → ReadsPieces values body rest → length values + length rest ≤ length body
 pieces_long [] body rest h = omega (arith, ap length h)

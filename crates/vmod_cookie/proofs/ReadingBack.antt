@@ -14,8 +14,8 @@ use Rattle.indexmap.specs.IndexMap.{insert_entry, insert_all}
 use Rattle.units.specs.Blanks.{trimmed, after_blanks, is_blank}
 use Rattle.units.specs.Quoted.{quote_of}
 use Rattle.units.proofs.Pieces.{quote_back}
-use Rattle.vmod_cookie.specs.Jar.{Cookies, with_cookie, with_part, parts_at, parsed, is_equals}
-use Rattle.vmod_cookie.specs.Written.{written, checked, jar_of, quoted_in, cookie_in, cookies_in}
+use Rattle.vmod_host.specs.Jar.{Cookies, with_cookie, with_part, parts_at, parsed, is_equals}
+use Rattle.vmod_host.specs.JarText.{written, checked, jar_of, quoted_in, cookie_in, cookies_in}
 use Rattle.vmod_cookie.specs.Operations.{IsBytes}
 use Rattle.vmod_cookie.proofs.Reading.{quoted_read}
 use Rattle.vmod_cookie.proofs.OwnNames.{AreOwn, own_insert, own_none, all_again}

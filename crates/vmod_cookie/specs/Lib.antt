@@ -1,4 +1,1 @@
-pub mod Jar
-pub mod Written
-pub mod Meanings
 pub mod Operations

@@ -3,9 +3,9 @@ use Rattle.std.specs.Prelude.{ℕ, ◌≡◌, ◌<◌, List, [], ◌∷◌, fold
 use Rattle.std.specs.Str.{byte}
 use Rattle.vcl_values.specs.declared.value.Value.{Value}
 use Rattle.vcl_values.specs.declared.value.Value.TheVariants as value
-use Rattle.vmod_cookie.specs.declared.TheConstants.{PARSE, SET, GET, ISSET, DELETE, KEEP, FILTER, CLEAN, GET_STRING}
-use Rattle.vmod_cookie.specs.Jar.{Cookies, parsed, with_cookie, value_in, without_name, without, only, parts_at, field_of}
-use Rattle.vmod_cookie.specs.Meanings.{jar_meaning, text_value}
+use Rattle.vmod_host.specs.declared.TheConstants.{PARSE, SET, GET, ISSET, DELETE, KEEP, FILTER, CLEAN, GET_STRING}
+use Rattle.vmod_host.specs.Jar.{Cookies, parsed, with_cookie, value_in, without_name, without, only, parts_at, field_of}
+use Rattle.vmod_host.specs.JarMeanings.{jar_meaning, text_value}
 
 -- an operation that changes the jar, with its texts
 pub data Operation : Type 0 where

@@ -1,18 +1,19 @@
 // Functions that ask a jar.
 ghost use Rattle.std.specs.Prelude.{◌≡◌, ◌∷◌, [], is_some, map, IfOk, Some};
 ghost use Rattle.vcl_values.specs.Values.{kind_of, text_of};
-ghost use Rattle.vmod_cookie.specs.Jar.{value_in};
-ghost use Rattle.vmod_cookie.specs.Written.{jar_of};
-ghost use Rattle.vmod_cookie.specs.Meanings.{IsJarMeaning};
+ghost use Rattle.vmod_host.specs.Jar.{value_in};
+ghost use Rattle.vmod_host.specs.JarText.{jar_of};
+ghost use Rattle.vmod_host.specs.Meanings.{IsMeaning};
 
-use crate::{GET, GET_STRING, ISSET, Jar};
+use crate::Jar;
 use std::alloc::{AllocError, Global};
 use vcl_values::{Kind, Value};
+use vmod_host::{GET, GET_STRING, ISSET};
 
 /// `cookie.get(STRING)`: the value of the cookie of this name, or the absent text.
 pub fn get(alloc: Global, arguments: &[Value]) -> Result<Value, AllocError>
     requires { map kind_of arguments.now ≡ Kind.String ∷ Kind.String ∷ [] }
-    ensures { IfOk result (IsJarMeaning GET Kind.String arguments.now) }
+    ensures { IfOk result (IsMeaning GET Kind.String arguments.now) }
 {
     let [jar, name] = arguments else {
         unreachable!()
@@ -27,7 +28,7 @@ pub fn get(alloc: Global, arguments: &[Value]) -> Result<Value, AllocError>
 /// `cookie.isset(STRING)`: whether a cookie of this name is there.
 pub fn isset(alloc: Global, arguments: &[Value]) -> Result<Value, AllocError>
     requires { map kind_of arguments.now ≡ Kind.String ∷ Kind.String ∷ [] }
-    ensures { IfOk result (IsJarMeaning ISSET Kind.Bool arguments.now) }
+    ensures { IfOk result (IsMeaning ISSET Kind.Bool arguments.now) }
 {
     let [jar, name] = arguments else {
         unreachable!()
@@ -47,7 +48,7 @@ fn is_there(alloc: Global, jar: &Value, name: &Value) -> Result<bool, AllocError
 /// `cookie.get_string()`: the jar as a Cookie field has it.
 pub fn get_string(alloc: Global, arguments: &[Value]) -> Result<Value, AllocError>
     requires { map kind_of arguments.now ≡ Kind.String ∷ [] }
-    ensures { IfOk result (IsJarMeaning GET_STRING Kind.String arguments.now) }
+    ensures { IfOk result (IsMeaning GET_STRING Kind.String arguments.now) }
 {
     let [jar] = arguments else { unreachable!() };
     let field = jar_of(alloc, jar)?.field(alloc)?;

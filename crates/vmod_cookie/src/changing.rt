@@ -3,21 +3,23 @@ ghost use Rattle.std.specs.Prelude.{◌≡◌, ◌∷◌, [], List, ℕ, map, If
 ghost use Rattle.std.specs.Str.{byte, bytes_eq};
 ghost use Rattle.indexmap.specs.IndexSet.{contains};
 ghost use Rattle.vcl_values.specs.Values.{kind_of, text_of};
-ghost use Rattle.vmod_cookie.specs.Jar.{is_among, only, parts_at, with_cookie, without, without_name};
-ghost use Rattle.vmod_cookie.specs.Written.{jar_of};
-ghost use Rattle.vmod_cookie.specs.Meanings.{IsJarMeaning, jar_value};
+ghost use Rattle.vmod_host.specs.Jar.{is_among, only, parts_at, with_cookie, without, without_name};
+ghost use Rattle.vmod_host.specs.JarText.{jar_of};
+ghost use Rattle.vmod_host.specs.JarMeanings.{jar_value};
+ghost use Rattle.vmod_host.specs.Meanings.{IsMeaning};
 
+use crate::Jar;
 use crate::asking::jar_of;
-use crate::{CLEAN, DELETE, FILTER, Jar, KEEP, PARSE, SET};
 use indexmap::IndexSet;
 use std::alloc::{AllocError, Global};
 use units::{Text, trim_blanks};
 use vcl_values::{Kind, Value};
+use vmod_host::{CLEAN, DELETE, FILTER, KEEP, PARSE, SET};
 
 /// `cookie.parse(STRING)`: the jar of a Cookie field.
 pub fn parse(alloc: Global, arguments: &[Value]) -> Result<Value, AllocError>
     requires { map kind_of arguments.now ≡ Kind.String ∷ Kind.String ∷ [] }
-    ensures { IfOk result (IsJarMeaning PARSE Kind.String arguments.now) }
+    ensures { IfOk result (IsMeaning PARSE Kind.String arguments.now) }
 {
     let [_, text] = arguments else { unreachable!() };
     let jar = Jar::parse(alloc, text.text(alloc)?.bytes())?;
@@ -27,7 +29,7 @@ pub fn parse(alloc: Global, arguments: &[Value]) -> Result<Value, AllocError>
 /// `cookie.set(STRING, STRING)`: the jar with this value for this name.
 pub fn set(alloc: Global, arguments: &[Value]) -> Result<Value, AllocError>
     requires { map kind_of arguments.now ≡ Kind.String ∷ Kind.String ∷ Kind.String ∷ [] }
-    ensures { IfOk result (IsJarMeaning SET Kind.String arguments.now) }
+    ensures { IfOk result (IsMeaning SET Kind.String arguments.now) }
 {
     let [jar, name, value] = arguments else {
         unreachable!()
@@ -38,7 +40,7 @@ pub fn set(alloc: Global, arguments: &[Value]) -> Result<Value, AllocError>
 /// `cookie.delete(STRING)`: the jar without this name.
 pub fn delete(alloc: Global, arguments: &[Value]) -> Result<Value, AllocError>
     requires { map kind_of arguments.now ≡ Kind.String ∷ Kind.String ∷ [] }
-    ensures { IfOk result (IsJarMeaning DELETE Kind.String arguments.now) }
+    ensures { IfOk result (IsMeaning DELETE Kind.String arguments.now) }
 {
     let [jar, name] = arguments else {
         unreachable!()
@@ -50,7 +52,7 @@ pub fn delete(alloc: Global, arguments: &[Value]) -> Result<Value, AllocError>
 /// `cookie.keep(STRING)`: the jar with the names of a list alone.
 pub fn keep(alloc: Global, arguments: &[Value]) -> Result<Value, AllocError>
     requires { map kind_of arguments.now ≡ Kind.String ∷ Kind.String ∷ [] }
-    ensures { IfOk result (IsJarMeaning KEEP Kind.String arguments.now) }
+    ensures { IfOk result (IsMeaning KEEP Kind.String arguments.now) }
 {
     let [jar, list] = arguments else {
         unreachable!()
@@ -62,7 +64,7 @@ pub fn keep(alloc: Global, arguments: &[Value]) -> Result<Value, AllocError>
 /// `cookie.filter(STRING)`: the jar without the names of a list.
 pub fn filter(alloc: Global, arguments: &[Value]) -> Result<Value, AllocError>
     requires { map kind_of arguments.now ≡ Kind.String ∷ Kind.String ∷ [] }
-    ensures { IfOk result (IsJarMeaning FILTER Kind.String arguments.now) }
+    ensures { IfOk result (IsMeaning FILTER Kind.String arguments.now) }
 {
     let [jar, list] = arguments else {
         unreachable!()
@@ -74,7 +76,7 @@ pub fn filter(alloc: Global, arguments: &[Value]) -> Result<Value, AllocError>
 /// `cookie.clean()`: the empty jar.
 pub fn clean(alloc: Global, arguments: &[Value]) -> Result<Value, AllocError>
     requires { map kind_of arguments.now ≡ Kind.String ∷ [] }
-    ensures { IfOk result (IsJarMeaning CLEAN Kind.String arguments.now) }
+    ensures { IfOk result (IsMeaning CLEAN Kind.String arguments.now) }
 {
     jar_value(alloc, &Jar::new(alloc))
 }

@@ -3,7 +3,7 @@ ghost use Rattle.std.specs.Prelude.{◌≡◌, ◌<◌, ◌∷◌, ◌++◌, [],
 ghost use Rattle.std.specs.Str.{bytes_eq, byte};
 ghost use Rattle.indexmap.specs.IndexMap.{insert_entry};
 ghost use Rattle.indexmap.specs.IndexSet.{contains};
-ghost use Rattle.vmod_cookie.specs.Jar.{field_of, is_equals as equals, parsed, value_in, with_cookie, with_part, without_name};
+ghost use Rattle.vmod_host.specs.Jar.{field_of, is_equals as equals, parsed, value_in, with_cookie, with_part, without_name};
 
 use indexmap::{IndexMap, IndexSet};
 use std::alloc::{AllocError, Global};
@@ -19,7 +19,7 @@ pub struct Jar {
 impl Model for Jar {
     ghost use Rattle.std.specs.Str.{bytes_eq};
     ghost use Rattle.indexmap.specs.IndexMap.{IsUnique};
-    ghost use Rattle.vmod_cookie.specs.Jar.{Cookies};
+    ghost use Rattle.vmod_host.specs.Jar.{Cookies};
 
     ghost Value = { Cookies };
 

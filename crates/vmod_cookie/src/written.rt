@@ -2,7 +2,7 @@
 ghost use Rattle.std.specs.Prelude.{◌≡◌, ◌<◌, ◌≤◌, List, ℕ, [], drop, length, Some, None, IfOk, MatchOption};
 ghost use Rattle.std.specs.Str.{bytes_eq};
 ghost use Rattle.indexmap.specs.IndexMap.{insert_all};
-ghost use Rattle.vmod_cookie.specs.Written.{cookies_in, jar_of, quoted_in, written};
+ghost use Rattle.vmod_host.specs.JarText.{cookies_in, jar_of, quoted_in, written};
 
 use crate::Jar;
 use std::alloc::{AllocError, Global};

@@ -2,8 +2,8 @@
 //!
 //! Contract for the layer above: what each tag means is a table in `specs/`, and a `Vmod` keeps that an answer
 //! of its code on arguments of its signature is the meaning of its tag and of the type that the signature
-//! gives. A `VmodTable` has no tag twice. The four functions of the module `std` stand here; who runs the
-//! program makes a `Vmod` of each, since no library hands out a function.
+//! gives. A `VmodTable` has no tag twice. The four functions of the module `std` stand here; who makes
+//! `Vmod`s is passed their code, since no library hands out a function.
 #![tactic(auto)]
 
 mod integers;
@@ -13,7 +13,7 @@ mod table;
 mod vmod;
 
 pub use integers::integer;
-pub use signature::{Signature, Stored, stored_number};
+pub use signature::{JarUse, Signature, Stored, stored_number};
 pub use strings::{strlen, tolower, toupper};
 pub use table::{TableError, VmodTable};
 pub use vmod::Vmod;
@@ -29,3 +29,30 @@ pub const INTEGER: u32 = 3;
 
 /// The tag of `std.strlen`.
 pub const STRLEN: u32 = 4;
+
+/// The tag of `cookie.parse`.
+pub const PARSE: u32 = 5;
+
+/// The tag of `cookie.set`.
+pub const SET: u32 = 6;
+
+/// The tag of `cookie.get`.
+pub const GET: u32 = 7;
+
+/// The tag of `cookie.isset`.
+pub const ISSET: u32 = 8;
+
+/// The tag of `cookie.delete`.
+pub const DELETE: u32 = 9;
+
+/// The tag of `cookie.keep`.
+pub const KEEP: u32 = 10;
+
+/// The tag of `cookie.filter`.
+pub const FILTER: u32 = 11;
+
+/// The tag of `cookie.clean`.
+pub const CLEAN: u32 = 12;
+
+/// The tag of `cookie.get_string`.
+pub const GET_STRING: u32 = 13;

@@ -7,15 +7,16 @@ use crate::signature::Signature;
 use std::alloc::{AllocError, Global};
 use vcl_values::Value;
 
-/// A stored function: its tag, its signature, and the code that is called with arguments of the signature's
-/// types. It keeps that the code may be called with these, and that what it answers is the meaning of the tag.
+/// A stored function: its tag, its signature, and the code that is called with the tag and with arguments of the
+/// signature's types. It keeps that the code may be called with these, and that what it answers is the meaning of
+/// the tag.
 #[derive(Drop)]
 pub struct Vmod {
     pub tag: u32,
     pub signature: Signature,
-    pub call: fn(Global, &[Value]) -> Result<Value, AllocError>,
-    ghost callable: { (alloc : _) (arguments : _) → map kind_of arguments.now ≡ signature.takes → pre call alloc arguments },
-    ghost keeps: { (alloc : _) (arguments : _) (answer : _) → map kind_of arguments.now ≡ signature.takes → post call alloc arguments (Ok answer) → IsMeaning tag signature.gives arguments.now answer },
+    pub call: fn(u32, Global, &[Value]) -> Result<Value, AllocError>,
+    ghost callable: { (alloc : _) (arguments : _) → map kind_of arguments.now ≡ signature.takes → pre call tag alloc arguments },
+    ghost keeps: { (alloc : _) (arguments : _) (answer : _) → map kind_of arguments.now ≡ signature.takes → post call tag alloc arguments (Ok answer) → IsMeaning tag signature.gives arguments.now answer },
 }
 
 impl Vmod {
@@ -24,7 +25,7 @@ impl Vmod {
         requires { map kind_of arguments.now ≡ self.now.signature.takes }
         ensures { IfOk result (IsMeaning self.now.tag self.now.signature.gives arguments.now) }
     {
-        (self.call)(alloc, arguments)
+        (self.call)(self.tag, alloc, arguments)
     }
 
     /// The same function again; its texts are shared.

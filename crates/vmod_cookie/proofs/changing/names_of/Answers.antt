@@ -5,7 +5,7 @@ use Rattle.std.proofs.lemmas.Iterator.Consumers.{YieldsList-end}
 use Rattle.std.proofs.lemmas.Iterator.Splits.{YieldsList-from_slice_split}
 use Rattle.indexmap.specs.IndexSet.{contains}
 use Rattle.units.specs.Blanks.{trimmed}
-use Rattle.vmod_cookie.specs.Jar.{is_among}
+use Rattle.vmod_host.specs.Jar.{is_among}
 use Rattle.vmod_cookie.proofs.Loops.{among_step}
 use Rattle.vmod_cookie.proofs.changing.names_of.Goals as goal
 

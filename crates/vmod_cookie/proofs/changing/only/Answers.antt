@@ -1,8 +1,8 @@
 use Rattle.std.proofs.Common.{◌≡◌, ap, ◌∙◌, subst, filter}
 use Rattle.std.specs.Prelude.{IfOk}
 use Rattle.std.specs.Str.{byte}
-use Rattle.vmod_cookie.specs.Jar.{only, parts_at}
-use Rattle.vmod_cookie.specs.Meanings.{jar_value}
+use Rattle.vmod_host.specs.Jar.{only, parts_at}
+use Rattle.vmod_host.specs.JarMeanings.{jar_value}
 use Rattle.vmod_cookie.proofs.changing.only.Goals as goal
 
 pub returns : goal.returns

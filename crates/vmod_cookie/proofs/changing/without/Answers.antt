@@ -1,8 +1,8 @@
 use Rattle.std.proofs.Common.{◌≡◌, ap, ◌∙◌, subst, filter, not}
 use Rattle.std.specs.Prelude.{IfOk}
 use Rattle.std.specs.Str.{byte}
-use Rattle.vmod_cookie.specs.Jar.{without, parts_at}
-use Rattle.vmod_cookie.specs.Meanings.{jar_value}
+use Rattle.vmod_host.specs.Jar.{without, parts_at}
+use Rattle.vmod_host.specs.JarMeanings.{jar_value}
 use Rattle.vmod_cookie.proofs.changing.without.Goals as goal
 
 pub returns : goal.returns

@@ -1,7 +1,7 @@
 use Rattle.std.proofs.Common.{◌≡◌, ℕ, ◌<◌, ◌≤◌, List, drop, length}
 use Rattle.std.specs.Prelude.{Option, Some, None, Result, Ok, Err, IfOk, MatchOption}
 use Rattle.units.specs.Quoted.{IsQuotedAt}
-use Rattle.vmod_cookie.specs.Written.{quoted_in}
+use Rattle.vmod_host.specs.JarText.{quoted_in}
 use Rattle.vmod_cookie.proofs.Reading.{found_read, missing_read}
 use Rattle.vmod_cookie.proofs.written.quoted_at.Goals as goal
 

@@ -1,6 +1,6 @@
 use Rattle.std.proofs.Common.{◌≡◌, map}
 use Rattle.std.specs.Map.Iter.{deref_pair}
-use Rattle.vmod_cookie.specs.Jar.{field_of}
+use Rattle.vmod_host.specs.Jar.{field_of}
 use Rattle.vmod_cookie.proofs.jar.Jar.field.Given as goal
 
 abbrev pub invariant-loop-name : goal.invariant-loop-name

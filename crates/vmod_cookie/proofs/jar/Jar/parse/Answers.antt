@@ -4,7 +4,7 @@ use Rattle.std.specs.Slice.Iter as slice
 use Rattle.std.proofs.lemmas.Iterator.Consumers.{YieldsList-end}
 use Rattle.std.proofs.lemmas.Iterator.Splits.{YieldsList-from_slice_split}
 use Rattle.units.specs.Blanks.{trimmed}
-use Rattle.vmod_cookie.specs.Jar.{with_part}
+use Rattle.vmod_host.specs.Jar.{with_part}
 use Rattle.vmod_cookie.proofs.Loops.{part_more}
 use Rattle.vmod_cookie.proofs.jar.Jar.parse.Goals as goal
 

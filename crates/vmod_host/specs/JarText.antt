@@ -6,7 +6,7 @@ use Rattle.std.specs.Str.{bytes_eq}
 use Rattle.indexmap.specs.IndexMap.{insert_all}
 use Rattle.units.specs.Signs.{quote_mark}
 use Rattle.units.specs.Quoted.{piece, quote_of}
-use Rattle.vmod_cookie.specs.Jar.{Cookies}
+use Rattle.vmod_host.specs.Jar.{Cookies}
 
 abbrev pub written : Cookies → List ℕ
 written jar = flat_map (λ cookie. quote_of cookie.0 ++ quote_of cookie.1) jar

@@ -1,14 +1,13 @@
 -- What the functions of the module `cookie` mean, by their tags (Varnish, vmod_cookie). The first argument of each is the
 -- jar, as a text; an absent text counts as the empty one.
-use Rattle.std.specs.Prelude.{ℕ, ◌≡◌, ◌==◌, List, [], ◌∷◌, Option, Some, None, is_some, if◌then◌else◌}
+use Rattle.std.specs.Prelude.{ℕ, ◌==◌, List, [], ◌∷◌, Option, Some, None, is_some, if◌then◌else◌}
 use Rattle.std.specs.Str.{byte}
 use Rattle.vcl_values.specs.declared.value.Value.{Value}
 use Rattle.vcl_values.specs.declared.value.Value.TheVariants as value
-use Rattle.vcl_values.specs.declared.value.Kind.{Kind}
-use Rattle.vcl_values.specs.Values.{kind_of, text_of}
-use Rattle.vmod_cookie.specs.declared.TheConstants.{PARSE, SET, GET, ISSET, DELETE, KEEP, FILTER, CLEAN, GET_STRING}
-use Rattle.vmod_cookie.specs.Jar.{Cookies, parsed, with_cookie, value_in, without_name, without, only, parts_at, field_of}
-use Rattle.vmod_cookie.specs.Written.{written, jar_of}
+use Rattle.vcl_values.specs.Values.{text_of}
+use Rattle.vmod_host.specs.declared.TheConstants.{PARSE, SET, GET, ISSET, DELETE, KEEP, FILTER, CLEAN, GET_STRING}
+use Rattle.vmod_host.specs.Jar.{Cookies, parsed, with_cookie, value_in, without_name, without, only, parts_at, field_of}
+use Rattle.vmod_host.specs.JarText.{written, jar_of}
 
 -- a text as a value, and a jar as one
 abbrev pub text_value : List ℕ → Value
@@ -48,8 +47,3 @@ jar_meaning tag arguments =
     else (if tag == CLEAN then of_jar (λ jar. jar_value []) arguments
     else (if tag == GET_STRING then of_jar (λ jar. text_value (field_of jar)) arguments
     else None))))))))
-
--- the value is the meaning of the tag on these arguments, and of this type
-pub record IsJarMeaning (tag : ℕ) (gives : Kind) (arguments : List Value) (answer : Value) : Type 0 where
-  pub means : jar_meaning tag arguments ≡ Some answer
-  pub kind : kind_of answer ≡ gives
