@@ -8,3 +8,5 @@ pub mod Places
 pub mod Ends
 pub mod Live
 pub mod Subroutines
+pub mod Tokens
+pub mod Restarts

@@ -12,10 +12,17 @@ use Rattle.client_graph.specs.declared.round.Next.{Next}
 use Rattle.client_graph.specs.declared.round.Next.TheVariants.{Enter, Rest}
 use Rattle.client_graph.specs.declared.round.ClientWant.{ClientWant}
 use Rattle.client_graph.specs.declared.round.ClientWant.TheVariants as want
+use Rattle.client_task.specs.Rounds.{Node, Before, Inside, Between}
 
 abbrev pub round_of : Next → Round
 round_of (Enter state context round) = round
 round_of (Rest point round) = round
+
+-- the round that stands at a node
+abbrev pub round_at : Node → Round
+round_at (Before next) = round_of next
+round_at (Inside asked state ran round) = round
+round_at (Between point round) = round
 
 -- a fetch is asked for under the VCL of this number
 abbrev pub IsUnder : ℕ → ClientWant → Type 0

@@ -3,3 +3,4 @@ pub mod Commands
 pub mod Rounds
 pub mod Standing
 pub mod Laws
+pub mod Tokens

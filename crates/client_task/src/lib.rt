@@ -14,6 +14,7 @@ mod settling;
 
 pub use client::Client;
 pub use laws::{
-    goes_on_to_its_end, looks_up_without_a_fetch, nothing_behind_the_end, one_vcl, one_want,
+    few_restarts, goes_on_to_its_end, holds_what_its_lookup_opened, looks_up_without_a_fetch,
+    nothing_behind_the_end, one_vcl, one_want,
 };
 pub use place::{Asked, Place};

@@ -3,3 +3,4 @@ pub mod OneWant
 pub mod Orders
 pub mod Going
 pub mod Subroutines
+pub mod Closing

@@ -1,11 +1,17 @@
 -- Words for the laws of a fetch.
 use Rattle.std.specs.Prelude.{◌≡◌, ⊤, ℕ, true, false, Option, Some, None, is_some, option_map}
 use Rattle.directors.specs.declared.director.DirectorKind.{DirectorKind}
+use Rattle.http_heads.specs.declared.exchange.Exchange.{Exchange}
+use Rattle.http_heads.specs.declared.exchange.Exchange.TheVariants as exchange
 use Rattle.directors.specs.declared.director.DirectorKind.TheVariants as director
 use Rattle.cache_law.specs.declared.call.Call.{Call}
 use Rattle.cache_law.specs.declared.call.Call.TheVariants as call
+use Rattle.cache_law.specs.declared.call.Reply.{Reply}
+use Rattle.cache_law.specs.declared.call.Reply.TheVariants as reply
 use Rattle.cache_law.specs.declared.rounds.FetchOutcome.{FetchOutcome}
 use Rattle.cache_law.specs.declared.rounds.FetchOutcome.TheVariants.{Delivered, Failed, Ended}
+use Rattle.cache_law.specs.declared.rounds.Given.{Given}
+use Rattle.cache_law.specs.declared.rounds.Given.TheVariants as given
 use Rattle.cache_law.specs.declared.rounds.Order.{Order}
 use Rattle.fetch_graph.specs.declared.fetch.Fetch.{Fetch}
 use Rattle.fetch_graph.specs.declared.fetch.Next.{Next}
@@ -50,3 +56,44 @@ word_for other word drawn = word
 abbrev pub with_word : ℕ → FetchWant → FetchWant
 with_word drawn (want.Cache (call.Pick vcl target word)) = want.Cache (call.Pick vcl target (word_for target.kind word drawn))
 with_word drawn other = other
+
+-- ---- what is given answers what is wanted
+
+abbrev pub IsPicked : Reply → Type 0
+IsPicked (reply.Picked name) = ⊤
+IsPicked other = ⊥
+
+abbrev pub IsInserted : Reply → Type 0
+IsInserted (reply.Stored number) = ⊤
+IsInserted reply.NotInTime = ⊤
+IsInserted reply.NoRoom = ⊤
+IsInserted reply.Refused = ⊤
+IsInserted reply.StaleGone = ⊤
+IsInserted other = ⊥
+
+abbrev pub IsDropped : Reply → Type 0
+IsDropped reply.Dropped = ⊤
+IsDropped other = ⊥
+
+abbrev pub IsAnswer : Call → Reply → Type 0
+IsAnswer (call.Pick vcl target word) told = IsPicked told
+IsAnswer (call.Insert token object stale) told = IsInserted told
+IsAnswer (call.Drop token) told = IsDropped told
+IsAnswer call told = ⊥
+
+-- an exchange for which memory was wanting isn't told
+abbrev pub IsOver : Exchange → Type 0
+IsOver (exchange.Reply head body) = ⊤
+IsOver (exchange.Fault cause) = ⊤
+IsOver exchange.NoMemory = ⊥
+
+abbrev pub AnswersIt : FetchWant → Given → Type 0
+AnswersIt (want.Cache call) (given.Reply told) = IsAnswer call told.reply
+AnswersIt (want.Ask backend request) (given.Exchange got) = IsOver got.exchange
+AnswersIt want given = ⊥
+
+-- an insertion, or that the fetch is given up: with the answer what its lookup opened is closed
+abbrev pub Closes : FetchWant → Type 0
+Closes (want.Cache (call.Insert token object stale)) = ⊤
+Closes (want.Cache (call.Drop token)) = ⊤
+Closes other = ⊥

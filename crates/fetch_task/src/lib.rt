@@ -11,4 +11,4 @@ mod laws;
 mod settling;
 
 pub use fetch::Fetch;
-pub use laws::{few_retries, for_its_order, one_want, one_word};
+pub use laws::{closes_what_its_lookup_opened, few_retries, for_its_order, one_want, one_word};
