@@ -2,8 +2,11 @@
 #![tactic(auto)]
 
 use std::process::ExitCode;
-use varn_command::perform;
+use varn_command::{Start, perform, refuse_start};
 
 fn main(rt: HostRuntime) -> ExitCode {
-    perform(&rt, &rt)
+    match Start::read(&rt) {
+        Ok(start) => perform(&rt, &rt, start),
+        Err(error) => refuse_start(&rt, error),
+    }
 }

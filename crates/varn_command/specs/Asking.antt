@@ -1,5 +1,5 @@
 -- What words ask for, and what a run does.
-use Rattle.std.specs.Prelude.{◌≡◌, ⊤, ℕ, List, [], ◌∷◌, codes, Option, Some, None, if◌then◌else◌}
+use Rattle.std.specs.Prelude.{◌≡◌, ◌⊎◌, ⊤, ℕ, List, [], ◌∷◌, codes, Option, Some, None, if◌then◌else◌}
 use Rattle.std.specs.Str.{bytes_eq}
 use Rattle.command_line.specs.declared.fault.OrderError.{OrderError}
 use Rattle.command_line.specs.declared.fault.OrderError.TheVariants.{Refused, NoMemory}
@@ -10,11 +10,9 @@ use Rattle.command_line.specs.declared.order.ServeOptions.{ServeOptions}
 use Rattle.command_line.specs.Words.{Asks, AsksLoad}
 use Rattle.command_line.specs.Faults.{IsFault, missing_of_load, missing_of_serve}
 use Rattle.varn_program.specs.declared.outcome.Outcome.{Outcome as Played}
-use Rattle.varn_program.specs.Statuses.{code_of as played_code}
 use Rattle.varn_serve.specs.declared.ending.Served.{Served}
-use Rattle.varn_serve.specs.Statuses.{code_of as serve_code}
-use Rattle.varn_command.specs.declared.running.Outcome.{Outcome}
-use Rattle.varn_command.specs.declared.running.Outcome.TheVariants.{Replay, Load, Serve, Unasked}
+use Rattle.varn_command.specs.declared.outcome.Outcome.{Outcome}
+use Rattle.varn_command.specs.Outcomes.{of_played, of_served, of_unasked}
 
 -- What is claimed of each command's run, and what of words that give no order.
 pub record Claims : Type 1 where
@@ -37,21 +35,20 @@ command_of (word ∷ options) =
     if bytes_eq word (codes "load") then Some (command.Load, options) else
     None
 
--- Words that begin with `serve` or `load` are options of that command: they give an order, of which comes what is claimed; or none,
--- for their first fault, and nothing was done. Other words are those of a replay.
-abbrev pub Does : Claims → List (List ℕ) → Outcome → Type 0
-Does claims words (Replay outcome) = (command_of words ≡ None) × claims.replays outcome
-Does claims words (Load load outcome) =
-    (options : List (List ℕ)) × (command_of words ≡ Some (command.Load, options)) × AsksLoad options load × claims.loads load outcome
-Does claims words (Serve order served) =
-    (options : List (List ℕ)) × (command_of words ≡ Some (command.Serve, options)) × Asks options order × claims.serves order served
-Does claims words (Unasked name error) =
-    (options : List (List ℕ)) × (command_of words ≡ Some (name, options)) × IsUnasked name options error × claims.nothing
+-- The options give an order, of which comes what is claimed.
+abbrev pub Obeys : {O X : Type 0} → (List (List ℕ) → O → Type 0) → (O → X → Type 0) → (X → Outcome) → List (List ℕ) → Outcome → Type 0
+Obeys {O} {X} Asks claims handed options outcome = (order : O) × (came : X) × Asks options order × claims order came × (outcome ≡ handed came)
 
--- the number that the program ends with
-abbrev pub code_of : Outcome → ℕ
-code_of (Replay outcome) = played_code outcome.status
-code_of (Load load outcome) = played_code outcome.status
-code_of (Serve order served) = serve_code served.status
-code_of (Unasked name (Refused fault)) = 2
-code_of (Unasked name NoMemory) = 6
+-- They give none, for their first fault or for want of memory, and nothing was done.
+abbrev pub Refuses : CommandName → Type 0 → List (List ℕ) → Outcome → Type 0
+Refuses name nothing options outcome = (error : OrderError) × IsUnasked name options error × nothing × (outcome ≡ of_unasked error)
+
+-- Options of `serve` or `load` are obeyed or refused; other words are those of a replay.
+abbrev pub DoesAs : Claims → Option (CommandName × List (List ℕ)) → Outcome → Type 0
+DoesAs claims None outcome = (came : Played) × claims.replays came × (outcome ≡ of_played came)
+DoesAs claims (Some (command.Load, options)) outcome = Obeys AsksLoad claims.loads of_played options outcome ⊎ Refuses command.Load claims.nothing options outcome
+DoesAs claims (Some (command.Serve, options)) outcome = Obeys Asks claims.serves of_served options outcome ⊎ Refuses command.Serve claims.nothing options outcome
+
+-- What a run does with these words, of which this comes.
+pub record Does (claims : Claims) (words : List (List ℕ)) (outcome : Outcome) : Type 0 where
+  pub does : DoesAs claims (command_of words) outcome

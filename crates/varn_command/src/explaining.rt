@@ -1,16 +1,20 @@
 // What is said on standard error of a run that wasn't whole.
-use command_line::{CommandName, OrderError, ServeOptions};
+use crate::outcome::{Note, Outcome, Status};
+use crate::running::command_of;
+use command_line::{CommandName, OrderError, ServeOptions, read_load, read_order};
 use diagnostics::{order_fault, replay_fault, session_refusal, unseen_refusal, vcl_refusal};
 use std::alloc::AllocError;
 use system::{WordsError, tell};
 use units::Text;
-use varn_program::{Note, Status as ReplayStatus, faulty_word};
-use varn_serve::{Served, Status, VclNote};
+use varn_program::faulty_word;
+use vcl_tree::Refusal;
 use world::{World, read_file};
 
 const NO_MEMORY: &str = "out of memory";
 
 const UNWRITABLE: &str = "standard output can't be written to";
+
+const UNREADABLE: &str = "the session can't be read from standard input";
 
 const HISTORY_FULL: &str = "the history is full: --history takes up to 1073741824 bytes";
 
@@ -35,19 +39,11 @@ fn say(rt: &HostRuntime, text: Result<String, AllocError>) {
     }
 }
 
-/// Says which option of a command is faulty, and what was expected.
-pub(crate) fn explain_order(
-    rt: &HostRuntime,
-    command: CommandName,
-    options: &[Text],
-    error: OrderError,
-) {
-    match error {
-        OrderError::Refused(fault) => {
-            say(rt, order_fault(rt.alloc(), command, options, fault));
-            tell(rt, help_on(command));
-        }
-        OrderError::NoMemory => tell(rt, NO_MEMORY),
+// Why the options of a command give no order.
+fn order_error(command: CommandName, options: &[Text]) -> Option<OrderError> {
+    match command {
+        CommandName::Serve => read_order(options).err(),
+        CommandName::Load => read_load(options).err(),
     }
 }
 
@@ -59,64 +55,95 @@ fn help_on(command: CommandName) -> &'static str {
     }
 }
 
-/// Says which word of other words is faulty, and what was expected.
-pub(crate) fn explain_words(rt: &HostRuntime, words: &[Text]) {
-    say(rt, replay_fault(rt.alloc(), words, faulty_word(words)));
-    tell(rt, "varn --help tells each command and its options");
+// Says which word is faulty, and what was expected.
+fn explain_words(rt: &HostRuntime, words: &[Text]) {
+    match command_of(words) {
+        Some((command, options)) => {
+            if let Some(OrderError::Refused(fault)) = order_error(command, options) {
+                say(rt, order_fault(rt.alloc(), command, options, fault));
+            }
+            tell(rt, help_on(command));
+        }
+        None => {
+            say(rt, replay_fault(rt.alloc(), words, faulty_word(words)));
+            tell(rt, "varn --help tells each command and its options");
+        }
+    }
 }
 
-/// Says how a session ended that wasn't whole.
-pub(crate) fn explain_replay(rt: &HostRuntime, status: ReplayStatus, note: Option<Note>) {
-    if let Some(note) = note {
-        let line = note.line;
-        let kind = note.kind;
-        let cause = session_refusal(kind);
-        let _ = eprintln!(rt; "line {line} kind {kind}\nline {line}: {cause}");
-    }
-    match status {
-        ReplayStatus::Done | ReplayStatus::Session | ReplayStatus::Words => {}
-        ReplayStatus::ReadFault => tell(rt, "the session can't be read from standard input"),
-        ReplayStatus::WriteFault => tell(rt, UNWRITABLE),
-        ReplayStatus::NoMemory => tell(rt, NO_MEMORY),
-        ReplayStatus::HistoryFull => tell(rt, HISTORY_FULL),
-    }
+// Says at which line a session is faulty, and why.
+fn explain_line(rt: &HostRuntime, line: u32, kind: u8) {
+    let cause = session_refusal(kind);
+    let _ = eprintln!(rt; "line {line} kind {kind}\nline {line}: {cause}");
 }
 
 // Says where the VCL is refused, and why. Its file is read once more, for a run keeps no text that it refused.
-fn explain_refusal<W: World>(rt: &HostRuntime, world: &mut W, file: &Text, note: VclNote) {
-    let place = note.place;
-    let kind = note.kind.number();
-    let _ = eprintln!(rt; "place {place} kind {kind}");
+fn explain_place<W: World>(
+    rt: &HostRuntime,
+    world: &mut W,
+    file: &Text,
+    place: u32,
+    kind: Refusal,
+) {
+    let number = kind.number();
+    let _ = eprintln!(rt; "place {place} kind {number}");
     let told = match read_file(world, file) {
-        Ok(Some(text)) => vcl_refusal(rt.alloc(), file, &text, place, note.kind),
-        _ => unseen_refusal(rt.alloc(), file, place, note.kind),
+        Ok(Some(text)) => vcl_refusal(rt.alloc(), file, &text, place, kind),
+        _ => unseen_refusal(rt.alloc(), file, place, kind),
     };
     say(rt, told);
 }
 
-/// Says how a server ended that wasn't whole.
-pub(crate) fn explain_server<W: World>(
+// Says what kept a server from serving.
+fn explain_server<W: World>(
     rt: &HostRuntime,
     world: &mut W,
     order: &ServeOptions,
-    served: &Served,
+    outcome: &Outcome,
 ) {
     let file = str::from_utf8(order.file.bytes()).unwrap_or("the file");
     let port = order.port;
     let alloc = rt.alloc();
-    match (served.status, served.note) {
-        (Status::Done, _) => {}
-        (Status::Vcl, Some(note)) => explain_refusal(rt, world, &order.file, note),
-        (Status::Vcl, None) => say(rt, format!(in alloc; "{file}: there is no such file")),
+    match (outcome.status, outcome.note) {
+        (Status::Vcl, Some(Note::Place { place, kind })) => {
+            explain_place(rt, world, &order.file, place, kind)
+        }
+        (Status::Vcl, _) => say(rt, format!(in alloc; "{file}: there is no such file")),
         (Status::ReadFault, _) => say(rt, format!(in alloc; "{file} can't be read")),
-        (Status::WriteFault, _) => tell(rt, UNWRITABLE),
-        (Status::NoMemory, _) => tell(rt, NO_MEMORY),
-        (Status::ListenFault, _) => say(
+        _ => say(
             rt,
             format!(in alloc;
                 "port {port} can't be listened at (it may be in use), or accepting there failed"
             ),
         ),
+    }
+}
+
+// The order of a server that the words give, if they do.
+fn order_of(words: &[Text]) -> Option<ServeOptions> {
+    match command_of(words) {
+        Some((CommandName::Serve, options)) => read_order(options).ok(),
+        _ => None,
+    }
+}
+
+/// Says what kept a run of these words from being whole.
+pub(crate) fn explain<W: World>(
+    rt: &HostRuntime,
+    words: &[Text],
+    world: &mut W,
+    outcome: &Outcome,
+) {
+    match (outcome.status, outcome.note) {
+        (Status::Done, _) => {}
+        (Status::Words, _) => explain_words(rt, words),
+        (Status::Session, Some(Note::Line { line, kind })) => explain_line(rt, line, kind),
+        (Status::WriteFault, _) => tell(rt, UNWRITABLE),
+        (Status::NoMemory, _) => tell(rt, NO_MEMORY),
         (Status::HistoryFull, _) => tell(rt, HISTORY_FULL),
+        _ => match order_of(words) {
+            Some(order) => explain_server(rt, world, &order, outcome),
+            None => tell(rt, UNREADABLE),
+        },
     }
 }

@@ -5,8 +5,10 @@
 #![tactic(auto)]
 
 mod explaining;
+mod outcome;
 mod process;
 mod running;
 
-pub use process::perform;
-pub use running::{Outcome, run};
+pub use outcome::{ConsoleLine, Note, Outcome, Probed, Status};
+pub use process::{Start, perform, refuse_start};
+pub use running::run;

@@ -1,9 +1,20 @@
 // The run of a process.
-use crate::explaining::{
-    explain_order, explain_replay, explain_server, explain_unwritten, explain_wordless,
-    explain_words,
-};
-use crate::running::{Outcome, command_of, run};
+ghost use Rattle.std.specs.Prelude.{◌≡◌, ◌≤◌, ⊤, ℕ, List, Option, None, length};
+ghost use Rattle.std.specs.List.{list_any};
+ghost use Rattle.std.specs.Process.{exit_status};
+ghost use Rattle.diagnostics.specs.Helping.{help_of};
+ghost use Rattle.vcl_library.specs.Functions.{std_functions};
+ghost use Rattle.varn_program.specs.Run.{Ends};
+ghost use Rattle.varn_serve.specs.Endings.{is_full};
+ghost use Rattle.varn_serve.specs.Run.{is_full_status};
+ghost use Rattle.varn_command.specs.Asking.{Does};
+ghost use Rattle.varn_command.specs.Outcomes.{code_of};
+ghost use Rattle.varn_command.specs.declared.outcome.Outcome.{Outcome as Came};
+
+use crate::explaining::{explain, explain_unwritten, explain_wordless};
+use crate::outcome::Status;
+use crate::running::{command_of, run};
+use command_line::CommandName;
 use diagnostics::Help;
 use std::env::{self, VarError};
 use std::net::{Net, TcpListener, TcpStream};
@@ -14,14 +25,23 @@ use std::sync::Wait;
 use std::thread::Threads;
 use system::{StreamSink, StreamSource, SystemWorld, WordsError, read_words};
 use units::Text;
-use varn_program::Status;
-use world::{OpenGate, World};
+use world::OpenGate;
 
 /// Where a server listens: at all addresses of the machine.
 const ADDRESS: [u8; 4] = [0, 0, 0, 0];
 
 /// The variable of the environment that names the file whose coming ends a server's run.
 const STOP_VARIABLE: &str = "VARN_STOP";
+
+/// The word that bounds the number of connections: each link is then a whole connection.
+const CONNS_WORD: &[u8] = b"--conns";
+
+/// What a process was started with: its words, and the file whose coming ends a run, if one is named.
+#[derive(Drop)]
+pub struct Start {
+    pub words: Vec<Text>,
+    pub stop_file: Option<Text>,
+}
 
 // Writes the help on standard output.
 fn print(rt: &HostRuntime, help: Help) -> Status {
@@ -31,15 +51,6 @@ fn print(rt: &HostRuntime, help: Help) -> Status {
             explain_unwritten(rt);
             Status::WriteFault
         }
-    }
-}
-
-// How a run ends whose words couldn't be had: words that aren't text are no words of a command.
-fn wordless(rt: &HostRuntime, error: WordsError) -> Status {
-    explain_wordless(rt, error);
-    match error {
-        WordsError::Unreadable => Status::Words,
-        WordsError::NoMemory => Status::NoMemory,
     }
 }
 
@@ -53,60 +64,76 @@ fn stop_file(rt: &HostRuntime) -> Result<Option<Text>, WordsError> {
     }
 }
 
-// What the process was started with: its words, and the file whose coming ends a run.
-fn read_start(rt: &HostRuntime) -> Result<(Vec<Text>, Option<Text>), WordsError> {
-    let words = read_words(rt)?;
-    let file = stop_file(rt)?;
-    Ok((words, file))
+// Whether the words say how many connections are served.
+fn bounds_connections(words: &[Text]) -> bool {
+    words.iter().any(|word| word.bytes() == CONNS_WORD)
 }
 
-// Says on standard error what kept the run from being whole.
-fn explain<W: World>(rt: &HostRuntime, words: &[Text], world: &mut W, outcome: &Outcome) {
-    match outcome {
-        Outcome::Replay(replayed) => {
-            if replayed.status == Status::Words {
-                explain_words(rt, words);
-            }
-            explain_replay(rt, replayed.status, replayed.note);
-        }
-        Outcome::Load(_, played) => explain_replay(rt, played.status, played.note),
-        Outcome::Serve(order, served) => explain_server(rt, world, order, served),
-        Outcome::Unasked(command, error) => {
-            if let Some((_, options)) = command_of(words) {
-                explain_order(rt, *command, options, *error);
-            }
-        }
+// Whether the words are those of a server.
+fn ask_for_server(words: &[Text]) -> bool {
+    matches!(command_of(words), Some((CommandName::Serve, _)))
+}
+
+impl Start {
+    /// What this process was started with.
+    pub fn read(rt: &HostRuntime) -> Result<Start, WordsError> {
+        let words = read_words(rt)?;
+        let stop_file = stop_file(rt)?;
+        Ok(Start { words, stop_file })
     }
 }
 
-/// Runs what the process's words say over its standard streams and the system's outside, says on standard error what kept it from
+/// Says why it isn't known what the process was started with, and gives what it ends with: words that aren't text are no words of
+/// a command.
+pub fn refuse_start(rt: &HostRuntime, error: WordsError) -> ExitCode {
+    explain_wordless(rt, error);
+    let status = match error {
+        WordsError::Unreadable => Status::Words,
+        WordsError::NoMemory => Status::NoMemory,
+    };
+    ExitCode::from(status.code())
+}
+
+/// Runs what the words say over the process's standard streams and the system's outside, says on standard error what kept it from
 /// being whole, and gives what the process ends with. Words that ask for help are answered on standard output.
-pub fn perform<R>(rt: &HostRuntime, outside: &R) -> ExitCode
+///
+/// Its bounds are those of `Outside` written out: a call from `main` is checked only where the types of the sockets stand in its own
+/// bounds.
+pub fn perform<R>(rt: &HostRuntime, outside: &R, start: Start) -> ExitCode
 where
-    R: Threads
-        + Wait
-        + Sync
-        + Net<Listener = TcpListener, Stream = TcpStream>
+    R: Net<Listener = TcpListener, Stream = TcpStream>
         + Files
         + AllocGlobal
         + Clock
         + Eprint
         + RandomSource
+        + Threads
+        + Wait
+        + Sync
         + Copy
         + Drop
-        + Send,
+        + Send
+        + 'static,
     <R as Files>::File: Send,
     <R as Files>::Dir: Send,
+    ensures { help_of start.words.items ≡ None → (outcome : Came) × Does (record {
+      replays = λ came. (left0 left1 held0 held1 : Option (List ℕ)) × Ends std_functions start.words.items left0 left1 held0 held1 came;
+      loads = λ load came. ⊤;
+      serves = λ order came. (length came.transcripts ≤ order.conns) × (is_full_status came.status ≡ list_any is_full came.transcripts);
+      nothing = ⊤;
+    }) start.words.items outcome × (exit_status result ≡ code_of outcome.status) }
 {
-    let (words, stop_file) = match read_start(rt) {
-        Ok(start) => start,
-        Err(error) => return ExitCode::from(wordless(rt, error).code()),
-    };
+    let Start { words, stop_file } = start;
     if let Some(help) = Help::of(words.as_slice()) {
         return ExitCode::from(print(rt, help).code());
     }
     let mut world = SystemWorld::new(*outside, ADDRESS);
     world.stop_file = stop_file;
+    world.gives_stretches = !bounds_connections(words.as_slice());
+    if ask_for_server(words.as_slice()) {
+        // Where its threads can't begin no port is had, which the run says.
+        let _ = world.start();
+    }
     let mut source = StreamSource::new(rt.stdin());
     let mut sink = StreamSink::new(rt.stdout());
     let outcome = run(
@@ -119,5 +146,5 @@ where
         &mut sink,
     );
     explain(rt, words.as_slice(), &mut world, &outcome);
-    ExitCode::from(outcome.code())
+    ExitCode::from(outcome.status.code())
 }

@@ -12,51 +12,24 @@ ghost use Rattle.varn_program.specs.Words.{AsksReplay};
 ghost use Rattle.varn_program.specs.declared.outcome.Status.TheVariants as replay_status;
 ghost use Rattle.varn_serve.specs.Endings.{is_full};
 ghost use Rattle.varn_serve.specs.Run.{CameTo, EndsAs, GaveFor, IsComplete as IsWhole, RanBy, is_full_status};
-ghost use Rattle.varn_command.specs.Asking.{Does, code_of, command_of};
+ghost use Rattle.varn_command.specs.Asking.{Does, command_of};
 ghost use Rattle.wire.specs.Causes.{Rose};
 ghost use Rattle.world.specs.Keeping.{MayAdd};
 
-use command_line::{CommandName, LoadOptions, OrderError, ServeOptions, read_load, read_order};
+use crate::outcome::Outcome;
+use command_line::{CommandName, LoadOptions, read_load, read_order};
 use flat_core::FlatCore;
 use std::alloc::Global;
 use std::sync::Wait;
 use std::thread::Threads;
 use units::Text;
 use varn_program::{Job, do_with_std};
-use varn_serve::{Served, serve_with_std};
+use varn_serve::serve_with_std;
 use wire::{Dialer, Sink, Source};
 use world::{Gate, World};
 
 /// The cache of the program.
 type Core = FlatCore;
-
-/// What a run came to, by its command.
-#[derive(Drop)]
-pub enum Outcome {
-    /// The words begin neither as those of a server nor as those of a load.
-    Replay(varn_program::Outcome),
-    /// The words are this load.
-    Load(LoadOptions, varn_program::Outcome),
-    /// The words are this order.
-    Serve(ServeOptions, Served),
-    /// The words begin as those of this command, and give no order.
-    Unasked(CommandName, OrderError),
-}
-
-impl Outcome {
-    /// The number that the program ends with.
-    pub fn code(&self) -> u8
-        ensures { result ≡ code_of self.now }
-    {
-        match self {
-            Outcome::Replay(outcome) => outcome.status.code(),
-            Outcome::Load(_, outcome) => outcome.status.code(),
-            Outcome::Serve(_, served) => served.status.code(),
-            Outcome::Unasked(_, OrderError::Refused(_)) => 2,
-            Outcome::Unasked(_, OrderError::NoMemory) => 6,
-        }
-    }
-}
 
 /// The command of the first word, if it is one with an order, and its options.
 pub(crate) fn command_of(words: &[Text]) -> Option<(CommandName, &[Text])>
@@ -136,19 +109,21 @@ where
         Some((CommandName::Serve, options)) => match read_order(options) {
             Ok(order) => {
                 let served = serve_with_std(rt, alloc, &order, world, gate, sink);
-                Outcome::Serve(order, served)
+                Outcome::of_served(alloc, served)
             }
-            Err(error) => Outcome::Unasked(CommandName::Serve, error),
+            Err(error) => Outcome::of_unasked(alloc, error),
         },
         Some((CommandName::Load, options)) => match read_load(options) {
-            Ok(load) => {
-                let LoadOptions { seed, steps } = load;
+            Ok(LoadOptions { seed, steps }) => {
                 let job = Job::Load { seed, steps };
                 let played = do_with_std::<Core, S, K>(alloc, &job, source, sink);
-                Outcome::Load(load, played)
+                Outcome::of_played(alloc, played)
             }
-            Err(error) => Outcome::Unasked(CommandName::Load, error),
+            Err(error) => Outcome::of_unasked(alloc, error),
         },
-        None => Outcome::Replay(varn_program::run::<Core, S, K>(alloc, words, source, sink)),
+        None => {
+            let played = varn_program::run::<Core, S, K>(alloc, words, source, sink);
+            Outcome::of_played(alloc, played)
+        }
     }
 }

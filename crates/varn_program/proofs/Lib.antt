@@ -5,3 +5,4 @@ pub mod Outcomes
 pub mod Loadings
 mod Options
 mod Texts
+pub mod OneReplay

@@ -86,7 +86,7 @@ played_whole stored params held0 held1 session outcome (Some refusals.HistoryFul
 played_whole stored params held0 held1 session outcome (Some refusals.NoMemory) failed is cause ends nothing calm = inr (ap (λ (o : Outcome). o.status) is)
 
 -- the text of a source that has a session is that session's
-text_reads : (left0 left1 : Option (List ℕ)) (text : List ℕ) (session : Session) → IsText left0 left1 text → HasSession left0 session → IsSession text session
+pub text_reads : (left0 left1 : Option (List ℕ)) (text : List ℕ) (session : Session) → IsText left0 left1 text → HasSession left0 session → IsSession text session
 text_reads left0 left1 text session is_text has = subst (λ (t : List ℕ). IsSession t session) (sym (all_read left0 left1 text has.bytes is_text has.left_is has.short)) has.reads
 
 pub complete_at : (stored : List Stored) (params : Params) (left0 left1 held0 held1 : Option (List ℕ)) (text : List ℕ) (read : Session) (outcome : Outcome) (failed : Type 0) → IsText left0 left1 text → ((session : Session) → IsSession text session → read ≡ session) → HasEnded stored params read held0 held1 outcome → (outcome.status ≡ statuses.WriteFault → failed) → IsComplete stored params left0 held0 held1 failed outcome

@@ -4,3 +4,4 @@ pub mod Texts
 pub mod Run
 pub mod Load
 pub mod Jobs
+pub mod Laws

@@ -1,6 +1,6 @@
 // A job with the stored functions that the program has.
 ghost use Rattle.std.specs.Prelude.{◌≡◌, IfOk, OnErr};
-ghost use Rattle.vcl_library.specs.Functions.{std_functions, std_signature};
+ghost use Rattle.vcl_library.specs.Functions.{std_functions};
 ghost use Rattle.varn_program.specs.Jobs.{IsUnsegmented, IsWhole, Plays};
 ghost use Rattle.wire.specs.Causes.{Rose};
 
@@ -12,24 +12,9 @@ use crate::playing::stopped;
 use ban_lurker::LurkCore;
 use std::alloc::{AllocError, Global};
 use units::Shared;
-use vcl_values::Kind;
-use vmod_host::{
-    INTEGER, STRLEN, Signature, TOLOWER, TOUPPER, Vmod, VmodTable, integer, strlen, tolower,
-    toupper,
-};
+use vcl_library::{std_answer, std_vmods};
+use vmod_host::VmodTable;
 use wire::{Sink, Source};
-
-// The signature of a function of the module `std`.
-fn std_signature(
-    alloc: Global,
-    name: &[u8],
-    takes: &[Kind],
-    gives: Kind,
-) -> Result<Signature, AllocError>
-    ensures { IfOk result (λ signature. signature ≡ std_signature name.now takes.now gives) }
-{
-    Signature::of(alloc, b"std", name, takes, gives)
-}
 
 // Does the job with a table of stored functions.
 fn do_job<C: LurkCore + Drop, S: Source, K: Sink>(
@@ -52,8 +37,7 @@ fn do_job<C: LurkCore + Drop, S: Source, K: Sink>(
     }
 }
 
-// The job, or want of memory for the table. A function that makes a table of code can't hand it out, for a caller
-// would know nothing of the code: so the table is made where it is used.
+// The job, or want of memory for the table.
 fn try_job<C: LurkCore + Drop, S: Source, K: Sink>(
     alloc: Global,
     job: &Job,
@@ -68,49 +52,12 @@ fn try_job<C: LurkCore + Drop, S: Source, K: Sink>(
     ensures source { OnErr result (source.new ≡ source.old) }
     ensures sink { OnErr result (sink.new ≡ sink.old) }
 {
-    let text = [Kind::String];
-    let tolower_signature = std_signature(alloc, b"tolower", &text, Kind::String)?;
-    let toupper_signature = std_signature(alloc, b"toupper", &text, Kind::String)?;
-    let integer_signature = std_signature(
-        alloc,
-        b"integer",
-        &[Kind::String, Kind::Int],
-        Kind::Int,
-    )?;
-    let strlen_signature = std_signature(alloc, b"strlen", &text, Kind::Int)?;
-    let list = [
-        Vmod {
-            tag: TOLOWER,
-            signature: tolower_signature,
-            call: tolower,
-        },
-        Vmod {
-            tag: TOUPPER,
-            signature: toupper_signature,
-            call: toupper,
-        },
-        Vmod {
-            tag: INTEGER,
-            signature: integer_signature,
-            call: integer,
-        },
-        Vmod {
-            tag: STRLEN,
-            signature: strlen_signature,
-            call: strlen,
-        },
-    ];
-    // Their tags differ, so that memory alone can be wanting.
-    match VmodTable::of(alloc, Vec::from_array(alloc, list)?) {
-        Ok(vmods) => {
-            let vmods = Shared::new(alloc, vmods)?;
-            Ok(do_job::<C, S, K>(alloc, job, &vmods, source, sink))
-        }
-        Err(_) => Err(AllocError),
-    }
+    let vmods = Shared::new(alloc, std_vmods(alloc, std_answer)?)?;
+    Ok(do_job::<C, S, K>(alloc, job, &vmods, source, sink))
 }
 
-/// Does the job over a cache of this kind. Texts of VCL may call the functions of the module `std`.
+/// Does the job over a cache of this kind. Texts of VCL may call the functions of the modules `std`
+/// and `cookie`.
 pub fn do_with_std<C: LurkCore + Drop, S: Source, K: Sink>(
     alloc: Global,
     job: &Job,

@@ -7,6 +7,7 @@
 mod command;
 mod functions;
 mod job;
+mod laws;
 mod limits;
 mod loading;
 mod outcome;
@@ -16,6 +17,7 @@ mod words;
 pub use command::{replay, run};
 pub use functions::do_with_std;
 pub use job::Job;
+pub use laws::one_replay;
 pub use loading::load;
 pub use outcome::{Note, Outcome, Status};
 pub use words::faulty_word;

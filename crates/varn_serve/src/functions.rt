@@ -3,7 +3,7 @@ ghost use Rattle.std.specs.Prelude.{◌≡◌, ◌≤◌, IfOk, OnErr, length};
 ghost use Rattle.std.specs.List.{list_any};
 ghost use Rattle.crew.specs.Hiring.{IsUnused};
 ghost use Rattle.wire.specs.Telling.{told_by};
-ghost use Rattle.vcl_library.specs.Functions.{std_functions, std_signature};
+ghost use Rattle.vcl_library.specs.Functions.{std_functions};
 ghost use Rattle.wire.specs.Causes.{Rose};
 ghost use Rattle.world.specs.Keeping.{MayAdd};
 ghost use Rattle.varn_serve.specs.Endings.{is_full};
@@ -17,30 +17,12 @@ use std::alloc::{AllocError, Global};
 use std::sync::Wait;
 use std::thread::Threads;
 use units::Shared;
-use vcl_library::Library;
+use vcl_library::{Library, std_answer, std_vmods};
 use vcl_runner::Run;
-use vcl_values::Kind;
-use vmod_host::{
-    INTEGER, STRLEN, Signature, TOLOWER, TOUPPER, Vmod, VmodTable, integer, strlen, tolower,
-    toupper,
-};
 use wire::{Dialer, Sink};
 use world::{Gate, World};
 
-// The signature of a function of the module `std`.
-fn std_signature(
-    alloc: Global,
-    name: &[u8],
-    takes: &[Kind],
-    gives: Kind,
-) -> Result<Signature, AllocError>
-    ensures { IfOk result (λ signature. signature ≡ std_signature name.now takes.now gives) }
-{
-    Signature::of(alloc, b"std", name, takes, gives)
-}
-
-// The run, or want of memory for the table. A function that makes a table of code can't hand it out, for a caller would know nothing of
-// the code: so the table is made where it is used.
+// The run, or want of memory for the table.
 fn try_serve<R: Threads + Wait + Sync, W: World + Send, G: Gate + Sync, S: Sink>(
     rt: &R,
     alloc: Global,
@@ -73,43 +55,7 @@ where
     ensures ports { IfOk result (λ served. MayAdd (W.ports world.old) (W.ports world.new) order.now.port) }
     ensures unchanged { OnErr result ((world.new ≡ world.old) × (sink.new ≡ sink.old)) }
 {
-    let text = [Kind::String];
-    let tolower_signature = std_signature(alloc, b"tolower", &text, Kind::String)?;
-    let toupper_signature = std_signature(alloc, b"toupper", &text, Kind::String)?;
-    let integer_signature = std_signature(
-        alloc,
-        b"integer",
-        &[Kind::String, Kind::Int],
-        Kind::Int,
-    )?;
-    let strlen_signature = std_signature(alloc, b"strlen", &text, Kind::Int)?;
-    let list = [
-        Vmod {
-            tag: TOLOWER,
-            signature: tolower_signature,
-            call: tolower,
-        },
-        Vmod {
-            tag: TOUPPER,
-            signature: toupper_signature,
-            call: toupper,
-        },
-        Vmod {
-            tag: INTEGER,
-            signature: integer_signature,
-            call: integer,
-        },
-        Vmod {
-            tag: STRLEN,
-            signature: strlen_signature,
-            call: strlen,
-        },
-    ];
-    // Their tags differ, so that memory alone can be wanting.
-    let Ok(vmods) = VmodTable::of(alloc, Vec::from_array(alloc, list)?) else {
-        return Err(AllocError);
-    };
-    let vmods = Shared::new(alloc, vmods)?;
+    let vmods = Shared::new(alloc, std_vmods(alloc, std_answer)?)?;
     let (boot, stock) = match stocked_boot(alloc, world, &order.file, vmods) {
         Ok(stocked) => stocked,
         Err(error) => return Ok(unbooted(alloc, error)),
@@ -122,8 +68,8 @@ where
     }
 }
 
-/// Serves connections as the order says, and writes how many rounds they had. The texts of VCL may call the functions of the module
-/// `std`. The call may wait for good.
+/// Serves connections as the order says, and writes how many rounds they had. The texts of VCL may call the functions of the modules
+/// `std` and `cookie`. The call may wait for good.
 pub fn serve_with_std<R: Threads + Wait + Sync, W: World + Send, G: Gate + Sync, S: Sink>(
     rt: &R,
     alloc: Global,

@@ -3,7 +3,6 @@ use Rattle.std.proofs.Common.{◌≡◌, ◌∙◌, ap, length, inl, inr}
 use Rattle.std.proofs.Crossing.{crosses}
 use denote.Param.Send.{sendable}
 use Rattle.vcl_library.specs.Functions.{std_functions}
-use Rattle.vcl_library.proofs.Tables.{all_four}
 use Rattle.varn_serve.proofs.Carried.{by_vcl}
 use Rattle.varn_serve.proofs.Crossing.{compiled_send, compiled_sync, kept_send, kept_sync, library_send, library_sync}
 use Rattle.varn_serve.proofs.Ends.{idle_halted, idle_unbooted, unbooted_so}
@@ -29,21 +28,15 @@ serve_stocked-requires-sync-P g c κs within = search crossing depth 60 fits 200
 
 pub returns-in-Err-clause-ends : goal.returns-in-Err-clause-ends
 returns-in-Err-clause-ends g c =
-    let made : c.in-Ok.vmods.stored ≡ std_functions =
-    (rw c.in_ok-from_array.ensures.items at c.in-Ok.ensures.ok)
-    ∙ all_four _ _ _ _ c.in_ok-tolower_signature.ensures c.in_ok-toupper_signature.ensures c.in_ok-integer_signature.ensures c.in_ok-strlen_signature.ensures in
-    let same : c.in_ok-vmods.vmods.stored ≡ std_functions = rw c.in_ok-vmods.ensures made in
+    let same : c.in_ok-vmods.vmods.stored ≡ std_functions = rw c.in_ok-vmods.ensures c.in_ok-std_vmods.ensures in
     unbooted_so _ _ _ _ _ _ _ c.args.order.now c.in-Err.error c.unbooted.result c.unbooted.ensures (rw same at c.in-Err.ensures.why)
 
 pub returns-in-Ok-serve_stocked-clause-came : goal.returns-in-Ok-serve_stocked-clause-came
 returns-in-Ok-serve_stocked-clause-came g c =
-    let made : c.in-Ok.vmods.stored ≡ std_functions =
-    (rw c.in_ok-from_array.ensures.items at c.in-Ok.ensures.ok)
-    ∙ all_four _ _ _ _ c.in_ok-tolower_signature.ensures c.in_ok-toupper_signature.ensures c.in_ok-integer_signature.ensures c.in_ok-strlen_signature.ensures in
-    let same : c.in_ok-vmods.vmods.stored ≡ std_functions = rw c.in_ok-vmods.ensures made in
+    let same : c.in_ok-vmods.vmods.stored ≡ std_functions = rw c.in_ok-vmods.ensures c.in_ok-std_vmods.ensures in
     inr (record {
-      boot = c.in-Ok-stocked_boot.stocked.0;
-      boots = rw same at c.in-Ok-stocked_boot.ensures.boot;
+      boot = c.in-Ok.stocked.0;
+      boots = rw same at c.in-Ok.ensures.boot;
       ran = rw (c.finished.ensures.history, c.finished.ensures.transcripts, ← c.stocked_boot.ensures.links, ← c.stocked_boot.ensures.kept, ← c.stocked_boot.ensures.kits)
           (by_vcl _ _ _ _ _ _ _ _ _ _ _ _ _ _ c.in-Ok-serve_stocked.ensures.ran);
     })
