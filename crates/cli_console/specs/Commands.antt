@@ -1,13 +1,28 @@
--- The commands, from the table in src/commands.rt (varnish-cli(7)).
-use Rattle.std.specs.Prelude.{ℕ, Bool, true, false, List, Option, Some, None, option_and_then, position, slice_get}
+-- The commands (varnish-cli(7)).
+use Rattle.std.specs.Prelude.{ℕ, Bool, true, false, List, [], ◌∷◌, codes, Option, Some, None}
+use Rattle.std.specs.Map.{lookup}
 use Rattle.std.specs.Str.{bytes_eq}
 use Rattle.cli_console.specs.declared.commands.CommandKind.{CommandKind}
 use Rattle.cli_console.specs.declared.commands.CommandKind.TheVariants as command
 use Rattle.cli_console.specs.declared.commands.Parameters.{Parameters}
-use Rattle.cli_console.specs.declared.commands.TheConstants.{COMMANDS, COMMAND_NAMES}
+
+-- their names
+abbrev pub names : List (List ℕ × CommandKind)
+names =
+    (codes "ping", command.Ping)
+    ∷ (codes "vcl.inline", command.VclInline)
+    ∷ (codes "vcl.load", command.VclLoad)
+    ∷ (codes "vcl.use", command.VclUse)
+    ∷ (codes "vcl.discard", command.VclDiscard)
+    ∷ (codes "vcl.list", command.VclList)
+    ∷ (codes "ban", command.Ban)
+    ∷ (codes "ban.list", command.BanList)
+    ∷ (codes "backend.set_health", command.SetHealth)
+    ∷ (codes "quit", command.Quit)
+    ∷ []
 
 unfoldable pub command_named : List ℕ → Option CommandKind
-command_named name = option_and_then (λ k. slice_get COMMANDS k) (position (λ known. bytes_eq known.now name) COMMAND_NAMES)
+command_named name = lookup (bytes_eq name) names
 
 -- so many words, the first of which is a VCL's name or isn't
 abbrev pub from_to : ℕ → Option ℕ → Bool → Parameters
