@@ -12,7 +12,7 @@
 . "$(dirname "$0")/prepare.sh"
 prepare container_tests
 python3 - "$program" "${1:-}" "${2:-7919}" <<'PY'
-import itertools, statistics, subprocess, sys
+import functools, itertools, os, re, statistics, subprocess, sys
 program, word, stride = sys.argv[1], sys.argv[2], int(sys.argv[3])
 SIZES = (1000, 10000, 100000)
 # so many looks at the clock a row, so many calls between two of them, and so many rows
@@ -122,8 +122,32 @@ def calls_between(calls, steps_of):
         steps.append(('clock', None))
     return steps
 
+@functools.lru_cache(maxsize=None)
+def instructions_of(row):
+    """How many instructions the program takes for the row."""
+    words = ['valgrind', '--tool=callgrind', '--callgrind-out-file=/dev/null', program]
+    done = subprocess.run(words, input=row.encode(), stdout=subprocess.PIPE, stderr=subprocess.PIPE, check=True)
+    return int(re.search(rb'Collected : (\d+)', done.stderr)[1])
+
+def row_of(container, steps):
+    return '%s %s => none\n' % (container, '; '.join(step for step, _ in steps))
+
+def tell_instructions(name, container, members_of, steps_of, calls_of, parts_of):
+    """The instructions of a call, or of each of its parts, at each size: of a row with calls, less those of one without. Members
+    that are put in are as many as are there, so that a table's growth is counted as often as it comes."""
+    least = None
+    for n in SIZES:
+        count = n if ' put' in name and calls_of(n) == CALLS else calls_of(n)
+        members, calls = members_of(n), [step for i in range(count) for step in steps_of(i, n)]
+        taken = instructions_of(row_of(container, members + calls)) - instructions_of(row_of(container, members))
+        each = taken / count / parts_of(n)
+        least = least or each
+        print('%-28s %7d members   %8.0f instructions a call   %5.2f times those at %d' % (name, n, each, each / least, SIZES[0]), flush=True)
+
 def tell(name, container, members_of, steps_of, calls_of, parts_of):
     """The median time of a call, or of each of its parts, at each size."""
+    if os.environ.get('INSTRUCTIONS'):
+        return tell_instructions(name, container, members_of, steps_of, calls_of, parts_of)
     least = None
     for n in SIZES:
         steps = members_of(n) + calls_between(calls_of(n), lambda i: steps_of(i, n))

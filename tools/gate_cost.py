@@ -10,7 +10,7 @@ stands, which those of its must-fail edits begin with), edits (checks with an ed
 and run (programs and tests). What belongs to no crate, as `rt` itself, stands in a row of its own.
 
 Only the processes below the watched one count, also where they lead a session of their own or outlive the one that started
-them. /proc is read twice a second: the last reading of each process counts. What a process used after its last reading is in
+them; the watch itself doesn't, so that a script can have itself watched. /proc is read twice a second: the last reading of each process counts. What a process used after its last reading is in
 what its parent is told when it ends; that much is given to the children that ended in that half second, in equal shares. So the
 sums are those of the system; a row can be wrong by half a second for each process that ended, and a process too short to be
 seen is in the row of its parent. What a watched run did before the watch began and has ended is in no row, only in the sums.
@@ -202,7 +202,7 @@ class Watch:
         found, left = {}, roots[::-1]
         while left:
             pid = left.pop()
-            if pid not in found:
+            if pid not in found and pid != os.getpid():
                 found[pid] = True
                 left += below.get(pid, [])
         return list(found)

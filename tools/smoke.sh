@@ -84,7 +84,7 @@ check "no words: status 2" ends 2 'replay or load'
 check "a word that isn't known: status 2" ends 2 '--rooms' replay --rooms 1
 check "a load: status 0" ends 0 'requests 19' load --seed 1 --steps 20
 check "a load without steps: status 2" ends 2 '--steps' load --seed 1
-check "an option is missing: status 2" ends 2 '--conns' serve --listen 8000 --vcl x --workers 1
+check "an option is missing: status 2" ends 2 '--workers' serve --listen 8000 --vcl x --conns 1
 given "$request" 'nothing' end
 check "a line without a meaning: status 3" ends 3 'line 2 kind 2' replay
 given "$request" end
@@ -214,10 +214,19 @@ taker=$!
 rude upload "$bearing_port" &
 upload=$!
 
+# One that serves as many connections as come: a client that is idle or slow keeps no worker.
+open_port=$(free_port)
+VARN_STOP=$work/open_stop "$program" serve --listen "$open_port" --vcl "$work/site.vcl" --workers 2 \
+  > "$work/open_out" 2> "$work/open_errors" &
+open=$!
+holds() { listens_at "$open_port" $open && rude hold "$open_port"; }
+holds &
+hold=$!
+
 # One with so few descriptors that there is room for some two connections beside its port.
 printf 'vcl 4.1;\nbackend default none;\nsub vcl_recv { return (synth(200)); }\n' > "$work/synth.vcl"
 crowded_port=$(free_port)
-(ulimit -n 6 && VARN_STOP=$work/crowd_stop exec "$program" serve --listen "$crowded_port" --vcl "$work/synth.vcl" --workers 4 --conns 1000) \
+(ulimit -n 8 && VARN_STOP=$work/crowd_stop exec "$program" serve --listen "$crowded_port" --vcl "$work/synth.vcl" --workers 4 --conns 1000) \
   > "$work/crowded_out" 2> "$work/crowded_errors" &
 crowded=$!
 crowds() { listens_at "$crowded_port" $crowded && rude crowd "$crowded_port"; }
@@ -340,6 +349,10 @@ check "the program ends, and tells its rounds" [ "$ended $(cat "$work/out")" = "
 # ---- the ruder clients, and ends before the last connection
 
 check "an upload that is refused sees its 400" bears upload $upload
+check "clients that are idle or slow keep no worker" bears hold $hold
+rude leave "$open_port" &
+leave=$!
+check "a client that asks for leave to send a body gets it" bears leave $leave
 check "descriptors run out and come back" bears crowd $crowd
 check "a request that drips in is ended after half a minute" bears drip $drip
 check "a client that takes nothing is ended after half a minute" bears taker $taker
@@ -365,6 +378,8 @@ done
 : > "$work/stop"
 check "an idle connection ends once the stop file is there" bears idle $idle
 check "a run ends once its stop file is there" stopped $bearing "$work/bearing_out" "$work/bearing_errors"
+: > "$work/open_stop"
+check "so does one that serves as many connections as come" stopped $open "$work/open_out" "$work/open_errors"
 : > "$work/crowd_stop"
 check "so does one that was short of descriptors" stopped $crowded "$work/crowded_out" "$work/crowded_errors"
 

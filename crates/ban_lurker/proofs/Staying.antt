@@ -101,7 +101,7 @@ known_stays params number mark state object (entry ∷ entries) stopped =
     ap (λ (known : Option Object). known_behind params number mark next known entries) kept
     ∙ known_stays params number mark next object entries (stopped_by mark state next (next_grow params state entry) stopped)
 
-known-append : (params : Params) (number mark : ℕ) (state : State) (known : Option Object) (entries more : List Entry)
+pub known-append : (params : Params) (number mark : ℕ) (state : State) (known : Option Object) (entries more : List Entry)
     → known_behind params number mark state known (entries ++ more) ≡ known_behind params number mark (reached_from params state entries) (known_behind params number mark state known entries) more
 known-append params number mark state known [] more = refl
 known-append params number mark state known (entry ∷ entries) more =

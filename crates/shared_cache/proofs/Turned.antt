@@ -5,24 +5,14 @@ use Rattle.cache_law.specs.declared.call.Entry.{Entry}
 use Rattle.cache_law.specs.Beginning.{Beginning}
 use Rattle.turnstile.specs.Knowledge.{Meets, saw}
 use Rattle.turnstile.proofs.Places.{meets_later}
-use Rattle.ban_lurker.specs.declared.chore.Chore.{Chore}
 use Rattle.ban_lurker.specs.declared.chore.Verdict.{Verdict}
-use Rattle.ban_lurker.specs.Verdicts.{IsChoreOf, IsVerdictOf, judged}
+use Rattle.ban_lurker.specs.Verdicts.{IsVerdictOf}
 use Rattle.ban_lurker.proofs.Staying.{verdict_stays}
 use Rattle.shared_cache.specs.Sharing.{CallerKnows, caller_of, made_before, numbers}
-use Rattle.shared_cache.specs.Lurking.{HasTurned, SeesChore, SeesVerdict}
+use Rattle.shared_cache.specs.Lurking.{HasTurned, SeesVerdict}
 use Rattle.shared_cache.proofs.Numbers.{numbers_are}
 
--- a turn that was passed by
-pub turned_by : (k held after : CallerKnows) (history : List Entry) → held ≡ saw k history → Meets caller_of k history → after ≡ held → HasTurned k after
-turned_by k held after history took meets back =
-    let is : after ≡ saw k history = back ∙ took in
-    let seen : after.seen ≡ history = ap (λ (z : CallerKnows). z.seen) is in
-    record {
-      knows = is ∙ ap (λ (l : List Entry). saw k l) (sym seen);
-      meets = subst (λ (l : List Entry). Meets caller_of k l) (sym seen) meets;
-    }
-
+-- two turns behind one another
 pub turned_twice : (k now after : CallerKnows) → HasTurned k now → HasTurned now after → HasTurned k after
 turned_twice k now after one two = record {
   knows = two.knows ∙ ap (λ (z : CallerKnows). saw z after.seen) one.knows;
@@ -34,23 +24,6 @@ numbers_turned k after turned =
     ap (λ (z : CallerKnows). numbers z) turned.knows
     ∙ (numbers_are (saw k after.seen)
     ∙ (ap (λ (places : List ℕ). map (λ place. made_before k + place) places) turned.meets.mine ∙ sym (numbers_are k)))
-
-pub chore_seen : (k held after : CallerKnows) (history : List Entry) (beginning : Beginning) (chore : Chore) → held ≡ saw k history → after ≡ held
-    → k.setting ≡ Some beginning → IsChoreOf beginning history chore → SeesChore chore after
-chore_seen k held after history beginning chore took back begins of_history =
-    let is : after ≡ saw k history = back ∙ took in record {
-      beginning = beginning;
-      begins = ap (λ (z : CallerKnows). z.setting) is ∙ begins;
-      of_history = subst (λ (l : List Entry). IsChoreOf beginning l chore) (sym (ap (λ (z : CallerKnows). z.seen) is)) of_history;
-    }
-
-pub judged_seen : (k : CallerKnows) (chore : Chore) → SeesChore chore k → SeesVerdict (judged chore) k
-judged_seen k chore sees =
-    let is = sees.of_history in record {
-      beginning = sees.beginning;
-      begins = sees.begins;
-      of_history = record { issued = is.issued; some = is.some; object = chore.view.object; looks = is.looks; dead = is.bans };
-    }
 
 -- the verdict is of the history that the pass finds in its turn
 pub verdict_met : (k : CallerKnows) (history : List Entry) (beginning : Beginning) (verdict : Verdict) → SeesVerdict verdict k → Meets caller_of k history
