@@ -1,9 +1,10 @@
 #!/usr/bin/env python3
 """Checks that crates.txt lists for each crate what the crate names and no more: a crate that is listed costs each proof
-time, used or not, and a crate's stamp is counted once for each path to it.
+time, used or not, and a crate's stamp is counted once for each path to it; one that is named and not listed, the prover
+refuses, but only once it comes to it.
 
-A crate is named where its sources, specs or proofs have `NAME::` or `Rattle.NAME.` outside of comments; what it names and
-crates.txt doesn't list, the check refuses. Prints each crate that is listed and not named; exits 1 if there is one.
+A crate is named where its sources, specs or proofs have `NAME::` or `Rattle.NAME.` outside of comments, and no module of
+its own has that name. Prints each crate that is listed and not named, or named and not listed; exits 1 if there is one.
 """
 import re
 import sys
@@ -31,15 +32,22 @@ def is_named(name, text):
     return re.search(rf"\b{name}::|\bRattle\.{name}\.", text) is not None
 
 
+def modules_of(crate):
+    """The names of the crate's own modules."""
+    return {path.stem for path in (ROOT / "crates" / crate / "src").rglob("*.rt")}
+
+
 def main():
-    unnamed = 0
-    for crate, names in listed():
+    crates, wrong = list(listed()), []
+    every = {crate for crate, _ in crates}
+    for crate, names in crates:
         text = text_of(crate)
-        for name in names:
-            if not is_named(name, text):
-                unnamed += 1
-                print(f"crates.txt: {crate} doesn't name {name}")
-    return 1 if unnamed else 0
+        wrong += [f"{crate} doesn't name {name}" for name in names if not is_named(name, text)]
+        others = sorted(every - {crate, *names, *modules_of(crate)})
+        wrong += [f"{crate} names {name}, and it isn't listed there" for name in others if is_named(name, text)]
+    for line in wrong:
+        print(f"crates.txt: {line}")
+    return 1 if wrong else 0
 
 
 if __name__ == "__main__":

@@ -130,7 +130,8 @@ def crate_in(path):
 
 
 def booking_of_rattle(words, folder):
-    """Books a command of the prover, which `rt` starts in the crate's folder, or for an edit in a copy of it."""
+    """Books a command of the prover, which `rt` starts in the crate's folder, or for an edit in a copy of it; where the system
+    doesn't tell the folder, an edit that is tried over kept work is told by that."""
     if "--help" in words:
         return None
     if "fmt" in words[:2]:
@@ -138,7 +139,7 @@ def booking_of_rattle(words, folder):
     if "--crate-name" not in words[:-1]:
         return None
     crate = words[words.index("--crate-name") + 1]
-    if re.search(r"/rt-edit-\d+-", folder):
+    if any(re.search(r"/rt-edits?-\d+-", it) for it in [folder, *words]):
         return crate, "seeds" if any(it.endswith("/seed") for it in words) else "edits"
     if "--test" in words:
         return crate, "tests"
