@@ -8,6 +8,7 @@ mod help;
 mod lines;
 mod refusals;
 mod showing;
+mod varnish_names;
 mod words;
 
 pub use help::Help;

@@ -1,4 +1,5 @@
 // Why a VCL or a session is refused.
+use crate::varnish_names::advice_on;
 use crate::{Shown, show};
 use std::alloc::{AllocError, Global};
 use units::Text;
@@ -44,6 +45,40 @@ fn cause_at(kind: Refusal, rest: &[u8]) -> &'static str {
     }
 }
 
+// Whether the byte may stand in a name or before an attribute's.
+fn is_of_name(byte: u8) -> bool {
+    byte.is_ascii_alphanumeric() || matches!(byte, b'_' | b'-' | b'.')
+}
+
+// The name at the place, and the dot before it if there is one.
+fn name_at(text: &[u8], place: usize) -> &str {
+    let start = match place.checked_sub(1) {
+        Some(before) if text.get(before) == Some(&b'.') => before,
+        _ => place,
+    };
+    let rest = text.get(start..).unwrap_or_default();
+    let end = rest
+        .iter()
+        .position(|byte| !is_of_name(*byte))
+        .unwrap_or(rest.len());
+    str::from_utf8(rest.get(..end).unwrap_or_default()).unwrap_or("")
+}
+
+// What is wrong at the place, and what to write for a name that Varnish has.
+fn cause_with_advice(
+    alloc: Global,
+    text: &[u8],
+    place: usize,
+    kind: Refusal,
+) -> Result<String, AllocError> {
+    if matches!(kind, Refusal::Unknown) {
+        if let Some(advice) = advice_on(name_at(text, place)) {
+            return format!(in alloc; "varn has no such name; what to write in its place: {advice}");
+        }
+    }
+    String::from_str(alloc, cause_at(kind, text.get(place..).unwrap_or_default()))
+}
+
 fn shown_refusal(
     alloc: Global,
     file: &str,
@@ -56,7 +91,8 @@ fn shown_refusal(
     format!(in alloc; "{file}, line {line}, column {column}: {cause}\n{text}\n{caret}")
 }
 
-/// Why the VCL of a file is refused, with the line of its text and a caret under the place.
+/// Why the VCL of a file is refused, with the line of its text and a caret under the place. For a name of Varnish's that isn't here it
+/// has what to write in its place.
 pub fn vcl_refusal(
     alloc: Global,
     file: &Text,
@@ -66,8 +102,8 @@ pub fn vcl_refusal(
 ) -> Result<String, AllocError> {
     let file = String::from_utf8_lossy(alloc, file.bytes())?;
     let shown = show(alloc, text.bytes(), place as usize)?;
-    let rest = text.bytes().get(place as usize..).unwrap_or_default();
-    shown_refusal(alloc, file.as_str(), &shown, cause_at(kind, rest))
+    let cause = cause_with_advice(alloc, text.bytes(), place as usize, kind)?;
+    shown_refusal(alloc, file.as_str(), &shown, cause.as_str())
 }
 
 /// Why the VCL of a file is refused whose text can't be shown.
