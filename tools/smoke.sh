@@ -271,6 +271,12 @@ took=$((SECONDS - begun))
 comes_soon() { [ $took -lt 3 ] && gets 200 '/beside asked 1 times'; }
 check "a page beside a silent client and a backend that stalls" comes_soon
 
+# told LINE: the server has said this line on standard error, once
+told() {
+  cp "$work/errors" "$work/reply"
+  [ "$(grep --count --line-regexp --fixed-strings -- "$1" "$work/errors")" = 1 ]
+}
+
 # ---- one after another
 
 ask "$site/page"
@@ -296,6 +302,7 @@ ask "$site/tag"
 check "a page that its backend confirms" gets 200 'ETag: "tag"' '/tag asked 1 times'
 ask "$site/down"
 check "a backend that is down" gets 503 '503 Backend fetch failed'
+check "it is told once" told "the backend 127.0.0.1:$nobody can't be reached"
 ask --interface 127.0.0.2 --request PURGE "$site/page"
 check "a purge refused" gets 405 '405 Not allowed'
 ask "$site/page"
@@ -359,7 +366,7 @@ check "a client that takes nothing is ended after half a minute" bears taker $ta
 
 # stopped PROCESS OUT ERRORS: the process ends in time, with 0 and a line of rounds
 stopped() {
-  for _ in {1..200}; do
+  for _ in {1..400}; do
     kill -0 "$1" 2> /dev/null || break
     sleep 0.05
   done

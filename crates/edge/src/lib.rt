@@ -7,6 +7,7 @@
 
 mod client;
 mod client_pace;
+mod holding;
 mod outside;
 mod places;
 mod port_link;

@@ -446,13 +446,8 @@ impl<R: Outside> Turning<R> {
             place.phase = Phase::Taking;
             place.mark = client.untaken() as u64;
             client.since = since;
-            self.await_room(index);
+            self.await_news(index, Interest::WRITABLE);
         }
-    }
-
-    // Has the system tell when a client takes more.
-    fn await_room(&mut self, index: usize) {
-        self.await_news(index, Interest::WRITABLE);
     }
 
     // Has the system tell of a connection.
@@ -492,21 +487,13 @@ impl<R: Outside> Turning<R> {
         }
         let is_answered = client.has_answered && !client.is_over();
         let has_request = goes_on && client.has_request(alloc);
-        if has_request {
-            self.give(index);
-        } else if goes_on {
-            self.await_next(index, was_taking);
-        } else if is_answered {
-            self.begin_closing(index);
-        } else {
-            self.release(index);
-        }
-    }
-
-    // Has the system tell of requests again, where it told of room for what waited.
-    fn await_next(&mut self, index: usize, was_taking: bool) {
-        if was_taking {
-            self.await_news(index, Interest::READABLE);
+        match (goes_on, has_request, was_taking, is_answered) {
+            (true, true, _, _) => self.give(index),
+            // The system told of room for what waited.
+            (true, false, true, _) => self.await_news(index, Interest::READABLE),
+            (true, false, false, _) => {}
+            (false, _, _, true) => self.begin_closing(index),
+            (false, _, _, false) => self.release(index),
         }
     }
 

@@ -1,7 +1,7 @@
 // The outside of a program: the system's sockets, files and clock.
 ghost use Rattle.std.specs.Prelude.{◌≡◌, false, None, IfOk};
 
-use crate::known_names::{KnownNames, begin_names};
+use crate::backends::{Backends, begin_backends};
 use crate::{SystemClock, SystemShelf, TcpDialer};
 use edge::{Edge, Outside, PortLink, PortListener, begin_loop, tell};
 use mio::net::TcpListener;
@@ -32,8 +32,8 @@ pub struct SystemWorld<R: Drop> {
     pub gives_stretches: bool,
     /// What its workers share with the loop, once it has begun.
     edge: Option<Arc<Edge, Global>>,
-    /// What its dialers know of hosts, once that has begun.
-    names: Option<Arc<KnownNames, Global>>,
+    /// What its dialers share, once that has begun.
+    backends: Option<Arc<Backends, Global>>,
 }
 
 impl<R: Drop> SystemWorld<R> {
@@ -56,7 +56,7 @@ impl<R: Drop> SystemWorld<R> {
             stop_file: None,
             gives_stretches: false,
             edge: None,
-            names: None,
+            backends: None,
         }
     }
 }
@@ -70,7 +70,7 @@ impl<R: Outside + Threads + Send + 'static> SystemWorld<R> {
             None => None,
         };
         self.edge = Some(begin_loop(&self.rt, file)?);
-        self.names = Some(begin_names(&self.rt)?);
+        self.backends = Some(begin_backends(&self.rt)?);
         Ok(())
     }
 }
@@ -144,9 +144,9 @@ impl<R: Outside + Files + Send> World for SystemWorld<R> {
     }
 
     fn kit(&mut self) -> Result<Kit<TcpDialer<R>, SystemClock<R>>, AllocError> {
-        let names = self.names.as_ref().ok_or(AllocError)?;
+        let backends = self.backends.as_ref().ok_or(AllocError)?;
         Ok(Kit {
-            dialer: TcpDialer::new(self.rt, Arc::try_clone(names)?),
+            dialer: TcpDialer::new(self.rt, Arc::try_clone(backends)?),
             clock: SystemClock::new(self.rt),
         })
     }
