@@ -1,1 +1,1 @@
-mod InRange
+pub mod InRange
