@@ -1,0 +1,2 @@
+pub mod AllResults
+pub mod FirstNamed

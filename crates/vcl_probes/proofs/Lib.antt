@@ -1,0 +1,2 @@
+mod AllInRange
+pub mod PartsOfLists
