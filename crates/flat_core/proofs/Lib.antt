@@ -1,4 +1,3 @@
-pub mod Passes
 pub mod Objects
 pub mod MadeRoom
 pub mod Scans
@@ -6,11 +5,9 @@ pub mod Bannings
 pub mod Tested
 pub mod Uses
 pub mod Purges
-pub mod Choosing
-pub mod Findings
-pub mod Reserves
 pub mod Replies
-pub mod Steps
+pub mod Standing
+pub mod Placings
 pub mod Cuts
 pub mod Struck
 pub mod Crossing

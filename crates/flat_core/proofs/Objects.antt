@@ -1,20 +1,19 @@
 -- What is done with the objects in memory is done with those of the law.
-use Rattle.std.proofs.Common.{◌≡◌, ℕ, Bool, true, false, not, cond, List, [], ◌∷◌, ◌++◌, ◌+◌, ◌≤◌, ◌<◌, zero, suc, ◌&&◌, ◌||◌, ◌==◌, length, take, drop, get_or, add-one, append_assoc, find, filter, map, Option, Some, None, refl, arith, sym, ap, ◌∙◌}
+use Rattle.std.proofs.Common.{◌≡◌, ℕ, Bool, true, false, not, cond, List, [], ◌∷◌, ◌++◌, ◌+◌, ◌≤◌, ◌<◌, zero, suc, ◌&&◌, ◌||◌, ◌==◌, length, take, drop, get_or, add-one, append_assoc, filter, map, Option, Some, None, refl, arith, sym, ap, ◌∙◌}
 use Rattle.std.specs.List.{list_all, list_any}
 use Rattle.std.proofs.lemmas.Bool.{and_parts, le-ltb}
-use Rattle.std.specs.Option.{option_map_or, option_or}
-use Rattle.std.proofs.lemmas.List.Folds.{find-append}
+use Rattle.std.specs.Option.{option_map_or}
 use Rattle.cache_law.specs.declared.ban.Issued.{Issued}
 use Rattle.cache_law.specs.Object.{in_time}
 use Rattle.cache_law.specs.BansAtOnce.{cleared}
 use Rattle.cache_law.specs.Bases.{AreFalling}
 use Rattle.cache_law.specs.State.{Held, those_in_time, without_stale, inherited}
-use Rattle.cache_law.specs.Lookup.{raised, counting, counted, touching, touched}
+use Rattle.cache_law.specs.Lookup.{counting, counted, touching, touched}
 use Rattle.flat_core.specs.declared.stored_object.StoredObject.{StoredObject}
 use Rattle.flat_core.specs.declared.stored_object.Fate.{Fate}
 use Rattle.flat_core.specs.declared.stored_object.Fate.TheVariants.{Stays, Tested, Goes}
 use Rattle.flat_core.specs.StoredObject.{is_waiting, since, waiting, held_of, held_all, left_of, settled, held_left, settled_held, is_change, moved_on, stays, tested_for}
-use Rattle.flat_core.proofs.Passes.{at_next, drop_all, take_all}
+use Rattle.cache_frame.proofs.Passes.{at_next, drop_all, take_all}
 
 -- no ban was issued behind so many where all have lesser numbers
 pub since_low : (count bound : ℕ) (bans : List Issued) → bound ≤ count + 1 → AreFalling bound bans → since count bans ≡ []
@@ -118,13 +117,6 @@ pub held_all-settled : (issued : ℕ) (bans : List Issued) (fates : List Fate) (
 held_all-settled issued bans [] objects falling = refl
 held_all-settled issued bans (fate ∷ fates) [] falling = refl
 held_all-settled issued bans (fate ∷ fates) (kept ∷ objects) falling = one_left issued bans fate kept _ _ falling (held_all-settled issued bans fates objects falling)
-
--- what is found in a list is found in it and another behind it
-pub find-front : {X : Type 0} (p : X → Bool) (xs ys : List X) (x : X) → Some x ≡ find p xs → Some x ≡ find p (xs ++ ys)
-find-front p xs ys x e = ap (λ o. option_or o (find p ys)) e ∙ sym (find-append p xs ys)
-
-pub find-behind : {X : Type 0} (p : X → Bool) (xs ys : List X) (found : Option X) → None ≡ find p xs → found ≡ find p ys → found ≡ find p (xs ++ ys)
-find-behind p xs ys found none_ e = e ∙ ap (λ o. option_or o (find p ys)) none_ ∙ sym (find-append p xs ys)
 
 settled_none : (count : ℕ) (fates : List Fate) → settled count fates [] ≡ []
 settled_none count [] = refl

@@ -1,5 +1,5 @@
 -- A hit is counted, or a marker used, at one place: the law does it for each object of the number, of which there is one.
-use Rattle.std.proofs.Common.{◌≡◌, ◌≢◌, ℕ, Bool, true, false, cond, List, [], ◌∷◌, ◌++◌, ◌+◌, ◌<◌, ◌≤◌, ◌==◌, ◌&&◌, zero, suc, length, get_or, set, map, Option, Some, None, nat_lt, refl, arith, sym, ap, ◌∙◌, subst}
+use Rattle.std.proofs.Common.{◌≡◌, ◌≢◌, ℕ, Bool, true, false, cond, List, [], ◌∷◌, ◌+◌, ◌<◌, ◌≤◌, ◌==◌, ◌&&◌, zero, suc, length, get_or, set, map, Some, None, nat_lt, refl, arith, sym, ap, ◌∙◌, subst}
 use Rattle.std.specs.List.{AllByRecursion, position, position_or_len}
 use Rattle.std.proofs.lemmas.Bool.{cond-true, cond-false, eqb-true, ltb-false, ne_eqb}
 use Rattle.std.proofs.lemmas.List.Quantifiers.{position-Some}
@@ -13,7 +13,9 @@ use Rattle.cache_law.specs.Lookup.{raised, counted, touched}
 use Rattle.flat_core.specs.declared.stored_object.StoredObject.{StoredObject}
 use Rattle.flat_core.specs.declared.stored_object.Fate.{Fate}
 use Rattle.flat_core.specs.declared.stored_object.Fate.TheVariants.{Stays, Tested, Goes}
-use Rattle.flat_core.specs.StoredObject.{AreTested, counted_at, counting_in, first_changed, held_all, held_left, held_of, is_of, settled, settled_held, touched_at, touching_in}
+use Rattle.flat_core.specs.StoredObject.{AreTested, counted_at, first_changed, held_all, held_of, is_of, settled, settled_held, touched_at, using_in}
+use Rattle.cache_frame.specs.declared.seen.Use.{Use}
+use Rattle.cache_frame.specs.declared.seen.Use.TheVariants.{Nothing, Hit, Marker}
 use Rattle.flat_core.proofs.Objects.{held_all-settled}
 
 -- ---- in memory
@@ -61,13 +63,10 @@ module _ (test : StoredObject → Bool) (change : StoredObject → StoredObject)
   changed_tested issued same (kept ∷ objects) tested =
       changed_one issued (test kept) (change kept) kept objects _ (omega (arith, same kept, tested.0)) tested.0 tested.1 (changed_tested issued same objects tested.1)
 
-pub counting_tested : (issued now place : ℕ) (number : Option ℕ) (objects : List StoredObject) → AreTested issued objects → AreTested issued (counting_in now place number objects)
-counting_tested issued now place None objects tested = tested
-counting_tested issued now place (Some number) objects tested = changed_tested (is_of now number) (counted_at place) issued (λ kept. refl) objects tested
-
-pub touching_tested : (issued now place : ℕ) (number : Option ℕ) (objects : List StoredObject) → AreTested issued objects → AreTested issued (touching_in now place number objects)
-touching_tested issued now place None objects tested = tested
-touching_tested issued now place (Some number) objects tested = changed_tested (is_of now number) (touched_at place) issued (λ kept. refl) objects tested
+pub using_tested : (issued now place : ℕ) (use_ : Use) (objects : List StoredObject) → AreTested issued objects → AreTested issued (using_in now place use_ objects)
+using_tested issued now place Nothing objects tested = tested
+using_tested issued now place (Hit number) objects tested = changed_tested (is_of now number) (counted_at place) issued (λ kept. refl) objects tested
+using_tested issued now place (Marker number) objects tested = changed_tested (is_of now number) (touched_at place) issued (λ kept. refl) objects tested
 
 -- ---- by the law
 

@@ -3,6 +3,5 @@ pub mod Room
 pub mod Scans
 pub mod Banning
 pub mod Purging
-pub mod Found
-pub mod Step
-pub mod Plain
+pub mod Shelf
+pub mod Rests

@@ -10,6 +10,8 @@ use Rattle.cache_law.specs.BansAtOnce.{cleared}
 use Rattle.cache_law.specs.Lookup.{raised}
 use Rattle.cache_law.specs.State.{Held}
 use Rattle.cache_law.specs.Bases.{AreFalling}
+use Rattle.cache_frame.specs.declared.seen.Use.{Use}
+use Rattle.cache_frame.specs.declared.seen.Use.TheVariants.{Nothing, Hit, Marker}
 use Rattle.flat_core.specs.declared.stored_object.StoredObject.{StoredObject}
 use Rattle.flat_core.specs.declared.stored_object.Fate.{Fate}
 use Rattle.flat_core.specs.declared.stored_object.Fate.TheVariants.{Stays, Tested, Goes}
@@ -90,17 +92,15 @@ first_changed test change (kept ∷ objects) = if test kept then change kept ∷
 abbrev pub counted_at : ℕ → StoredObject → StoredObject
 counted_at place kept = record kept { view = raised kept.view; used = place }
 
-abbrev pub counting_in : ℕ → ℕ → Option ℕ → List StoredObject → List StoredObject
-counting_in now place None objects = objects
-counting_in now place (Some number) objects = first_changed (is_of now number) (counted_at place) objects
-
 -- the object was used at this place
 abbrev pub touched_at : ℕ → StoredObject → StoredObject
 touched_at place kept = record kept { used = place }
 
-abbrev pub touching_in : ℕ → ℕ → Option ℕ → List StoredObject → List StoredObject
-touching_in now place None objects = objects
-touching_in now place (Some number) objects = first_changed (is_of now number) (touched_at place) objects
+-- what a lookup used in memory
+abbrev pub using_in : ℕ → ℕ → Use → List StoredObject → List StoredObject
+using_in now place Nothing objects = objects
+using_in now place (Hit number) objects = first_changed (is_of now number) (counted_at place) objects
+using_in now place (Marker number) objects = first_changed (is_of now number) (touched_at place) objects
 
 -- the object stays where one takes the place of the stale one
 abbrev pub stays : Option ℕ → StoredObject → Bool

@@ -4,8 +4,9 @@ ghost use Rattle.cache_law.specs.Object.{size_of};
 ghost use Rattle.cache_law.specs.Room.{most_displaced};
 ghost use Rattle.flat_core.specs.Room.{HasNone, MakesRoom, goes_before, least_used, least_with, size_staying, sizes_staying, stays_from};
 
-use crate::lists::{least_of, stays};
+use crate::lists::stays;
 use crate::stored_object::StoredObject;
+use cache_frame::least_of;
 use cache_law::{Object, object_size};
 use std::collections::VecDeque;
 

@@ -12,7 +12,7 @@ pub(crate) struct StoredObject {
 
 /// What becomes of an object.
 #[derive(Clone, Copy, Debug)]
-pub(crate) enum Fate {
+pub enum Fate {
     Stays,
     /// It was tested on all bans that there are.
     Tested,

@@ -1,0 +1,6 @@
+pub mod Desk
+pub mod Stock
+pub mod Shelves
+pub mod Found
+pub mod Step
+pub mod Framed

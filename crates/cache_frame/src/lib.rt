@@ -1,0 +1,23 @@
+//! What every cache has in common, whatever it keeps its objects in: a cache is a desk and a shelf.
+//!
+//! Contract for the layer above: on the desk are the rounds, the fetches, the VCLs, the counters and the healths, with the
+//! calls that concern these alone. A `Shelf` has the objects and the bans, and stands for those of the law. `Framed` puts a
+//! shelf beside a desk, and is a `CacheCore` and a `LurkCore` for any shelf that meets the clauses of its trait.
+#![tactic(auto)]
+
+mod answer;
+mod calls;
+mod desk;
+mod finding;
+mod framed;
+mod picking;
+mod rounds;
+mod seen;
+mod shelf;
+mod vcls;
+
+pub use answer::Answer;
+pub use framed::Framed;
+pub use rounds::least_of;
+pub use seen::{Placing, Seen, Use};
+pub use shelf::Shelf;
