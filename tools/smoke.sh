@@ -271,10 +271,11 @@ took=$((SECONDS - begun))
 comes_soon() { [ $took -lt 3 ] && gets 200 '/beside asked 1 times'; }
 check "a page beside a silent client and a backend that stalls" comes_soon
 
-# told LINE: the server has said this line on standard error, once
+# told LINE [FILE]: the server has said this line on standard error, which is that file, once
 told() {
-  cp "$work/errors" "$work/reply"
-  [ "$(grep --count --line-regexp --fixed-strings -- "$1" "$work/errors")" = 1 ]
+  local errors=${2:-$work/errors}
+  cp "$errors" "$work/reply"
+  [ "$(grep --count --line-regexp --fixed-strings -- "$1" "$errors")" = 1 ]
 }
 
 # ---- one after another
@@ -385,6 +386,12 @@ done
 : > "$work/stop"
 check "an idle connection ends once the stop file is there" bears idle $idle
 check "a run ends once its stop file is there" stopped $bearing "$work/bearing_out" "$work/bearing_errors"
+check "and says why" told "the run is to end: its stop file is there" "$work/bearing_errors"
+kill -STOP $open
+sleep 0.5
+kill -CONT $open
+ask "http://127.0.0.1:$open_port/page"
+check "a run that was stopped for a while goes on" gets 200
 : > "$work/open_stop"
 check "so does one that serves as many connections as come" stopped $open "$work/open_out" "$work/open_errors"
 : > "$work/crowd_stop"
@@ -397,6 +404,7 @@ if env --block-signal=TERM true 2> /dev/null; then
   term=$!
   listens_at "$term_port" $term && kill -TERM $term
   check "a run that blocks SIGTERM ends in order by it" stopped $term "$work/term_out" "$work/term_errors"
+  check "and says so" told "the run is to end: SIGTERM came" "$work/term_errors"
 fi
 echo "$passed passed, $failed failed"
 [ $failed = 0 ]

@@ -146,6 +146,7 @@ impl<R: Outside> Turning<R> {
         let rt = self.rt;
         for _ in rt.forever() {
             if self.turn(events).is_err() {
+                tell(&self.rt, "the run is to end: a call of the system's failed");
                 self.edge.end(&self.rt, true);
                 break;
             }
@@ -170,7 +171,13 @@ impl<R: Outside> Turning<R> {
     // Waits until something comes, and does what is to be done then.
     fn turn(&mut self, events: &mut Events<Global>) -> io::Result<()> {
         let patience = Duration::from_millis(self.patience());
-        self.poll.poll(events, Some(patience))?;
+        if let Err(error) = self.poll.poll(events, Some(patience)) {
+            // So it is where the process was stopped and goes on.
+            return match error.kind() {
+                ErrorKind::Interrupted => Ok(()),
+                _ => Err(error),
+            };
+        }
         self.now = self.edge.now(&self.rt);
         self.is_retired = self.edge.is_retired();
         self.take_listener()?;
@@ -255,7 +262,13 @@ impl<R: Outside> Turning<R> {
                 self.tell_shortage(true);
                 self.resume = self.now.saturating_add(PAUSE_MILLIS);
             }
-            Remedy::GiveUp => self.close_listener(true),
+            Remedy::GiveUp => {
+                tell(
+                    &self.rt,
+                    "the run is to end: no connection can be accepted any more",
+                );
+                self.close_listener(true);
+            }
         }
         false
     }
@@ -563,12 +576,10 @@ impl<R: Outside> Turning<R> {
     fn reason_to_end(&self) -> Option<&'static str> {
         if self.is_retired {
             Some("")
-        } else if self.edge.stop.is_seen() {
-            Some("the run is to end: no more connections are accepted")
         } else if self.edge.is_mute() {
             Some("the run is to end: requests aren't answered any more")
         } else {
-            None
+            self.edge.stop.reason()
         }
     }
 
