@@ -169,7 +169,8 @@ sub vcl_deliver {
 }
 VCL
 
-"$program" serve --listen "$port" --vcl "$work/site.vcl" --workers 4 --conns $connections > "$work/out" 2> "$work/errors" &
+VARN_ACCESS_LOG=$work/access "$program" serve --listen "$port" --vcl "$work/site.vcl" --workers 4 --conns $connections \
+  > "$work/out" 2> "$work/errors" &
 server=$!
 # A try that finds nobody at the port makes no connection.
 for _ in {1..200}; do
@@ -203,7 +204,7 @@ bears() {
 }
 
 bearing_port=$(free_port)
-VARN_STOP=$work/stop "$program" serve --listen "$bearing_port" --vcl "$work/site.vcl" --workers 8 --conns 1000 \
+VARN_STOP=$work/stop VARN_ACCESS_LOG=$work "$program" serve --listen "$bearing_port" --vcl "$work/site.vcl" --workers 8 --conns 1000 \
   > "$work/bearing_out" 2> "$work/bearing_errors" &
 bearing=$!
 check "a second server listens" listens_at "$bearing_port" $bearing
@@ -277,6 +278,17 @@ told() {
   cp "$errors" "$work/reply"
   [ "$(grep --count --line-regexp --fixed-strings -- "$1" "$errors")" = 1 ]
 }
+# logs PATTERN: a line like this comes in the log, which is written each second
+logs() {
+  for _ in {1..80}; do
+    grep --quiet --line-regexp --extended-regexp -- "$1" "$work/access" 2> /dev/null && return 0
+    sleep 0.05
+  done
+  cp "$work/access" "$work/reply" 2> /dev/null
+  return 1
+}
+client='127\.0\.0\.. - - \[../.../20..:..:..:.. \+0000\]'
+agent='"curl/[^"]*" [0-9]+\.[0-9]{3}'
 
 # ---- one after another
 
@@ -288,6 +300,9 @@ check "a hit" gets 200 'X-Cache: HIT' '/page asked 1 times'
 ask --head "$site/page"
 check "a HEAD" gets 200 'X-Cache: HIT' 'Content-Length: [0-9]+'
 check "a HEAD has no body" has_no_body
+check "a miss is logged" logs "$client \"GET /page HTTP/1.1\" 200 20 \"-\" $agent miss [0-9]+"
+check "a hit is logged" logs "$client \"GET /page HTTP/1.1\" 200 20 \"-\" $agent hit [0-9]+"
+mv "$work/access" "$work/access.1"
 ask --data 'some words' "$site/form"
 check "a POST" gets 200 'X-Cache: MISS' 'some words' 'X-Times: 1'
 ask --data 'other words' "$site/form"
@@ -308,6 +323,7 @@ ask --interface 127.0.0.2 --request PURGE "$site/page"
 check "a purge refused" gets 405 '405 Not allowed'
 ask "$site/page"
 check "a refused purge leaves the page" gets 200 'X-Cache: HIT' '/page asked 1 times'
+check "the log goes on in a new file once it was renamed" logs "$client \"PURGE /page HTTP/1.1\" 405 [0-9]+ \"-\" $agent miss [0-9]+"
 
 while [ $((SECONDS - aged)) -lt 3 ]; do
   sleep 0.1
@@ -353,6 +369,10 @@ ended=$?
 cp "$work/errors" "$work/reply"
 # Every connection had one round, but for the silent one, which had two, and the one whose request can't be read.
 check "the program ends, and tells its rounds" [ "$ended $(cat "$work/out")" = "0 rounds $connections" ]
+# The request that can't be read has a line too.
+cat "$work/access.1" "$work/access" > "$work/reply"
+check "the log has a line of each request" [ "$(wc -l < "$work/reply")" = $((connections + 1)) ]
+check "a log that can't be written is told once" told "the access log can't be written: lines of it are lost" "$work/bearing_errors"
 
 # ---- the ruder clients, and ends before the last connection
 

@@ -7,6 +7,7 @@ use crate::remedies::{Remedy, remedy_for};
 use crate::shared::{Edge, Handed};
 use crate::stop_sign::StopSign;
 use crate::telling::tell;
+use access_log::AccessLog;
 use libc::types::rlimit;
 use libc::{RLIMIT_NOFILE, getrlimit};
 use mio::event::Event;
@@ -628,16 +629,18 @@ impl<R: Outside> Turning<R> {
 const MOST_EVENTS: usize = 1_024;
 
 /// A loop in a thread of its own, which waits for a listening socket; the request to end the run is looked for from this moment on.
+/// Workers add a line of each exchange to the log, if one is kept.
 pub fn begin_loop<R: Outside + Threads + Send + 'static>(
     rt: &R,
     stop_file: Option<Text>,
+    log: Option<Arc<AccessLog, Global>>,
 ) -> io::Result<Arc<Edge, Global>> {
     let alloc = rt.alloc();
     let poll = Poll::new(rt)?;
     let waker = Waker::new(poll.registry(), WAKER)?;
     let start = Instant::now(rt)?;
     let stop = StopSign::new(stop_file, start);
-    let edge = Arc::new(alloc, Edge::new(alloc, waker, start, stop))?;
+    let edge = Arc::new(alloc, Edge::new(alloc, waker, start, stop, log))?;
     let mut turning = Turning::new(*rt, Arc::try_clone(&edge)?, poll)?;
     let mut events = Events::with_capacity(alloc, MOST_EVENTS)?;
     match thread::spawn(rt, move || turning.run(&mut events)) {
