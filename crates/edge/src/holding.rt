@@ -5,6 +5,7 @@ ghost use Rattle.std.specs.Io.{ReadsAtMost, WritesAtMost};
 use crate::Outside;
 use crate::client::{Client, News};
 use crate::client_pace::Taking;
+use crate::noting::Noting;
 use crate::shared::{Edge, Handed};
 use crate::waiting::{has_news, has_room};
 use std::alloc::Global;
@@ -44,6 +45,7 @@ pub(crate) struct Holding<R: Outside> {
     /// Whether it ends between two requests, and the loop goes on with its connection.
     is_stretch: bool,
     taking: Taking,
+    noting: Noting,
     /// How many milliseconds were waited since the last write.
     waited: u64,
     /// Whether a read gives the end, since no further request is to come.
@@ -116,6 +118,7 @@ impl<R: Outside> Holding<R> {
             client: Some(client),
             is_stretch,
             taking: Taking::new(),
+            noting: Noting::new(),
             waited: 0,
             is_over: false,
             is_late: false,
@@ -124,10 +127,36 @@ impl<R: Outside> Holding<R> {
         }
     }
 
+    // Notes a request of which nothing was given yet, where a log is kept.
+    fn note_request(&mut self) {
+        if let (Some(client), true) = (&self.client, self.edge.log.is_some()) {
+            if let Some(request) = client.fresh() {
+                self.noting
+                    .begin(self.rt.alloc(), client.address, request, client.since);
+            }
+        }
+    }
+
+    // Notes what was sent.
+    fn note_sent(&mut self, piece: &[u8], answer: Result<usize, Failed>) {
+        if let (Ok(count), true) = (answer, self.edge.log.is_some()) {
+            let now = self.edge.now(&self.rt);
+            self.noting.add(self.rt.alloc(), piece, count, now);
+        }
+    }
+
+    // Adds the exchange that is over to the log.
+    fn log_exchange(&mut self) {
+        if let (Some(log), Some(exchange)) = (&self.edge.log, self.noting.end()) {
+            log.add(&self.rt, &exchange);
+        }
+    }
+
     /// Gives bytes of a request, or none where no further one is to come.
     pub fn read(&mut self, into: &mut [u8]) -> Result<usize, Failed>
         ensures bound { ReadsAtMost result into.new }
     {
+        self.note_request();
         let client = self.client.as_mut().ok_or(Failed)?;
         if self.is_late {
             return Err(Failed);
@@ -159,17 +188,27 @@ impl<R: Outside> Holding<R> {
         Ok(piece.len())
     }
 
+    // A write that waits until the client takes something.
+    fn write_waiting(&mut self, piece: &[u8]) -> Result<usize, Failed>
+        ensures bound { WritesAtMost result piece.now }
+    {
+        let client = self.client.as_mut().ok_or(Failed)?;
+        write_in_time(&self.rt, &self.edge, client, &mut self.taking, piece)
+    }
+
     /// Takes a piece of a response.
     pub fn write(&mut self, piece: &[u8]) -> Result<usize, Failed>
         ensures bound { WritesAtMost result piece.now }
     {
         self.waited = 0;
         self.is_answered = true;
-        if self.is_stretch {
-            return self.put(piece);
-        }
-        let client = self.client.as_mut().ok_or(Failed)?;
-        write_in_time(&self.rt, &self.edge, client, &mut self.taking, piece)
+        let answer = if self.is_stretch {
+            self.put(piece)
+        } else {
+            self.write_waiting(piece)
+        };
+        self.note_sent(piece, answer);
+        answer
     }
 
     // Has a read give the end, so that it answers at once; the loop may go on with the connection.
@@ -224,6 +263,7 @@ impl<R: Outside> Holding<R> {
 
     /// Gives the loop the connection back, which goes on with it or ends it; and whether a read failed.
     pub fn give_back(&mut self, has_failed: bool) {
+        self.log_exchange();
         if let Some(client) = self.client.take() {
             self.edge.count_end(self.is_answered || has_failed);
             let handed = Handed {
@@ -256,8 +296,9 @@ impl<R: Outside + Files> Holding<R> {
         self.linger(is_idle)
     }
 
-    /// Whether a read answers at once.
+    /// Whether a read answers at once. It is asked between two exchanges.
     pub fn is_ready(&mut self) -> bool {
+        self.log_exchange();
         self.is_over || self.is_late || self.has_more()
     }
 }
