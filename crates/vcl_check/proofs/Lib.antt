@@ -9,3 +9,4 @@ pub mod ReachingLemmas
 pub mod RefusedLemmas
 pub mod SentenceLemmas
 pub mod Whole
+pub mod FittingProbes

@@ -1,13 +1,13 @@
 -- What chains of parts mention, as a loop over their items does it.
 use Rattle.std.proofs.lemmas.List.{at_drop_all}
-use Rattle.std.proofs.Common.{◌≡◌, ◌≤◌, ℕ, length, drop, List, [], ◌∷◌, ◌++◌, refl, sym, ap, ◌∙◌, Option, None, append_assoc, append-nil}
+use Rattle.std.proofs.Common.{◌≡◌, ◌≤◌, ℕ, length, drop, List, [], ◌∷◌, refl, sym, ap, ◌∙◌, Option, None}
 use Rattle.vcl_tree.specs.Phrase as phrase
 use Rattle.vcl_tree.specs.Phrase.{Phrase, Label, Node, chain, list_of}
 use Rattle.vcl_tree.specs.ExpressionView.{sum_of, sum_label}
 use Rattle.vcl_tree.specs.declared.expression.Addend.{Addend}
 use Rattle.vcl_tree.specs.declared.expression.Addition.{Addition}
 use Rattle.vcl_tree.specs.declared.expression.Addition.TheVariants.{Plus, Minus}
-use Rattle.vcl_check.specs.Mentions.{Said, said_string, own_string, with_found, with_strings, with_mentions, parts}
+use Rattle.vcl_check.specs.Mentions.{Said, said_string, own_string, with_found, with_strings, with_mentions}
 
 abbrev pub with_each : List Said → List Phrase → List Said
 with_each before [] = before
@@ -45,14 +45,6 @@ chain-string label l a b (p ∷ ps) = chain-string label label (Node l a b) p ps
 pub sum-string : (l : Label) (a b : Phrase) (addends : List Addend) → said_string (sum_of (Node l a b) addends) ≡ None
 sum-string l a b [] = refl
 sum-string l a b (x ∷ xs) = sum-string (sum_label x.sign) (Node l a b) x.term xs
-
--- the parts of a list are its items
-parts-chain : (front : Phrase) (items : List Phrase) → parts (chain phrase.More front items) ≡ parts front ++ items
-parts-chain front [] = sym (append-nil (parts front))
-parts-chain front (p ∷ ps) = parts-chain (Node phrase.More front p) ps ∙ append_assoc (parts front) (p ∷ []) ps
-
-pub parts-list : (items : List Phrase) → parts (list_of items) ≡ items
-parts-list items = parts-chain phrase.Nothing items
 
 abbrev pub with_all : List ℕ → List Said → List Phrase → List Said
 with_all owner before [] = before

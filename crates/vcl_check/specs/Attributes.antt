@@ -19,6 +19,7 @@ use Rattle.vcl_check.specs.Calls.{unless}
 use Rattle.vcl_check.specs.Declarations.{is_number}
 use Rattle.vcl_check.specs.Folded.{numbered}
 use Rattle.vcl_symbols.specs.Known.{Known, symbol_named}
+use Rattle.vcl_attributes.specs.WindowNumbers.{misfit_place}
 use Rattle.vcl_check.specs.Known.{meaning_of}
 use Rattle.vcl_check.specs.Least.{fault_at, lesser}
 use Rattle.vcl_check.specs.Mentions.{parts}
@@ -77,9 +78,10 @@ twice_attribute names k _ = None
 abbrev pub probe_member : Known → List (List ℕ) → ℕ → Phrase → Option Fault
 probe_member known names k a = lesser (probe_attribute known a) (twice_attribute names k a)
 
--- the first fault among the attributes of a probe
+-- the first fault among the attributes of a probe; that the numbers of its window don't fit is one, too
 abbrev pub probe_fault : Known → List Phrase → Option Fault
-probe_fault known attributes = numbered (probe_member known (map attribute_name attributes)) 0 None attributes
+probe_fault known attributes =
+    numbered (probe_member known (map attribute_name attributes)) 0 (fault_at refusal.Kind (misfit_place attributes)) attributes
 
 -- an attribute of a backend: a probe is a name or attributes
 abbrev pub of_probe_named : Known → Bool → ℕ → List ℕ → Option Fault

@@ -3,6 +3,7 @@ pub mod Attributes
 pub mod Calls
 pub mod Declarations
 pub mod Faults
+pub mod FittingProbes
 pub mod Folded
 pub mod Items
 pub mod Kinds

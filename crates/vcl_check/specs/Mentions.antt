@@ -13,6 +13,7 @@ use Rattle.vcl_language.specs.declared.functions.Function.{Function}
 use Rattle.vcl_language.specs.declared.functions.Slot.{Slot}
 use Rattle.vcl_language.specs.declared.functions.Slot.TheVariants.{Needed}
 use Rattle.vcl_language.specs.declared.functions.Parameter.TheVariants.{Pattern}
+pub use Rattle.vcl_probes.specs.Parts.{parts}
 use Rattle.vcl_check.specs.declared.mentions.MentionKind.{MentionKind}
 use Rattle.vcl_check.specs.declared.mentions.MentionKind.TheVariants as kind
 
@@ -25,11 +26,6 @@ pub record Said : Type 0 where
 
 abbrev pub said : MentionKind → ℕ → List ℕ → List ℕ → Said
 said k p n o = record { kind = k; place = p; name = n; other = o }
-
--- the parts of a list
-abbrev pub parts : Phrase → List Phrase
-parts (phrase.Node phrase.More a b) = parts a ++ b ∷ []
-parts _ = []
 
 abbrev pub said_string : Phrase → Option Said
 said_string (phrase.String place text) = Some (said kind.Pattern place text [])

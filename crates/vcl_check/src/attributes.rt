@@ -17,6 +17,7 @@ use crate::rules::unless;
 use crate::seen::Meaning;
 use crate::told::{fault_at, lesser};
 use std::alloc::{AllocError, Global};
+use vcl_attributes::misfit_place;
 use vcl_language::{AttributeKind, Owner, attribute_named};
 use vcl_symbols::{NameIndex, Symbol, SymbolTable};
 use vcl_tree::{Attribute, AttributeValue, Fault, Name, Refusal};
@@ -132,7 +133,7 @@ pub fn probe_fault(
     ensures { IfOk result (λ found. found ≡ probe_fault tables.now attributes.now) }
 {
     let names = NameIndex::of(alloc, names_in(alloc, attributes)?)?;
-    let mut best = None;
+    let mut best = fault_at(Refusal::Kind, misfit_place(attributes));
     for (number, attribute) in attributes.iter().enumerate() {
         best = lesser(best, probe_member(tables, &names, number, attribute));
     }

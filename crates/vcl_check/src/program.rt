@@ -1,5 +1,7 @@
 // Sound texts, with what their runs need.
 ghost use Rattle.std.specs.Prelude.{◌≡◌, IfOk, IfErr, OnOk};
+ghost use Rattle.vcl_attributes.specs.BackendLimits.{limits_of};
+ghost use Rattle.vcl_probes.specs.TextProbes.{probes_of};
 ghost use Rattle.vcl_check.specs.Acls.{acls_in};
 ghost use Rattle.vcl_check.specs.Texts.{says, pattern_texts, IsSound, IsRefused};
 
@@ -8,9 +10,11 @@ use crate::mentions::says;
 use crate::patterns::pattern_texts;
 use acl_match::Acl;
 use std::alloc::{AllocError, Global};
-use units::Sequence;
+use units::{Sequence, out_of_memory};
+use vcl_attributes::{Limits, Probe, limits_of};
+use vcl_probes::probes_of;
 use vcl_symbols::NameIndex;
-use vcl_tree::{Refusal, Tree, VclError};
+use vcl_tree::{Item, Refusal, Tree, VclError};
 use vcl_values::Pattern;
 use vmod_host::{Stored, VmodTable};
 
@@ -25,6 +29,10 @@ pub struct Program {
     pub ghost sound: { ∥ IsSound tree.items stored ∥₁ },
     ghost patterned: { built.patterns.items ≡ pattern_texts (says tree.items) },
     ghost listed: { built.acls.items ≡ acls_in tree.items },
+    probes: Vec<Probe>,
+    limits: Vec<Limits>,
+    ghost probed: { probes.items ≡ probes_of tree.items },
+    ghost limited: { limits.items ≡ limits_of tree.items },
 }
 
 impl Program {
@@ -40,6 +48,20 @@ impl Program {
         ensures { result.now ≡ acls_in self.now.tree.items }
     {
         self.built.acls.as_slice()
+    }
+
+    /// The probes of the text's backends, in its order, with the usual values for what is left out.
+    pub fn probes(&self) -> &[Probe]
+        ensures { result.now ≡ probes_of self.now.tree.items }
+    {
+        self.probes.as_slice()
+    }
+
+    /// How long each backend of the text is waited for, and how many connections it is given, in its order.
+    pub fn limits(&self) -> &[Limits]
+        ensures { result.now ≡ limits_of self.now.tree.items }
+    {
+        self.limits.as_slice()
     }
 
     /// The texts of these patterns: one that is found in it has the number of its first pattern.
@@ -63,11 +85,13 @@ pub fn check(alloc: Global, tree: Tree, vmods: &VmodTable) -> Result<Program, Vc
         Ok(built) => built,
         Err(why) => return Err(given_up(tree, why)),
     };
-    match entries_of(alloc, vmods.stored.as_slice()) {
-        Ok(stored) => Ok(Program {
+    match kept_of(alloc, tree.items.as_slice(), vmods.stored.as_slice()) {
+        Ok(kept) => Ok(Program {
             tree,
-            stored,
+            stored: kept.stored,
             built,
+            probes: kept.probes,
+            limits: kept.limits,
         }),
         Err(_) => Err(given_up((tree, built), VclError::NoMemory)),
     }
@@ -109,6 +133,33 @@ fn built_of(alloc: Global, tree: &Tree, stored: &[Stored]) -> Result<Built, VclE
             }
         }
     }
+}
+
+// What a program keeps beside its tree and what is built of its strings.
+#[derive(Drop)]
+struct Kept {
+    stored: Sequence<Stored>,
+    probes: Vec<Probe>,
+    limits: Vec<Limits>,
+}
+
+fn kept_of(alloc: Global, items: &[Item], stored: &[Stored]) -> Result<Kept, AllocError>
+    ensures stored { IfOk result (λ kept. kept.stored ≡ stored.now) }
+    ensures probes { IfOk result (λ kept. kept.probes.items ≡ probes_of items.now) }
+    ensures limits { IfOk result (λ kept. kept.limits.items ≡ limits_of items.now) }
+{
+    let stored = entries_of(alloc, stored)?;
+    let Ok(probes) = probes_of(alloc, items) else {
+        return Err(out_of_memory(stored));
+    };
+    let Ok(limits) = limits_of(alloc, items) else {
+        return Err(out_of_memory((stored, probes)));
+    };
+    Ok(Kept {
+        stored,
+        probes,
+        limits,
+    })
 }
 
 // The same tags and signatures again.

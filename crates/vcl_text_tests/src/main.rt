@@ -10,6 +10,7 @@ ghost use Rattle.vmod_host.specs.Meanings.{IsMeaning};
 mod expressions;
 mod faults;
 mod items;
+mod probes;
 mod refusals;
 mod repeated;
 mod statements;
@@ -227,6 +228,7 @@ fn said(alloc: Global, vmods: &VmodTable, word: &str, row: &str) -> Result<Strin
         "items" => items::items_shown(alloc, row),
         "tokens" => tokens::tokens_shown(alloc, row),
         "alone" => tokens::alone_shown(alloc),
+        "probes" | "limits" => probes::servers_shown(alloc, vmods, word, row),
         "refusal" => faults::refusal_shown(alloc, row),
         "before" => faults::order_shown(alloc, row),
         _ => format!(in alloc; "no such row"),

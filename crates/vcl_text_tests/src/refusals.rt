@@ -3,7 +3,7 @@ use crate::repeated::expanded;
 use crate::unless_same;
 use std::alloc::{AllocError, Global};
 use units::Text;
-use vcl_check::check;
+use vcl_check::{Program, check};
 use vcl_parse::parse;
 use vcl_tree::{Tree, VclError};
 use vmod_host::VmodTable;
@@ -78,7 +78,11 @@ fn parsed(alloc: Global, text: &str) -> Result<(), VclError> {
 }
 
 fn checked(alloc: Global, vmods: &VmodTable, text: &str) -> Result<(), VclError> {
-    let tree = tree_of(alloc, text)?;
-    let _ = check(alloc, tree, vmods)?;
+    let _ = program_of(alloc, vmods, text)?;
     Ok(())
+}
+
+/// The program of a text.
+pub fn program_of(alloc: Global, vmods: &VmodTable, text: &str) -> Result<Program, VclError> {
+    check(alloc, tree_of(alloc, text)?, vmods)
 }

@@ -1,4 +1,4 @@
-use Rattle.vcl_check.proofs.MentionLemmas.{parts-list}
+use Rattle.vcl_probes.proofs.PartsOfLists.{parts-list}
 use Rattle.vcl_check.proofs.attributes.nested_fault.Goals as goal
 
 pub returns : goal.returns
