@@ -1,0 +1,9 @@
+pub mod Splits
+pub mod Found
+pub mod Waits
+pub mod Ties
+pub mod Changes
+pub mod Lines
+pub mod Sweeps
+pub mod Bannings
+pub mod Findings

@@ -1,0 +1,6 @@
+pub mod Members
+pub mod Found
+pub mod Tied
+pub mod Changes
+pub mod Testing
+pub mod Settling

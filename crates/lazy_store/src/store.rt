@@ -1,0 +1,185 @@
+// Objects and bans in their containers.
+ghost use Rattle.std.specs.Prelude.{◌≡◌, ◌≤◌, ◌<◌, ◌+◌, ◌^◌, true, find as seek, option_map, IfOk, OnErr, OnOk};
+ghost use Rattle.std.specs.List.{AllByRecursion};
+ghost use Rattle.std.specs.Option.{option_copied};
+ghost use Rattle.lazy_core.specs.Banning.{banned_late};
+ghost use Rattle.lazy_core.specs.Insertion.{has_number as is_numbered};
+ghost use Rattle.lazy_core.specs.Placed.{is_dead, kept_bans, nothing_kept};
+ghost use Rattle.lazy_core.specs.Stands.{IsWithin as TestedUpTo};
+ghost use Rattle.lazy_core.specs.Sweeping.{count_unswept, swept_lazy};
+ghost use Rattle.lazy_store.specs.Changes.{moved, without};
+ghost use Rattle.lazy_store.specs.Members.{number_in, placed_in};
+ghost use Rattle.lazy_store.specs.Tied.{AreApart};
+
+use crate::finding::find;
+use crate::placement::Placement;
+use crate::testing::is_matched;
+use crate::waiting::{fewer, with_mark};
+use ban_expr::object_only;
+use ban_list::{BanList, Stand};
+use cache_law::Ban;
+use object_heads::{Heads, Item};
+use room_lru::RoomLru;
+use std::alloc::{AllocError, Global};
+use std::marker::Model;
+use units::Shared;
+use xkey_index::XkeyIndex;
+
+/// The objects and bans of a lazy cache. Clauses see what it keeps as lists.
+#[derive(Drop)]
+pub struct Store {
+    heads: Heads<Placement>,
+    tagged: XkeyIndex,
+    room: RoomLru,
+    bans: BanList,
+    // where objects wait for the lurker, those whose mark is below this number do
+    newest: u64,
+    // how many wait
+    unswept: u64,
+}
+
+impl Model for Store {
+    ghost use Rattle.lazy_core.specs.Placed.{Lazy};
+    ghost use Rattle.lazy_store.specs.Members.{lazy_of};
+    ghost use Rattle.lazy_store.specs.Tied.{AreTied};
+
+    ghost Value = { Lazy };
+
+    ghost view = { λ store. lazy_of store.heads store.bans };
+
+    ghost invariant = { λ store. AreTied store.heads store.tagged store.room store.bans store.newest store.unswept };
+}
+
+impl Store {
+    /// No objects and no bans.
+    pub fn new(alloc: Global) -> Result<Store, AllocError>
+        ensures { IfOk result (λ store. store ≡ nothing_kept) }
+    {
+        let bans = BanList::new(alloc)?;
+        Ok(Store {
+            heads: Heads::new(alloc),
+            tagged: XkeyIndex::new(alloc),
+            room: RoomLru::new(alloc),
+            bans,
+            newest: 0,
+            unswept: 0,
+        })
+    }
+
+    /// How many bans were issued. No object was tested on more. It takes no memory.
+    pub fn issued(&self) -> u64
+        ensures count { result ≡ self.now.issued }
+        ensures within { AllByRecursion (TestedUpTo self.now.issued) self.now.objects }
+    {
+        self.bans.issued()
+    }
+
+    /// How many objects wait for the lurker. It takes no memory.
+    pub fn unswept(&self) -> u64
+        ensures { result ≡ count_unswept self.now }
+    {
+        self.unswept
+    }
+
+    /// The object of the number, with what is kept of it. No two objects have one number. It takes no memory.
+    pub(crate) fn item(&self, number: u64) -> Option<&Item<Placement>>
+        ensures found { option_map placed_in (option_copied result) ≡ seek (is_numbered number) self.now.objects }
+        ensures apart { AreApart number_in self.now.objects }
+    {
+        match self.heads.handle_of(number) {
+            Some(handle) => self.heads.get(handle),
+            None => None,
+        }
+    }
+
+    /// Takes the object of the number out, where there is one. It takes no memory.
+    pub(crate) fn remove(&mut self, number: u64)
+        ensures { self.new ≡ without number self.old }
+    {
+        let found = match find(&self.heads, number) {
+            Some(found) => found,
+            None => return,
+        };
+        let stand = found.placement.stand;
+        self.heads.take(found.handle);
+        self.tagged.take(found.handle);
+        self.room.take(found.placement.used);
+        self.bans.depart(stand);
+        self.unswept = fewer(self.unswept, self.newest, stand.mark);
+    }
+
+    // Whether a ban on objects alone that the object wasn't tested on matches it.
+    fn is_dead(&self, alloc: Global, item: &Item<Placement>) -> Result<bool, AllocError>
+        ensures { IfOk result (λ dead. dead ≡ is_dead (kept_bans self.now) (placed_in item.now)) }
+    {
+        // that the numbers fall along the lines
+        let _issued = self.bans.issued();
+        is_matched(
+            &self.bans,
+            alloc,
+            item.payload.stand.mark,
+            &item.view.object,
+            None,
+        )
+    }
+
+    /// Tests the object of the number, where there is one, on all bans on objects alone: it goes where one matches it. Where
+    /// memory is wanting all is as before.
+    pub(crate) fn sweep(&mut self, alloc: Global, number: u64) -> Result<(), AllocError>
+        ensures ok { OnOk result (self.new ≡ swept_lazy (is_numbered number) self.old) }
+        ensures err { OnErr result (self.new ≡ self.old) }
+    {
+        let item = match self.item(number) {
+            Some(item) => item,
+            None => return Ok(()),
+        };
+        let place = item.payload.stand.place;
+        if self.is_dead(alloc, item)? {
+            self.remove(number);
+            return Ok(());
+        }
+        let mark = self.issued();
+        self.move_to(number, Stand { place, mark });
+        Ok(())
+    }
+
+    /// The object of the number, where there is one, stands there among the bans, which it was tested on. It takes no memory.
+    pub(crate) fn move_to(&mut self, number: u64, stand: Stand)
+        requires place { stand.place ≤ self.old.issued }
+        requires mark { stand.mark ≤ self.old.issued }
+        requires later { AllByRecursion (λ placed. is_numbered number placed ≡ true → placed.mark ≤ stand.mark) self.old.objects }
+        ensures { self.new ≡ moved number stand self.old }
+    {
+        let found = match find(&self.heads, number) {
+            Some(found) => found,
+            None => return,
+        };
+        let old = found.placement;
+        let payload = Placement {
+            used: old.used,
+            stand,
+        };
+        // that they can be counted
+        let _objects = self.bans.objects();
+        self.heads.set_payload(found.handle, payload);
+        self.bans.depart(old.stand);
+        self.bans.enter(stand);
+        self.unswept = with_mark(self.unswept, self.newest, old.stand.mark, stand.mark);
+    }
+
+    /// Issues the ban at the moment. No object is tested on it. Where memory is wanting all is as before.
+    pub fn ban(&mut self, alloc: Global, moment: u64, ban: &Shared<Ban>) -> Result<(), AllocError>
+        requires { self.old.issued + 1 < 2 ^ 64 }
+        ensures ok { OnOk result (self.new ≡ banned_late moment ban.now self.old) }
+        ensures err { OnErr result (self.new ≡ self.old) }
+    {
+        let number = self.bans.issued() + 1;
+        self.bans.issue(alloc, moment, ban)?;
+        if !object_only(ban) {
+            return Ok(());
+        }
+        self.newest = number;
+        self.unswept = self.bans.objects();
+        Ok(())
+    }
+}
