@@ -7,3 +7,6 @@ pub mod Lines
 pub mod Sweeps
 pub mod Bannings
 pub mod Findings
+pub mod Lurks
+pub mod Fewer
+pub mod Rounds

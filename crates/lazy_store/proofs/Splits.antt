@@ -182,3 +182,25 @@ module _ {X : Type 0} where
   pub all_fail : (test : X → Bool) (xs : List X) → list_any test xs ≡ false → AllByRecursion (λ x. test x ≡ false) xs
   all_fail test [] e = tt
   all_fail test (x ∷ xs) e = let parts = any_or (test x) (list_any test xs) e in (parts.0, all_fail test xs parts.1)
+
+  -- ---- one that passes a test
+
+  pub record IsThere (test : X → Bool) (xs : List X) : Type 0 where
+    pub one : X
+    pub found_ : IsFound test xs one
+
+  there_step : (test : X → Bool) (y : X) (ys : List X) (b : Bool) → test y ≡ b → (list_any test ys ≡ true → IsThere test ys) → (b || list_any test ys) ≡ true → IsThere test (y ∷ ys)
+  there_step test y ys true e rest is = record { one = y; found_ = record { split = record { before = []; behind = ys; is = refl }; passes = e } }
+  there_step test y ys false e rest is =
+      let later : IsThere test ys = rest is in
+      record {
+        one = later.one;
+        found_ = record {
+          split = record { before = y ∷ later.found_.split.before; behind = later.found_.split.behind; is = ap (λ (zs : List X). y ∷ zs) later.found_.split.is };
+          passes = later.found_.passes;
+        };
+      }
+
+  pub there : (test : X → Bool) (xs : List X) → list_any test xs ≡ true → IsThere test xs
+  there test [] is = absurd (false≢true is)
+  there test (y ∷ ys) is = there_step test y ys (test y) refl (there test ys) is

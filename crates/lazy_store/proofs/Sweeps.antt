@@ -42,7 +42,7 @@ unswept_others number issued xs others =
     map_all (sweeping (has_number number) issued) xs
     (all_weaken (λ (y : Placed). has_number number y ≡ false) (λ (y : Placed). sweeping (has_number number) issued y ≡ y) (λ y e. rw e refl) xs others)
 
-left_dead : (number issued : ℕ) (bans : List Issued) (before : List Placed) (p : Placed) (behind : List Placed) → AllByRecursion (λ y. has_number number y ≡ false) (before ++ behind)
+pub left_dead : (number issued : ℕ) (bans : List Issued) (before : List Placed) (p : Placed) (behind : List Placed) → AllByRecursion (λ y. has_number number y ≡ false) (before ++ behind)
     → has_number number p ≡ true → is_dead bans p ≡ true → swept (has_number number) bans issued (before ++ p ∷ behind) ≡ others_late (Some number) (before ++ p ∷ behind)
 left_dead number issued bans before p behind others same dead =
     ap (map (sweeping (has_number number) issued))

@@ -70,7 +70,7 @@ pub may_go : (before : List Member) (m : Member) (behind : List Member) (bans : 
 may_go before m behind bans at = may_depart (stand_of m) bans (map stand_of before) (map stand_of behind) (stands_around before m behind bans at)
 
 -- how many wait, one of them taken apart
-waiting_among : (before : List Member) (m : Member) (behind : List Member) (bans : Bans)
+pub waiting_among : (before : List Member) (m : Member) (behind : List Member) (bans : Bans)
     → count_unswept (lazy_of (before ++ m ∷ behind) bans) ≡ one_if (is_unswept (those_open bans.lines) (placed_of m)) + count_unswept (lazy_of (before ++ behind) bans)
 waiting_among before m behind bans =
     let kept : List Issued = those_open bans.lines in
@@ -80,7 +80,7 @@ waiting_among before m behind bans =
     ap length (filter_of_map (is_unswept kept) placed_of (before ++ behind)) ∙ length_of_map placed_of (filter (λ x. is_unswept kept (placed_of x)) (before ++ behind)) in
     all ∙ count_among (λ x. is_unswept kept (placed_of x)) before m behind ∙ ap (λ (n : ℕ). one_if (is_unswept kept (placed_of m)) + n) (sym rest)
 
-alone_for : (bans : Bans) (unswept newest : ℕ) (m : Member) → IsNewestAlone bans unswept newest → (unswept ≡ 0) ⊎ (is_unswept (those_open bans.lines) (placed_of m) ≡ nat_lt (stand_of m).mark newest)
+pub alone_for : (bans : Bans) (unswept newest : ℕ) (m : Member) → IsNewestAlone bans unswept newest → (unswept ≡ 0) ⊎ (is_unswept (those_open bans.lines) (placed_of m) ≡ nat_lt (stand_of m).mark newest)
 alone_for bans unswept newest m (inl none) = inl none
 alone_for bans unswept newest m (inr those) = inr (those (stand_of m).mark)
 
@@ -153,6 +153,9 @@ above_longer mark later i less above =
     let newer = ltb-true later i.number parts.0 in
     and_from (nat_lt mark i.number) (is_alone i) (lt-ltb mark i.number (omega arith)) parts.1
 
+stays_ahead : (m new : Member) → handle_of new ≡ handle_of m → use_of new ≡ use_of m → IsAhead m → IsAhead new
+stays_ahead m new handle used ahead = record { fits = omega (arith, handle, ahead.fits); low = omega (arith, handle, used, ahead.low) }
+
 waits_longer : (mark later : ℕ) (bans : List Issued) → mark ≤ later → list_any (is_above later) bans ≡ true → list_any (is_above mark) bans ≡ true
 waits_longer mark later bans less e = any_more (is_above later) (is_above mark) (λ i above. above_longer mark later i less above) bans e
 
@@ -177,7 +180,7 @@ tied_moved before m behind tagged room bans newest unswept stand tied place mark
       handles = apart_more handle_of before new behind (apart_others handle_of before m behind tied.handles) (apart_less handle_of before m behind tied.handles);
       numbers = apart_more number_of before new behind (apart_others number_of before m behind tied.numbers) (apart_less number_of before m behind tied.numbers);
       uses = apart_more use_of before new behind (apart_others use_of before m behind tied.uses) (apart_less use_of before m behind tied.uses);
-      ahead = all_more IsAhead before new behind (all_here IsAhead before m behind tied.ahead) (all_less IsAhead before m behind tied.ahead);
+      ahead = all_more IsAhead before new behind (stays_ahead m new refl refl (all_here IsAhead before m behind tied.ahead)) (all_less IsAhead before m behind tied.ahead);
       within = all_more (IsWithin bans.issued) before new behind (record { place = place; mark = mark }) (all_less (IsWithin bans.issued) before m behind tied.within);
       tagged_ = tied.tagged_ ∙ map-append tagged_of before (m ∷ behind) ∙ sym (map-append tagged_of before (new ∷ behind));
       room_ = subst (AreAlike room) (map-append used_of before (m ∷ behind) ∙ sym (map-append used_of before (new ∷ behind))) tied.room_;

@@ -3,4 +3,4 @@ pub mod Found
 pub mod Tied
 pub mod Changes
 pub mod Testing
-pub mod Settling
+pub mod Lurking

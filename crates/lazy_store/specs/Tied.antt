@@ -1,5 +1,5 @@
 -- The containers are of the same objects.
-use Rattle.std.specs.Prelude.{◌≡◌, ◌≤◌, ◌+◌, ◌^◌, ◌⊎◌, ⊤, ℕ, Bool, false, nat_eq, nat_lt, List, [], ◌∷◌, map, sum_by}
+use Rattle.std.specs.Prelude.{◌≡◌, ◌≤◌, ◌<◌, ◌+◌, ◌^◌, ◌⊎◌, ⊤, ℕ, Bool, false, nat_eq, nat_lt, List, [], ◌∷◌, map, sum_by}
 use Rattle.std.specs.List.{list_any, AllByRecursion}
 use Rattle.cache_law.specs.ShownBans.{those_open}
 use Rattle.ban_lurker.specs.Looks.{is_above}
@@ -19,9 +19,10 @@ module _ {X : Type 0} where
   abbrev pub AreAlike : List X → List X → Type 0
   AreAlike one other = (weight : X → ℕ) → sum_by weight one ≡ sum_by weight other
 
--- The handle is so low that whatever is stored later has a lower one.
-abbrev pub IsAhead : Member → Type 0
-IsAhead member = 2 ^ 64 ≤ handle_of member + use_of member + 1
+-- The handle is a number of 64 bits, and so low that whatever is stored later has a lower one.
+pub record IsAhead (member : Member) : Type 0 where
+  pub fits : handle_of member < 2 ^ 64
+  pub low : 2 ^ 64 ≤ handle_of member + use_of member + 1
 
 -- it was tested on no more bans than were issued
 pub record IsWithin (issued : ℕ) (member : Member) : Type 0 where

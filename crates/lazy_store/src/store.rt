@@ -1,17 +1,18 @@
 // Objects and bans in their containers.
-ghost use Rattle.std.specs.Prelude.{◌≡◌, ◌≤◌, ◌<◌, ◌+◌, ◌^◌, true, find as seek, option_map, IfOk, OnErr, OnOk};
-ghost use Rattle.std.specs.List.{AllByRecursion};
+ghost use Rattle.std.specs.Prelude.{◌≡◌, ◌≤◌, ◌<◌, ◌+◌, ◌-◌, ◌^◌, true, false, min, find as seek, option_map, IfNone, IfOk, IfSome, OnErr, OnOk};
+ghost use Rattle.std.specs.List.{AllByRecursion, list_any};
 ghost use Rattle.std.specs.Option.{option_copied};
 ghost use Rattle.lazy_core.specs.Banning.{banned_late};
 ghost use Rattle.lazy_core.specs.Insertion.{has_number as is_numbered};
-ghost use Rattle.lazy_core.specs.Placed.{is_dead, kept_bans, nothing_kept};
+ghost use Rattle.lazy_core.specs.Placed.{Placed, is_dead, is_unswept, kept_bans, marked_at, nothing_kept};
 ghost use Rattle.lazy_core.specs.Stands.{IsWithin as TestedUpTo};
 ghost use Rattle.lazy_core.specs.Sweeping.{count_unswept, swept_lazy};
 ghost use Rattle.lazy_store.specs.Changes.{moved, without};
+ghost use Rattle.lazy_store.specs.Lurking.{AreSwept, is_waiting_as};
 ghost use Rattle.lazy_store.specs.Members.{number_in, placed_in};
 ghost use Rattle.lazy_store.specs.Tied.{AreApart};
 
-use crate::finding::find;
+use crate::finding::{find, waiting_round};
 use crate::placement::Placement;
 use crate::testing::is_matched;
 use crate::waiting::{fewer, with_mark};
@@ -36,6 +37,8 @@ pub struct Store {
     newest: u64,
     // how many wait
     unswept: u64,
+    // the handle from which the lurker goes on
+    cursor: u64,
 }
 
 impl Model for Store {
@@ -63,6 +66,7 @@ impl Store {
             bans,
             newest: 0,
             unswept: 0,
+            cursor: 0,
         })
     }
 
@@ -181,5 +185,49 @@ impl Store {
         self.newest = number;
         self.unswept = self.bans.objects();
         Ok(())
+    }
+
+    // The number of the newest ban: an object with this mark doesn't wait for the lurker.
+    fn newest_mark(&self) -> u64
+        ensures count { result ≡ self.now.issued }
+        ensures swept { (placed : Placed) → is_unswept (kept_bans self.now) (marked_at self.now.issued placed) ≡ false }
+    {
+        self.bans.issued()
+    }
+
+    // The number of an object that waits for the lurker. The next time it goes on from there.
+    fn next_waiting(&mut self) -> Option<u64>
+        ensures same { self.new ≡ self.old }
+        ensures apart { AreApart number_in self.old.objects }
+        ensures some { IfSome result (λ number. list_any (is_waiting_as number (kept_bans self.old)) self.old.objects ≡ true) }
+        ensures none { IfNone result (count_unswept self.old ≡ 0) }
+    {
+        if self.unswept == 0 {
+            return None;
+        }
+        match waiting_round(&self.heads, self.cursor, self.newest) {
+            Some(waiting) => {
+                self.cursor = waiting.handle;
+                Some(waiting.number)
+            }
+            None => None,
+        }
+    }
+
+    /// Tests so many of the objects that wait for the lurker on all bans on objects alone, or all where they are fewer, and
+    /// says how many those were. One that a ban matches goes. An error means that memory was wanting; some were tested then.
+    pub fn lurk(&mut self, alloc: Global, count: u32) -> Result<u32, AllocError>
+        ensures swept { IfOk result (λ swept. (swept ≡ min count (count_unswept self.old)) × (count_unswept self.new ≡ count_unswept self.old - swept)) }
+        ensures only { AreSwept self.old self.new }
+    {
+        for swept in 0..count {
+            let number = match self.next_waiting() {
+                Some(number) => number,
+                None => return Ok(swept),
+            };
+            let _mark = self.newest_mark();
+            self.sweep(alloc, number)?;
+        }
+        Ok(count)
     }
 }
