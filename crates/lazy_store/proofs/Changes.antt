@@ -41,7 +41,7 @@ none_of f (Some one) e = absurd cc
 other_number : (own number other : ℕ) → nat_eq own number ≡ true → nat_eq own other ≡ false → nat_eq other number ≡ false
 other_number own number other same apart = grind (arith, nat_tests)
 
-others_numbered : (number : ℕ) (m : Member) (xs : List Member) → nat_eq (number_of m) number ≡ true → AllByRecursion (λ y. nat_eq (number_of m) (number_of y) ≡ false) xs
+pub others_numbered : (number : ℕ) (m : Member) (xs : List Member) → nat_eq (number_of m) number ≡ true → AllByRecursion (λ y. nat_eq (number_of m) (number_of y) ≡ false) xs
     → AllByRecursion (λ y. nat_eq (number_of y) number ≡ false) xs
 others_numbered number m xs same others =
     all_weaken (λ (y : Member). nat_eq (number_of m) (number_of y) ≡ false) (λ (y : Member). nat_eq (number_of y) number ≡ false)
@@ -69,7 +69,6 @@ at_without number before m behind same others =
     (all_weaken (λ (y : Member). nat_eq (number_of y) number ≡ false) (λ (y : Member). not (nat_eq (number_of y) number) ≡ true) (λ y e. ap not e) (before ++ behind) others)))
 
 -- ---- a member goes
-
 
 module _ (number : ℕ) (m : Member) (members : List Member) (tagged : List (ℕ × List (List ℕ))) (room : List Used) (bans : Bans) (newest unswept : ℕ) where
   pub tied_without : AreTied members tagged room bans newest unswept → at_number number members ≡ Some m

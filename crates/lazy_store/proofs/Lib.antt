@@ -10,3 +10,4 @@ pub mod Findings
 pub mod Lurks
 pub mod Fewer
 pub mod Rounds
+pub mod Settles

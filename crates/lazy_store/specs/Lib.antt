@@ -4,3 +4,4 @@ pub mod Tied
 pub mod Changes
 pub mod Testing
 pub mod Lurking
+pub mod Settling

@@ -60,11 +60,7 @@ fn waiting_at(heads: &Heads<Placement>, handle: u64, newest: u64) -> Option<Wait
 }
 
 /// An object from this handle on whose mark is below the number.
-pub(crate) fn waiting_from(
-    heads: &Heads<Placement>,
-    handle: u64,
-    newest: u64,
-) -> Option<Waiting>
+pub(crate) fn waiting_from(heads: &Heads<Placement>, handle: u64, newest: u64) -> Option<Waiting>
     requires apart { AreApart handle_of heads.now }
     requires ahead { AllByRecursion IsAhead heads.now }
     ensures some { IfSome result (λ waiting. list_any (is_marked_below waiting.number newest) heads.now ≡ true) }
@@ -86,11 +82,7 @@ pub(crate) fn waiting_from(
 }
 
 /// An object whose mark is below the number: one from this handle on, or one before it.
-pub(crate) fn waiting_round(
-    heads: &Heads<Placement>,
-    handle: u64,
-    newest: u64,
-) -> Option<Waiting>
+pub(crate) fn waiting_round(heads: &Heads<Placement>, handle: u64, newest: u64) -> Option<Waiting>
     requires apart { AreApart handle_of heads.now }
     requires ahead { AllByRecursion IsAhead heads.now }
     ensures some { IfSome result (λ waiting. list_any (is_marked_below waiting.number newest) heads.now ≡ true) }

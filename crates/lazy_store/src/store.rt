@@ -1,23 +1,25 @@
 // Objects and bans in their containers.
-ghost use Rattle.std.specs.Prelude.{◌≡◌, ◌≤◌, ◌<◌, ◌+◌, ◌-◌, ◌^◌, true, false, min, find as seek, option_map, IfNone, IfOk, IfSome, OnErr, OnOk};
+ghost use Rattle.std.specs.Prelude.{◌≡◌, ◌≤◌, ◌<◌, ◌+◌, ◌-◌, ◌^◌, true, false, min, Some, find as seek, option_map, IfNone, IfOk, IfSome, OnErr, OnOk};
 ghost use Rattle.std.specs.List.{AllByRecursion, list_any};
 ghost use Rattle.std.specs.Option.{option_copied};
 ghost use Rattle.lazy_core.specs.Banning.{banned_late};
 ghost use Rattle.lazy_core.specs.Insertion.{has_number as is_numbered};
 ghost use Rattle.lazy_core.specs.Placed.{Placed, is_dead, is_unswept, kept_bans, marked_at, nothing_kept};
 ghost use Rattle.lazy_core.specs.Stands.{IsWithin as TestedUpTo};
-ghost use Rattle.lazy_core.specs.Sweeping.{count_unswept, swept_lazy};
+ghost use Rattle.lazy_core.specs.Sweeping.{count_unswept, judged_lazy, swept_lazy};
 ghost use Rattle.lazy_store.specs.Changes.{moved, without};
 ghost use Rattle.lazy_store.specs.Lurking.{AreSwept, is_waiting_as};
 ghost use Rattle.lazy_store.specs.Members.{number_in, placed_in};
+ghost use Rattle.lazy_store.specs.Settling.{is_open, is_settled, is_sound as is_sound_for, settled};
 ghost use Rattle.lazy_store.specs.Tied.{AreApart};
 
 use crate::finding::{find, waiting_round};
 use crate::placement::Placement;
 use crate::testing::is_matched;
-use crate::waiting::{fewer, with_mark};
+use crate::waiting::{fewer, is_waiting, with_mark};
 use ban_expr::object_only;
 use ban_list::{BanList, Stand};
+use ban_lurker::Verdict;
 use cache_law::Ban;
 use object_heads::{Heads, Item};
 use room_lru::RoomLru;
@@ -230,4 +232,62 @@ impl Store {
         }
         Ok(count)
     }
+
+    // The place of the object that the verdict is on, where that is as the verdict has it and waits for the lurker.
+    fn place_of_open(&self, verdict: Verdict) -> Option<u64>
+        ensures { result ≡ option_map (λ (placed : Placed). placed.place) (seek (is_open (kept_bans self.now) verdict) self.now.objects) }
+    {
+        let stand = match find(&self.heads, verdict.object) {
+            Some(found) => found.placement.stand,
+            None => return None,
+        };
+        if stand.mark != verdict.mark {
+            return None;
+        }
+        if !is_waiting(self.unswept, self.newest, stand.mark) {
+            return None;
+        }
+        Some(stand.place)
+    }
+
+    /// Does with an object what was found of it: a dead one goes, and any other counts as tested up to the verdict's ban. Where
+    /// the object isn't as the verdict has it, or doesn't wait for the lurker, or the verdict is on bans that weren't issued,
+    /// nothing changes and the answer is false. It takes no memory.
+    pub fn settle(&mut self, verdict: Verdict) -> bool
+        ensures answer { result ≡ is_settled verdict self.old }
+        ensures left { self.new ≡ settled verdict self.old }
+    {
+        if !is_sound(self.issued(), verdict) {
+            return false;
+        }
+        let place = match self.place_of_open(verdict) {
+            Some(place) => place,
+            None => return false,
+        };
+        self.close(verdict, place);
+        true
+    }
+
+    // Settles the verdict on the object, which has the place.
+    fn close(&mut self, verdict: Verdict, place: u64)
+        requires sound { is_sound_for self.old.issued verdict ≡ true }
+        requires open_ { Some place ≡ option_map (λ (placed : Placed). placed.place) (seek (is_open (kept_bans self.old) verdict) self.old.objects) }
+        ensures { self.new ≡ judged_lazy verdict self.old }
+    {
+        let _item = self.item(verdict.object);
+        if verdict.dead {
+            self.remove(verdict.object);
+            return;
+        }
+        let _issued = self.issued();
+        let mark = verdict.upto;
+        self.move_to(verdict.object, Stand { place, mark });
+    }
+}
+
+// Whether the verdict is on bans that were issued, and not on fewer than the object was tested on.
+fn is_sound(issued: u64, verdict: Verdict) -> bool
+    ensures { result ≡ is_sound_for issued verdict }
+{
+    verdict.dead || verdict.mark <= verdict.upto && verdict.upto <= issued
 }
