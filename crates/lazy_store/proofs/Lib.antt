@@ -11,3 +11,4 @@ pub mod Lurks
 pub mod Fewer
 pub mod Rounds
 pub mod Settles
+pub mod Cuts

@@ -156,7 +156,7 @@ above_longer mark later i less above =
 stays_ahead : (m new : Member) → handle_of new ≡ handle_of m → use_of new ≡ use_of m → IsAhead m → IsAhead new
 stays_ahead m new handle used ahead = record { fits = omega (arith, handle, ahead.fits); low = omega (arith, handle, used, ahead.low) }
 
-waits_longer : (mark later : ℕ) (bans : List Issued) → mark ≤ later → list_any (is_above later) bans ≡ true → list_any (is_above mark) bans ≡ true
+pub waits_longer : (mark later : ℕ) (bans : List Issued) → mark ≤ later → list_any (is_above later) bans ≡ true → list_any (is_above mark) bans ≡ true
 waits_longer mark later bans less e = any_more (is_above later) (is_above mark) (λ i above. above_longer mark later i less above) bans e
 
 alone_both : (bans : Bans) (unswept newest mark later : ℕ) → IsNewestAlone bans unswept newest

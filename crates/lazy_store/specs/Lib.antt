@@ -5,3 +5,4 @@ pub mod Changes
 pub mod Testing
 pub mod Lurking
 pub mod Settling
+pub mod Cutting

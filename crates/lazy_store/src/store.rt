@@ -8,6 +8,7 @@ ghost use Rattle.lazy_core.specs.Placed.{Placed, is_dead, is_unswept, kept_bans,
 ghost use Rattle.lazy_core.specs.Stands.{IsWithin as TestedUpTo};
 ghost use Rattle.lazy_core.specs.Sweeping.{count_unswept, judged_lazy, swept_lazy};
 ghost use Rattle.lazy_store.specs.Changes.{moved, without};
+ghost use Rattle.lazy_store.specs.Cutting.{AreCut};
 ghost use Rattle.lazy_store.specs.Lurking.{AreSwept, is_waiting_as};
 ghost use Rattle.lazy_store.specs.Members.{number_in, placed_in};
 ghost use Rattle.lazy_store.specs.Settling.{is_open, is_settled, is_sound as is_sound_for, settled};
@@ -231,6 +232,15 @@ impl Store {
             self.sweep(alloc, number)?;
         }
         Ok(count)
+    }
+
+    /// Takes out the oldest lines, as far as no object waits for them. It takes no memory.
+    pub fn cut(&mut self)
+        ensures { AreCut self.old self.new }
+    {
+        // that the numbers fall along the lines
+        let _issued = self.bans.issued();
+        self.bans.cut();
     }
 
     // The place of the object that the verdict is on, where that is as the verdict has it and waits for the lurker.
