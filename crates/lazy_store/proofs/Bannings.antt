@@ -1,20 +1,17 @@
 -- The containers stay tied where a ban is issued.
-use Rattle.std.proofs.Common.{◌≡◌, ◌≤◌, ◌<◌, ◌+◌, ◌⊎◌, inl, inr, ℕ, Bool, true, false, not, cond, List, [], ◌∷◌, ◌&&◌, ◌||◌, filter, map, length, refl, arith, sym, ap, ◌∙◌, subst}
+use Rattle.std.proofs.Common.{◌≡◌, ◌≤◌, ◌<◌, ◌+◌, inl, inr, ℕ, Bool, true, false, not, cond, List, [], ◌∷◌, ◌&&◌, ◌||◌, filter, map, length, refl, arith, sym, ap, ◌∙◌}
 use Rattle.std.specs.Prelude.{nat_lt}
 use Rattle.std.specs.List.{list_any, AllByRecursion}
 use Rattle.std.proofs.lemmas.Bool.{lt-ltb, le-ltb, ltb-false}
 use Rattle.cache_law.specs.declared.ban.Ban.{Ban}
 use Rattle.cache_law.specs.declared.ban.BanLine.{BanLine}
-use Rattle.cache_law.specs.declared.ban.Issued.{Issued}
 use Rattle.cache_law.specs.Bans.{is_equal, object_only}
 use Rattle.cache_law.specs.ShownBans.{those_open}
 use Rattle.cache_law.proofs.BanLemmas.{equal_bans_alone}
 use Rattle.room_lru.specs.Members.{Used}
 use Rattle.ban_lurker.specs.Looks.{is_above}
-use Rattle.ban_list.specs.declared.list.Stand.{Stand}
 use Rattle.ban_list.specs.Bans.{Bans, completed_by, with_ban}
 use Rattle.ban_list.specs.Kept.{AreFalling, number_of}
-use Rattle.ban_list.specs.Stands.{AreAt}
 use Rattle.ban_list.proofs.StandLemmas.{at_issued}
 use Rattle.lazy_core.specs.Placed.{Placed, is_unswept}
 use Rattle.lazy_core.specs.Sweeping.{count_unswept}

@@ -1,24 +1,23 @@
 -- What is kept, where one of the members goes, or is tested.
-use Rattle.std.proofs.Common.{◌≡◌, ◌≤◌, ◌<◌, ℕ, Bool, true, false, not, cond, List, [], ◌∷◌, ◌++◌, Option, Some, None, filter, find, map, nat_eq, refl, arith, sym, ap, ◌∙◌, subst}
+use Rattle.std.proofs.Common.{◌≡◌, ◌≤◌, ◌<◌, ℕ, true, false, not, cond, List, [], ◌∷◌, ◌++◌, Option, Some, None, filter, map, nat_eq, refl, arith, sym, ap, ◌∙◌, subst}
 use Rattle.std.specs.Prelude.{option_map}
 use Rattle.std.specs.List.{AllByRecursion}
 use Rattle.std.proofs.lemmas.Bool.Decides.{nat_tests}
-use Rattle.object_heads.specs.declared.item.Item.{Item}
 use Rattle.object_heads.specs.Members as heads
 use Rattle.xkey_index.specs.Members as xkeys
 use Rattle.room_lru.specs.Members as rooms
 use Rattle.room_lru.specs.Members.{Used}
 use Rattle.ban_list.specs.declared.list.Stand.{Stand}
 use Rattle.ban_list.specs.Bans.{Bans, departed, entered, standing}
-use Rattle.lazy_core.specs.Placed.{Lazy, Placed}
+use Rattle.lazy_core.specs.Placed.{Placed}
 use Rattle.lazy_core.specs.Insertion.{has_number}
 use Rattle.lazy_core.proofs.Filters.{filter_of_map}
 use Rattle.lazy_store.specs.declared.placement.Placement.{Placement}
 use Rattle.lazy_store.specs.Members.{Member, at_number, handle_of, lazy_of, number_of, placed_of, stand_of, use_of}
-use Rattle.lazy_store.specs.Tied.{AreApart, AreTied}
+use Rattle.lazy_store.specs.Tied.{AreTied}
 use Rattle.lazy_store.specs.Changes.{fewer, moved, moving, with_mark, without}
 use Rattle.lazy_store.proofs.Found.{own_eq}
-use Rattle.lazy_store.proofs.Splits.{IsFound, all_here, all_weaken, apart_others, filter_all, filter_less, found, map_one, none_found}
+use Rattle.lazy_store.proofs.Splits.{IsFound, all_weaken, apart_others, filter_all, filter_less, found, map_one, none_found}
 use Rattle.lazy_store.proofs.Ties.{may_go, others_left, re_payed, tied_less, tied_moved}
 
 -- ---- what a map of an option found

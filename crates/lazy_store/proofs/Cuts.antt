@@ -1,5 +1,5 @@
 -- The containers stay tied where the oldest lines go, which no object waits for.
-use Rattle.std.proofs.Common.{◌≡◌, ◌≤◌, ◌<◌, ◌+◌, ◌-◌, ◌⊎◌, inl, inr, ℕ, zero, suc, Bool, true, false, not, cond, List, [], ◌∷◌, ◌++◌, ◌&&◌, ◌||◌, Option, Some, None, filter, map, length, take, drop, refl, arith, sym, ap, ◌∙◌, subst}
+use Rattle.std.proofs.Common.{◌≡◌, ◌≤◌, ◌<◌, ◌+◌, ◌-◌, ◌⊎◌, inl, inr, ℕ, zero, suc, Bool, true, false, not, cond, List, [], ◌∷◌, ◌++◌, ◌&&◌, ◌||◌, Option, Some, filter, map, length, take, drop, refl, arith, sym, ap, ◌∙◌, subst}
 use Rattle.std.specs.Prelude.{nat_lt, slice_get, sum}
 use Rattle.std.specs.List.{list_any, AllByRecursion}
 use Rattle.std.specs.Option.{option_map_or}
@@ -11,7 +11,6 @@ use Rattle.cache_law.specs.Bans.{object_only}
 use Rattle.cache_law.specs.ShownBans.{those_open}
 use Rattle.room_lru.specs.Members.{Used}
 use Rattle.ban_lurker.specs.Looks.{is_above, is_alone}
-use Rattle.ban_list.specs.declared.list.Stand.{Stand}
 use Rattle.ban_list.specs.Bans as bans
 use Rattle.ban_list.specs.Bans.{Bans, IsCut, below, is_newer, is_wanted, newer, one_more}
 use Rattle.ban_list.specs.Kept.{AreFalling, number_of}
@@ -19,8 +18,8 @@ use Rattle.ban_list.specs.Stands.{AreAt, counts_of, marks_of, no_counts, places_
 use Rattle.ban_list.proofs.CountLemmas.{at_line, sum_more}
 use Rattle.ban_list.proofs.LineLemmas.{falling_weaker, none_newer}
 use Rattle.ban_list.proofs.StandLemmas.{at_cut}
-use Rattle.lazy_core.specs.Banning.{MayBeCut, cut_to, is_awaited_by, is_needed}
-use Rattle.lazy_core.specs.Placed.{Lazy, Placed, is_unswept}
+use Rattle.lazy_core.specs.Banning.{MayBeCut, is_awaited_by, is_needed}
+use Rattle.lazy_core.specs.Placed.{Placed, is_unswept}
 use Rattle.lazy_core.specs.Sweeping.{count_unswept}
 use Rattle.lazy_core.proofs.Filters.{any_none, filter_on}
 use Rattle.lazy_store.specs.Members.{Member, lazy_of, placed_of, stand_of}

@@ -1,23 +1,22 @@
 -- How many wait for the lurker once one of them is swept.
-use Rattle.std.proofs.Common.{◌≡◌, ◌≤◌, ◌<◌, ◌+◌, ◌-◌, ◌⊎◌, inl, inr, ℕ, Bool, true, false, not, cond, List, [], ◌∷◌, ◌++◌, ◌&&◌, filter, find, map, length, refl, arith, sym, ap, ◌∙◌, subst}
-use Rattle.std.specs.Prelude.{nat_eq, nat_lt}
+use Rattle.std.proofs.Common.{◌≡◌, ◌≤◌, ◌+◌, inl, inr, ℕ, Bool, true, false, not, List, [], ◌∷◌, ◌++◌, ◌&&◌, filter, map, length, refl, arith, sym, ap, ◌∙◌, subst}
+use Rattle.std.specs.Prelude.{nat_lt}
 use Rattle.std.specs.List.{list_any, AllByRecursion}
-use Rattle.std.proofs.lemmas.Bool.{and_parts, false≢true, le-ltb}
+use Rattle.std.proofs.lemmas.Bool.{and_parts, le-ltb}
 use Rattle.cache_law.specs.declared.ban.BanLine.{BanLine}
 use Rattle.cache_law.specs.declared.ban.Issued.{Issued}
 use Rattle.cache_law.specs.ShownBans.{those_open}
 use Rattle.ban_lurker.specs.Looks.{is_above}
 use Rattle.ban_list.specs.Bans.{Bans}
 use Rattle.ban_list.specs.Kept.{AreFalling, number_of}
-use Rattle.room_lru.specs.Members.{Used}
 use Rattle.lazy_core.specs.Placed.{Lazy, Placed, is_dead, is_unswept, kept_bans, marked_at}
-use Rattle.lazy_core.specs.Insertion.{has_number, others_late}
+use Rattle.lazy_core.specs.Insertion.{has_number}
 use Rattle.lazy_core.specs.Sweeping.{count_unswept, swept, swept_lazy, sweeping}
-use Rattle.lazy_core.proofs.Filters.{any_of_map, any_on, each, filter_none, length_of_map}
+use Rattle.lazy_core.proofs.Filters.{any_of_map, any_on, each, filter_none}
 use Rattle.lazy_store.specs.Found.{is_marked_below}
 use Rattle.lazy_store.specs.Lurking.{AreSwept, is_waiting_as}
 use Rattle.lazy_store.specs.Members.{Member, lazy_of, number_in, placed_of, stand_of}
-use Rattle.lazy_store.specs.Tied.{AreApart, AreTied, IsNewestAlone}
+use Rattle.lazy_store.specs.Tied.{AreApart, IsNewestAlone}
 use Rattle.lazy_store.proofs.Splits.{IsThere, all_more, all_weaken, count_among, filter_all, filter_less, map_one, one_if, there}
 use Rattle.lazy_store.proofs.Sweeps.{left_dead, others_of}
 

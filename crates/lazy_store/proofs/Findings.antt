@@ -1,5 +1,5 @@
 -- What is found by a number, and what becomes of it.
-use Rattle.std.proofs.Common.{◌≡◌, ◌≤◌, ◌<◌, ℕ, Bool, true, false, List, [], ◌∷◌, ◌++◌, Option, Some, None, find, map, refl, sym, ap, ◌∙◌, subst}
+use Rattle.std.proofs.Common.{◌≡◌, ◌≤◌, ◌<◌, ℕ, true, false, List, [], ◌∷◌, ◌++◌, Option, Some, None, find, map, refl, sym, ap, ◌∙◌, subst}
 use Rattle.std.specs.Prelude.{nat_eq, option_map, option_and_then}
 use Rattle.std.specs.List.{AllByRecursion}
 use Rattle.std.specs.Map.{lookup}
@@ -10,19 +10,19 @@ use Rattle.room_lru.specs.Members as rooms
 use Rattle.room_lru.specs.Members.{Used}
 use Rattle.ban_list.specs.declared.list.Stand.{Stand}
 use Rattle.ban_list.specs.Bans.{Bans, departed, entered, standing}
-use Rattle.lazy_core.specs.Placed.{Lazy, Placed}
+use Rattle.lazy_core.specs.Placed.{Placed}
 use Rattle.lazy_core.specs.Insertion.{has_number}
 use Rattle.lazy_core.specs.Stands.{IsWithin as TestedUpTo}
 use Rattle.lazy_core.proofs.Filters.{find_of_map}
 use Rattle.lazy_store.specs.declared.placement.Placement.{Placement}
 use Rattle.lazy_store.specs.declared.finding.Found.{Found}
 use Rattle.lazy_store.specs.Found.{found_in}
-use Rattle.lazy_store.specs.Members.{Member, at_number, handle_of, lazy_of, number_in, number_of, placed_in, placed_of, stand_of, use_of}
+use Rattle.lazy_store.specs.Members.{Member, at_number, handle_of, lazy_of, number_in, number_of, placed_in, placed_of, stand_of}
 use Rattle.lazy_store.specs.Tied.{AreApart, AreTied, IsWithin}
 use Rattle.lazy_store.specs.Changes.{fewer, moved, with_mark, without}
-use Rattle.lazy_store.proofs.Found.{by_handle, first_where, looked_up}
-use Rattle.lazy_store.proofs.Splits.{IsFound, all_here, all_weaken, found}
-use Rattle.lazy_store.proofs.Changes.{IsOf, goes_well, lazy_restood, lazy_without, none_moved, none_of, none_without, one_of, tied_restood, tied_without}
+use Rattle.lazy_store.proofs.Found.{by_handle, looked_up}
+use Rattle.lazy_store.proofs.Splits.{IsFound, found}
+use Rattle.lazy_store.proofs.Changes.{IsOf, goes_well, lazy_restood, lazy_without, one_of, tied_restood, tied_without}
 
 -- ---- by the number
 

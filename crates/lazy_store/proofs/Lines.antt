@@ -1,7 +1,7 @@
 -- The lines that are newer than a number are the first, and what they say of an object.
-use Rattle.std.proofs.Common.{◌≡◌, ◌≤◌, ◌<◌, ◌+◌, ℕ, zero, suc, Bool, true, false, not, cond, List, [], ◌∷◌, ◌&&◌, ◌||◌, Option, Some, None, filter, map, length, take, refl, add-one, arith, sym, ap, ◌∙◌, subst}
+use Rattle.std.proofs.Common.{◌≡◌, ◌≤◌, ◌+◌, ℕ, zero, suc, Bool, true, false, not, cond, List, [], ◌∷◌, ◌&&◌, ◌||◌, Option, filter, length, take, refl, add-one, arith, sym, ap, ◌∙◌}
 use Rattle.std.specs.Prelude.{nat_lt, slice_get}
-use Rattle.std.specs.List.{list_any, AllByRecursion}
+use Rattle.std.specs.List.{list_any}
 use Rattle.std.specs.Option.{option_map_or}
 use Rattle.std.proofs.lemmas.Bool.{false≢true, ltb-false}
 use Rattle.cache_law.specs.declared.object.Object.{Object}
@@ -13,7 +13,7 @@ use Rattle.ban_list.specs.Bans.{is_newer, newer}
 use Rattle.ban_list.specs.Kept.{AreFalling, number_of}
 use Rattle.ban_list.proofs.LineLemmas.{falling_weaker, none_newer}
 use Rattle.lazy_core.proofs.Filters.{any_of_filter, any_of_map, any_on, each}
-use Rattle.lazy_store.specs.Testing.{is_for, is_hit, is_matched, newer_for, strikes}
+use Rattle.lazy_store.specs.Testing.{is_for, is_hit, is_matched, strikes}
 
 first_case : (number : ℕ) (line : BanLine) (lines : List BanLine) (b : Bool) → is_newer number line ≡ b
     → filter (is_newer number) lines ≡ take (newer number lines) lines → (b ≡ false → newer number lines ≡ zero)

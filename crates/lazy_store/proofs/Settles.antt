@@ -1,6 +1,6 @@
 -- What was found of an object is settled.
-use Rattle.std.proofs.Common.{◌≡◌, ◌≤◌, ℕ, Bool, true, false, not, cond, List, [], ◌∷◌, ◌++◌, ◌&&◌, ◌||◌, Option, Some, None, filter, find, map, refl, arith, sym, ap, ◌∙◌, subst}
-use Rattle.std.specs.Prelude.{nat_eq, nat_le, nat_lt, option_map}
+use Rattle.std.proofs.Common.{◌≡◌, ◌≤◌, ℕ, Bool, true, false, not, cond, List, [], ◌∷◌, ◌++◌, ◌&&◌, ◌||◌, Some, None, find, map, refl, arith, sym, ap, ◌∙◌, subst}
+use Rattle.std.specs.Prelude.{nat_eq, nat_le, option_map}
 use Rattle.std.specs.List.{list_any, AllByRecursion}
 use Rattle.std.proofs.lemmas.Bool.{and_parts, eq-eqb, eqb-true, false≢true, leb-true}
 use Rattle.std.proofs.lemmas.Bool.Decides.{nat_tests}
@@ -18,10 +18,10 @@ use Rattle.lazy_core.specs.Sweeping.{is_asked, judged_late, judged_lazy, judging
 use Rattle.lazy_store.specs.declared.finding.Found.{Found}
 use Rattle.lazy_store.specs.Found.{found_in}
 use Rattle.lazy_store.specs.Changes.{is_waiting, moved, moving, without}
-use Rattle.lazy_store.specs.Members.{Member, at_number, lazy_of, number_in, number_of, placed_of, stand_of}
+use Rattle.lazy_store.specs.Members.{Member, at_number, number_in, number_of, placed_of, stand_of}
 use Rattle.lazy_store.specs.Settling.{is_open, is_settled, is_sound, settled}
 use Rattle.lazy_store.specs.Tied.{AreApart, AreTied}
-use Rattle.lazy_store.proofs.Splits.{IsFound, all_here, all_less, all_more, all_weaken, apart_others, filter_all, filter_less, found, map_all, map_one}
+use Rattle.lazy_store.proofs.Splits.{IsFound, all_here, all_more, all_weaken, apart_others, filter_all, filter_less, found, map_all, map_one}
 use Rattle.lazy_store.proofs.Changes.{IsOf, one_of, others_numbered}
 use Rattle.lazy_store.proofs.Fewer.{gone_rest}
 use Rattle.lazy_store.proofs.Sweeps.{others_of}

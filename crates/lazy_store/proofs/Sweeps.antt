@@ -1,9 +1,8 @@
 -- A sweep of one object, whether bans match it or not.
-use Rattle.std.proofs.Common.{◌≡◌, ◌≤◌, ℕ, Bool, true, false, not, cond, List, [], ◌∷◌, ◌++◌, ◌&&◌, Option, Some, None, filter, find, map, nat_eq, refl, arith, sym, ap, ◌∙◌, subst}
+use Rattle.std.proofs.Common.{◌≡◌, ◌≤◌, ℕ, Bool, true, false, not, cond, List, [], ◌∷◌, ◌++◌, ◌&&◌, Some, None, find, map, nat_eq, refl, arith, sym, ap, ◌∙◌, subst}
 use Rattle.std.specs.List.{AllByRecursion}
 use Rattle.std.proofs.lemmas.Bool.Decides.{nat_tests}
 use Rattle.cache_law.specs.declared.ban.Issued.{Issued}
-use Rattle.ban_list.specs.declared.list.Stand.{Stand}
 use Rattle.lazy_core.specs.Placed.{Lazy, Placed, is_dead, kept_bans, marked_at}
 use Rattle.lazy_core.specs.Insertion.{has_number, others_late}
 use Rattle.lazy_core.specs.Stands.{IsWithin as TestedUpTo}
@@ -11,7 +10,7 @@ use Rattle.lazy_core.specs.Sweeping.{swept, swept_lazy, sweeping}
 use Rattle.lazy_store.specs.Members.{number_in}
 use Rattle.lazy_store.specs.Tied.{AreApart}
 use Rattle.lazy_store.specs.Changes.{moved, moving, without}
-use Rattle.lazy_store.proofs.Splits.{IsFound, all_here, all_less, all_more, all_weaken, apart_others, filter_all, filter_less, found, map_all, none_found}
+use Rattle.lazy_store.proofs.Splits.{IsFound, all_here, all_more, all_weaken, apart_others, filter_all, filter_less, found, map_all, none_found}
 
 other_number : (own number other : ℕ) → nat_eq own number ≡ true → nat_eq own other ≡ false → nat_eq other number ≡ false
 other_number own number other same apart = grind (arith, nat_tests)

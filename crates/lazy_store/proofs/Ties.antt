@@ -1,30 +1,28 @@
 -- The containers stay tied where one of the members goes, or is tested.
-use Rattle.std.proofs.Common.{◌≡◌, ◌≤◌, ◌<◌, ◌+◌, ◌-◌, ◌⊎◌, inl, inr, ℕ, zero, suc, Bool, true, false, not, List, [], ◌∷◌, ◌++◌, ◌&&◌, filter, map, length, nat_eq, refl, arith, sym, ap, ◌∙◌, subst}
-use Rattle.std.specs.Prelude.{nat_lt, sum_by}
-use Rattle.std.specs.List.{list_any, AllByRecursion}
+use Rattle.std.proofs.Common.{◌≡◌, ◌≤◌, ◌<◌, ◌+◌, ◌⊎◌, inl, inr, ℕ, zero, suc, true, false, not, List, [], ◌∷◌, ◌++◌, filter, map, length, nat_eq, refl, arith, sym, ap, ◌∙◌, subst}
+use Rattle.std.specs.Prelude.{nat_lt}
+use Rattle.std.specs.List.{list_any}
 use Rattle.std.proofs.lemmas.Bool.{and_from, and_parts, ltb-true, lt-ltb}
 use Rattle.std.proofs.lemmas.Bool.Decides.{nat_tests}
 use Rattle.std.proofs.lemmas.List.{map-append}
 use Rattle.cache_law.specs.declared.ban.BanLine.{BanLine}
 use Rattle.cache_law.specs.declared.ban.Issued.{Issued}
 use Rattle.cache_law.specs.ShownBans.{those_open}
-use Rattle.object_heads.specs.declared.item.Item.{Item}
-use Rattle.object_heads.specs.Members as heads
 use Rattle.xkey_index.specs.Members as xkeys
 use Rattle.room_lru.specs.Members as rooms
 use Rattle.room_lru.specs.Members.{Used}
 use Rattle.ban_lurker.specs.Looks.{is_above, is_alone}
 use Rattle.ban_list.specs.declared.list.Stand.{Stand}
 use Rattle.ban_list.specs.Bans.{Bans, departed, entered, newer, one_more, standing}
-use Rattle.ban_list.specs.Stands.{AreAt, counts_of, marks_of, places_of}
+use Rattle.ban_list.specs.Stands.{AreAt, counts_of}
 use Rattle.ban_list.proofs.StandLemmas.{at_departed, at_entered, may_depart}
-use Rattle.lazy_core.specs.Placed.{Placed, is_unswept}
+use Rattle.lazy_core.specs.Placed.{is_unswept}
 use Rattle.lazy_core.specs.Sweeping.{count_unswept}
 use Rattle.lazy_core.proofs.Filters.{any_more, filter_of_map, length_of_map}
 use Rattle.lazy_store.specs.declared.placement.Placement.{Placement}
 use Rattle.lazy_store.specs.Members.{Member, handle_of, lazy_of, number_of, placed_of, stand_of, tagged_of, use_of, used_of}
 use Rattle.lazy_store.specs.Tied.{AreAlike, AreApart, AreTied, IsAhead, IsNewestAlone, IsWithin}
-use Rattle.lazy_store.specs.Changes.{fewer, is_waiting, with_mark}
+use Rattle.lazy_store.specs.Changes.{fewer, with_mark}
 use Rattle.lazy_store.proofs.Splits.{all_here, all_less, all_more, all_weaken, alike_filter, apart_less, apart_more, apart_others, count_among, filter_less, one_if}
 use Rattle.lazy_store.proofs.Waits.{fewer_is, fewer_none, with_mark_is, with_none}
 

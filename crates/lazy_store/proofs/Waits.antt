@@ -1,7 +1,7 @@
 -- How many objects wait for the lurker, where one goes or is tested.
 use Rattle.std.proofs.Common.{◌≡◌, ◌≤◌, ◌<◌, ◌+◌, ◌-◌, ◌⊎◌, inl, inr, ℕ, Bool, true, false, not, cond, ◌&&◌, refl, arith, sym, ap, ◌∙◌}
 use Rattle.std.specs.Prelude.{nat_lt}
-use Rattle.std.proofs.lemmas.Bool.{false≢true, and_parts, ltb-true, lt-ltb, le-ltb}
+use Rattle.std.proofs.lemmas.Bool.{false≢true, ltb-true, lt-ltb, le-ltb}
 use Rattle.lazy_store.specs.Changes.{fewer, is_waiting, with_mark}
 use Rattle.lazy_store.proofs.Splits.{one_if}
 

@@ -1,5 +1,5 @@
 -- The objects of the store with their handles, and what each container has of one.
-use Rattle.std.specs.Prelude.{ℕ, ℤ, ◌+ℤ◌, Bool, List, Option, find, map}
+use Rattle.std.specs.Prelude.{ℕ, ℤ, ◌+ℤ◌, List, Option, find, map}
 use Rattle.cache_law.specs.declared.object.Object.{Object}
 use Rattle.cache_law.specs.Object.{size_of, timing_of}
 use Rattle.cache_law.specs.Purges.{xkeys_of}

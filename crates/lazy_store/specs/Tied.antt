@@ -1,5 +1,5 @@
 -- The containers are of the same objects.
-use Rattle.std.specs.Prelude.{◌≡◌, ◌≤◌, ◌<◌, ◌+◌, ◌^◌, ◌⊎◌, ⊤, ℕ, Bool, false, nat_eq, nat_lt, List, [], ◌∷◌, map, sum_by}
+use Rattle.std.specs.Prelude.{◌≡◌, ◌≤◌, ◌<◌, ◌+◌, ◌^◌, ◌⊎◌, ⊤, ℕ, false, nat_eq, nat_lt, List, [], ◌∷◌, map, sum_by}
 use Rattle.std.specs.List.{list_any, AllByRecursion}
 use Rattle.cache_law.specs.ShownBans.{those_open}
 use Rattle.ban_lurker.specs.Looks.{is_above}

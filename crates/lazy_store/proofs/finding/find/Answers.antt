@@ -1,4 +1,4 @@
-use Rattle.std.proofs.Common.{ap, sym, ◌∙◌}
+use Rattle.std.proofs.Common.{ap, sym}
 use Rattle.std.specs.Prelude.{option_map}
 use Rattle.lazy_store.specs.Found.{found_in}
 use Rattle.lazy_store.proofs.Findings.{find_lost, find_none, find_some}

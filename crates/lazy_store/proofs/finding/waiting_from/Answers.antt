@@ -1,4 +1,4 @@
-use Rattle.std.proofs.Common.{◌≡◌, ◌-◌, ◌^◌, sym, arith}
+use Rattle.std.proofs.Common.{sym, arith}
 use Rattle.lazy_store.proofs.Lurks.{from_on}
 use Rattle.lazy_store.proofs.Rounds.{past_end, past_last, past_step}
 use Rattle.lazy_store.proofs.finding.waiting_from.Goals as goal

@@ -1,5 +1,4 @@
-use Rattle.std.proofs.Common.{◌≡◌, true, false, ap, sym, ◌∙◌, subst}
-use Rattle.std.specs.Prelude.{not}
+use Rattle.std.proofs.Common.{sym, subst}
 use Rattle.ban_list.specs.Bans.{Bans}
 use Rattle.lazy_store.specs.Tied.{AreTied}
 use Rattle.lazy_store.proofs.Bannings.{tied_by_object, tied_by_request}

@@ -1,4 +1,4 @@
-use Rattle.std.proofs.Common.{◌≡◌, ◌∙◌}
+use Rattle.std.proofs.Common.{◌∙◌}
 use Rattle.lazy_store.proofs.Settles.{close_alive, close_dead, close_later, close_place, sound_says}
 use Rattle.lazy_store.proofs.store.Store.close.Goals as goal
 

@@ -1,4 +1,4 @@
-use Rattle.std.proofs.Common.{◌≡◌, ◌+◌, ap, ◌∙◌, subst, sym}
+use Rattle.std.proofs.Common.{◌+◌, ap, ◌∙◌, subst, sym}
 use Rattle.ban_list.specs.Bans.{Bans}
 use Rattle.lazy_core.specs.Banning.{MayBeCut, cut_to}
 use Rattle.lazy_core.specs.Placed.{Lazy}

@@ -1,4 +1,4 @@
-use Rattle.std.proofs.Common.{ap, subst}
+use Rattle.std.proofs.Common.{subst}
 use Rattle.std.specs.List.{AllByRecursion}
 use Rattle.lazy_core.specs.Placed.{Lazy}
 use Rattle.lazy_core.specs.Stands.{IsWithin as TestedUpTo}

@@ -1,4 +1,4 @@
-use Rattle.std.proofs.Common.{◌≡◌, None, find, ap, subst, ◌∙◌, sym}
+use Rattle.std.proofs.Common.{find, ap, subst, ◌∙◌}
 use Rattle.std.specs.Prelude.{option_map}
 use Rattle.lazy_core.specs.Placed.{Lazy}
 use Rattle.lazy_core.specs.Insertion.{has_number}

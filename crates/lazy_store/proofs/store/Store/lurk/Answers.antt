@@ -1,4 +1,4 @@
-use Rattle.std.proofs.Common.{◌≡◌, ◌+◌, false, ap, ◌∙◌, sym, subst, arith}
+use Rattle.std.proofs.Common.{◌≡◌, ◌+◌, false, ap, ◌∙◌, subst, arith}
 use Rattle.lazy_core.specs.Placed.{Lazy, Placed, is_unswept, kept_bans, marked_at}
 use Rattle.lazy_core.specs.Insertion.{has_number}
 use Rattle.lazy_core.specs.Sweeping.{count_unswept, swept_lazy}

@@ -1,8 +1,7 @@
 use Rattle.std.proofs.Common.{◌≡◌, List, ap, sym, ◌∙◌, subst}
-use Rattle.std.specs.Prelude.{option_map, ◌≤◌, ℕ, true}
+use Rattle.std.specs.Prelude.{◌≤◌, true}
 use Rattle.std.specs.List.{AllByRecursion}
-use Rattle.object_heads.specs.Members as heads
-use Rattle.ban_list.specs.Bans.{Bans, departed, entered}
+use Rattle.ban_list.specs.Bans.{entered}
 use Rattle.lazy_core.specs.Placed.{Lazy, Placed}
 use Rattle.lazy_core.specs.Insertion.{has_number}
 use Rattle.lazy_store.specs.Found.{found_in}

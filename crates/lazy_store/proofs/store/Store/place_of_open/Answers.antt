@@ -1,4 +1,4 @@
-use Rattle.std.proofs.Common.{◌≡◌, ℕ, true, false, Some, None, find, ap, sym, subst, ◌∙◌, arith}
+use Rattle.std.proofs.Common.{◌≡◌, true, false, Some, None, find, ap, sym, subst, arith}
 use Rattle.std.specs.Prelude.{option_map}
 use Rattle.cache_law.specs.ShownBans.{those_open}
 use Rattle.lazy_core.specs.Placed.{Lazy, Placed, kept_bans}

@@ -1,8 +1,5 @@
-use Rattle.std.proofs.Common.{◌≡◌, List, ap, sym, ◌∙◌}
-use Rattle.std.specs.Prelude.{option_map}
+use Rattle.std.proofs.Common.{List, ap, sym, ◌∙◌}
 use Rattle.object_heads.specs.Members as heads
-use Rattle.ban_list.specs.Bans.{Bans, departed}
-use Rattle.lazy_core.specs.Placed.{Lazy}
 use Rattle.lazy_store.specs.Found.{found_in}
 use Rattle.lazy_store.specs.Members.{Member, at_number, lazy_of}
 use Rattle.lazy_store.specs.Changes.{without}

@@ -1,6 +1,4 @@
-use Rattle.std.proofs.Common.{◌≡◌, ◌≤◌, ℕ, true, false, Some, None, find, ap, sym, ◌∙◌, arith}
-use Rattle.ban_list.specs.declared.list.Stand.{Stand}
-use Rattle.lazy_core.specs.Placed.{Lazy, Placed}
+use Rattle.std.proofs.Common.{ℕ, ap, sym, ◌∙◌}
 use Rattle.lazy_core.specs.Insertion.{has_number}
 use Rattle.lazy_core.specs.Stands.{IsWithin as TestedUpTo}
 use Rattle.lazy_store.specs.Members.{placed_in}
