@@ -1,0 +1,14 @@
+pub mod Splits
+pub mod Found
+pub mod Waits
+pub mod Ties
+pub mod Changes
+pub mod Lines
+pub mod Sweeps
+pub mod Bannings
+pub mod Findings
+pub mod Lurks
+pub mod Fewer
+pub mod Rounds
+pub mod Settles
+pub mod Cuts

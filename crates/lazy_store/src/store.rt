@@ -1,0 +1,303 @@
+// Objects and bans in their containers.
+ghost use Rattle.std.specs.Prelude.{◌≡◌, ◌≤◌, ◌<◌, ◌+◌, ◌-◌, ◌^◌, true, false, min, Some, find as seek, option_map, IfNone, IfOk, IfSome, OnErr, OnOk};
+ghost use Rattle.std.specs.List.{AllByRecursion, list_any};
+ghost use Rattle.std.specs.Option.{option_copied};
+ghost use Rattle.lazy_core.specs.Banning.{banned_late};
+ghost use Rattle.lazy_core.specs.Insertion.{has_number as is_numbered};
+ghost use Rattle.lazy_core.specs.Placed.{Placed, is_dead, is_unswept, kept_bans, marked_at, nothing_kept};
+ghost use Rattle.lazy_core.specs.Stands.{IsWithin as TestedUpTo};
+ghost use Rattle.lazy_core.specs.Sweeping.{count_unswept, judged_lazy, swept_lazy};
+ghost use Rattle.lazy_store.specs.Changes.{moved, without};
+ghost use Rattle.lazy_store.specs.Cutting.{AreCut};
+ghost use Rattle.lazy_store.specs.Lurking.{AreSwept, is_waiting_as};
+ghost use Rattle.lazy_store.specs.Members.{number_in, placed_in};
+ghost use Rattle.lazy_store.specs.Settling.{is_open, is_settled, is_sound as is_sound_for, settled};
+ghost use Rattle.lazy_store.specs.Tied.{AreApart};
+
+use crate::finding::{find, waiting_round};
+use crate::placement::Placement;
+use crate::testing::is_matched;
+use crate::waiting::{fewer, is_waiting, with_mark};
+use ban_expr::object_only;
+use ban_list::{BanList, Stand};
+use ban_lurker::Verdict;
+use cache_law::Ban;
+use object_heads::{Heads, Item};
+use room_lru::RoomLru;
+use std::alloc::{AllocError, Global};
+use std::marker::Model;
+use units::Shared;
+use xkey_index::XkeyIndex;
+
+/// The objects and bans of a lazy cache. Clauses see what it keeps as lists.
+#[derive(Drop)]
+pub struct Store {
+    heads: Heads<Placement>,
+    tagged: XkeyIndex,
+    room: RoomLru,
+    bans: BanList,
+    // where objects wait for the lurker, those whose mark is below this number do
+    newest: u64,
+    // how many wait
+    unswept: u64,
+    // the handle from which the lurker goes on
+    cursor: u64,
+}
+
+impl Model for Store {
+    ghost use Rattle.lazy_core.specs.Placed.{Lazy};
+    ghost use Rattle.lazy_store.specs.Members.{lazy_of};
+    ghost use Rattle.lazy_store.specs.Tied.{AreTied};
+
+    ghost Value = { Lazy };
+
+    ghost view = { λ store. lazy_of store.heads store.bans };
+
+    ghost invariant = { λ store. AreTied store.heads store.tagged store.room store.bans store.newest store.unswept };
+}
+
+impl Store {
+    /// No objects and no bans.
+    pub fn new(alloc: Global) -> Result<Store, AllocError>
+        ensures { IfOk result (λ store. store ≡ nothing_kept) }
+    {
+        let bans = BanList::new(alloc)?;
+        Ok(Store {
+            heads: Heads::new(alloc),
+            tagged: XkeyIndex::new(alloc),
+            room: RoomLru::new(alloc),
+            bans,
+            newest: 0,
+            unswept: 0,
+            cursor: 0,
+        })
+    }
+
+    /// How many bans were issued. No object was tested on more. It takes no memory.
+    pub fn issued(&self) -> u64
+        ensures count { result ≡ self.now.issued }
+        ensures within { AllByRecursion (TestedUpTo self.now.issued) self.now.objects }
+    {
+        self.bans.issued()
+    }
+
+    /// How many objects wait for the lurker. It takes no memory.
+    pub fn unswept(&self) -> u64
+        ensures { result ≡ count_unswept self.now }
+    {
+        self.unswept
+    }
+
+    /// The object of the number, with what is kept of it. No two objects have one number. It takes no memory.
+    pub(crate) fn item(&self, number: u64) -> Option<&Item<Placement>>
+        ensures found { option_map placed_in (option_copied result) ≡ seek (is_numbered number) self.now.objects }
+        ensures apart { AreApart number_in self.now.objects }
+    {
+        match self.heads.handle_of(number) {
+            Some(handle) => self.heads.get(handle),
+            None => None,
+        }
+    }
+
+    /// Takes the object of the number out, where there is one. It takes no memory.
+    pub(crate) fn remove(&mut self, number: u64)
+        ensures { self.new ≡ without number self.old }
+    {
+        let found = match find(&self.heads, number) {
+            Some(found) => found,
+            None => return,
+        };
+        let stand = found.placement.stand;
+        self.heads.take(found.handle);
+        self.tagged.take(found.handle);
+        self.room.take(found.placement.used);
+        self.bans.depart(stand);
+        self.unswept = fewer(self.unswept, self.newest, stand.mark);
+    }
+
+    // Whether a ban on objects alone that the object wasn't tested on matches it.
+    fn is_dead(&self, alloc: Global, item: &Item<Placement>) -> Result<bool, AllocError>
+        ensures { IfOk result (λ dead. dead ≡ is_dead (kept_bans self.now) (placed_in item.now)) }
+    {
+        // that the numbers fall along the lines
+        let _issued = self.bans.issued();
+        is_matched(
+            &self.bans,
+            alloc,
+            item.payload.stand.mark,
+            &item.view.object,
+            None,
+        )
+    }
+
+    /// Tests the object of the number, where there is one, on all bans on objects alone: it goes where one matches it. Where
+    /// memory is wanting all is as before.
+    pub(crate) fn sweep(&mut self, alloc: Global, number: u64) -> Result<(), AllocError>
+        ensures ok { OnOk result (self.new ≡ swept_lazy (is_numbered number) self.old) }
+        ensures err { OnErr result (self.new ≡ self.old) }
+    {
+        let item = match self.item(number) {
+            Some(item) => item,
+            None => return Ok(()),
+        };
+        let place = item.payload.stand.place;
+        if self.is_dead(alloc, item)? {
+            self.remove(number);
+            return Ok(());
+        }
+        let mark = self.issued();
+        self.move_to(number, Stand { place, mark });
+        Ok(())
+    }
+
+    /// The object of the number, where there is one, stands there among the bans, which it was tested on. It takes no memory.
+    pub(crate) fn move_to(&mut self, number: u64, stand: Stand)
+        requires place { stand.place ≤ self.old.issued }
+        requires mark { stand.mark ≤ self.old.issued }
+        requires later { AllByRecursion (λ placed. is_numbered number placed ≡ true → placed.mark ≤ stand.mark) self.old.objects }
+        ensures { self.new ≡ moved number stand self.old }
+    {
+        let found = match find(&self.heads, number) {
+            Some(found) => found,
+            None => return,
+        };
+        let old = found.placement;
+        let payload = Placement {
+            used: old.used,
+            stand,
+        };
+        // that they can be counted
+        let _objects = self.bans.objects();
+        self.heads.set_payload(found.handle, payload);
+        self.bans.depart(old.stand);
+        self.bans.enter(stand);
+        self.unswept = with_mark(self.unswept, self.newest, old.stand.mark, stand.mark);
+    }
+
+    /// Issues the ban at the moment. No object is tested on it. Where memory is wanting all is as before.
+    pub fn ban(&mut self, alloc: Global, moment: u64, ban: &Shared<Ban>) -> Result<(), AllocError>
+        requires { self.old.issued + 1 < 2 ^ 64 }
+        ensures ok { OnOk result (self.new ≡ banned_late moment ban.now self.old) }
+        ensures err { OnErr result (self.new ≡ self.old) }
+    {
+        let number = self.bans.issued() + 1;
+        self.bans.issue(alloc, moment, ban)?;
+        if !object_only(ban) {
+            return Ok(());
+        }
+        self.newest = number;
+        self.unswept = self.bans.objects();
+        Ok(())
+    }
+
+    // The number of the newest ban: an object with this mark doesn't wait for the lurker.
+    fn newest_mark(&self) -> u64
+        ensures count { result ≡ self.now.issued }
+        ensures swept { (placed : Placed) → is_unswept (kept_bans self.now) (marked_at self.now.issued placed) ≡ false }
+    {
+        self.bans.issued()
+    }
+
+    // The number of an object that waits for the lurker. The next time it goes on from there.
+    fn next_waiting(&mut self) -> Option<u64>
+        ensures same { self.new ≡ self.old }
+        ensures apart { AreApart number_in self.old.objects }
+        ensures some { IfSome result (λ number. list_any (is_waiting_as number (kept_bans self.old)) self.old.objects ≡ true) }
+        ensures none { IfNone result (count_unswept self.old ≡ 0) }
+    {
+        if self.unswept == 0 {
+            return None;
+        }
+        match waiting_round(&self.heads, self.cursor, self.newest) {
+            Some(waiting) => {
+                self.cursor = waiting.handle;
+                Some(waiting.number)
+            }
+            None => None,
+        }
+    }
+
+    /// Tests so many of the objects that wait for the lurker on all bans on objects alone, or all where they are fewer, and
+    /// says how many those were. One that a ban matches goes. An error means that memory was wanting; some were tested then.
+    pub fn lurk(&mut self, alloc: Global, count: u32) -> Result<u32, AllocError>
+        ensures swept { IfOk result (λ swept. (swept ≡ min count (count_unswept self.old)) × (count_unswept self.new ≡ count_unswept self.old - swept)) }
+        ensures only { AreSwept self.old self.new }
+    {
+        for swept in 0..count {
+            let number = match self.next_waiting() {
+                Some(number) => number,
+                None => return Ok(swept),
+            };
+            let _mark = self.newest_mark();
+            self.sweep(alloc, number)?;
+        }
+        Ok(count)
+    }
+
+    /// Takes out the oldest lines, as far as no object waits for them. It takes no memory.
+    pub fn cut(&mut self)
+        ensures { AreCut self.old self.new }
+    {
+        // that the numbers fall along the lines
+        let _issued = self.bans.issued();
+        self.bans.cut();
+    }
+
+    // The place of the object that the verdict is on, where that is as the verdict has it and waits for the lurker.
+    fn place_of_open(&self, verdict: Verdict) -> Option<u64>
+        ensures { result ≡ option_map (λ (placed : Placed). placed.place) (seek (is_open (kept_bans self.now) verdict) self.now.objects) }
+    {
+        let stand = match find(&self.heads, verdict.object) {
+            Some(found) => found.placement.stand,
+            None => return None,
+        };
+        if stand.mark != verdict.mark {
+            return None;
+        }
+        if !is_waiting(self.unswept, self.newest, stand.mark) {
+            return None;
+        }
+        Some(stand.place)
+    }
+
+    /// Does with an object what was found of it: a dead one goes, and any other counts as tested up to the verdict's ban. Where
+    /// the object isn't as the verdict has it, or doesn't wait for the lurker, or the verdict is on bans that weren't issued,
+    /// nothing changes and the answer is false. It takes no memory.
+    pub fn settle(&mut self, verdict: Verdict) -> bool
+        ensures answer { result ≡ is_settled verdict self.old }
+        ensures left { self.new ≡ settled verdict self.old }
+    {
+        if !is_sound(self.issued(), verdict) {
+            return false;
+        }
+        let place = match self.place_of_open(verdict) {
+            Some(place) => place,
+            None => return false,
+        };
+        self.close(verdict, place);
+        true
+    }
+
+    // Settles the verdict on the object, which has the place.
+    fn close(&mut self, verdict: Verdict, place: u64)
+        requires sound { is_sound_for self.old.issued verdict ≡ true }
+        requires open_ { Some place ≡ option_map (λ (placed : Placed). placed.place) (seek (is_open (kept_bans self.old) verdict) self.old.objects) }
+        ensures { self.new ≡ judged_lazy verdict self.old }
+    {
+        let _item = self.item(verdict.object);
+        if verdict.dead {
+            self.remove(verdict.object);
+            return;
+        }
+        let _issued = self.issued();
+        let mark = verdict.upto;
+        self.move_to(verdict.object, Stand { place, mark });
+    }
+}
+
+// Whether the verdict is on bans that were issued, and not on fewer than the object was tested on.
+fn is_sound(issued: u64, verdict: Verdict) -> bool
+    ensures { result ≡ is_sound_for issued verdict }
+{
+    verdict.dead || verdict.mark <= verdict.upto && verdict.upto <= issued
+}
