@@ -6,8 +6,8 @@
   tools/examples.py line FILE  prints the line of a session that loads the VCL of a file
 
 A session NAME.session loads examples/vcl/NAME.vcl by the line that `line` prints. It is a row of replay_tests,
-whose wanted answer is NAME.transcript, and the VCL is a row of the crate of tests that has the line PROGRAMS_MARK.
-Transcripts are written by hand.
+whose wanted answer is NAME.transcript, and the VCL is a row of the crate of tests that has the line PROGRAMS_MARK,
+unless it imports a module of which that crate has no functions. Transcripts are written by hand.
 """
 import pathlib
 import re
@@ -19,6 +19,8 @@ RUNS = TOP / "crates/replay_tests"
 RUN_MARK = "@ example="
 PROGRAMS_MARK = "# the files of examples/vcl, each on one line without its comments"
 PROGRAM_WORDS = "program "
+# A module that the table of functions of that crate of tests hasn't.
+LACKING = re.compile(r"^import cookie;", re.M)
 # The longest transcript that replay_tests tells whole.
 SHORT = 5000
 
@@ -109,7 +111,8 @@ def wanted():
         vcl, path = VCL / f"{name}.vcl", SESSIONS / f"{name}.session"
         made[path] = with_loading(path.read_text(), vcl)
         runs += run_rows(name, made[path], (SESSIONS / f"{name}.transcript").read_text())
-        programs += program_row(vcl.read_text())
+        if not LACKING.search(vcl.read_text()):
+            programs += program_row(vcl.read_text())
     made[RUNS / "stdin"] = parted((RUNS / "stdin").read_text(), RUN_MARK)[0] + runs
     made[RUNS / "stdout"] = f"{count_of_runs(made[RUNS / 'stdin'])} rows\n"
     rows = programs_crate() / "stdin"
