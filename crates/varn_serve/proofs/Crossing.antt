@@ -27,13 +27,15 @@ tree_send = search trees depth 60 fits 20000
 tree_sync : IsSync tree.the_field.row
 tree_sync = struct_sync (Declared.shape tree.the_type) (search trees depth 60 fits 20000, (search trees depth 60 fits 20000, tt))
 
-ruleset programs = (crosses, sendable, value_pattern_send, value_pattern_sync, code.the_send, code.the_sync, code.the_field_send, code.the_field_sync)
+ruleset programs = (crosses, sendable, value_pattern_send, value_pattern_sync, code.the_send, code.the_sync, code.the_field_send, code.the_field_sync, text.the_send, text.the_sync)
 
 checked_send : IsSend checked.the_field.row
-checked_send = struct_send (Declared.shape checked.the_type) (tree_send, (search programs depth 60 fits 20000, (search programs depth 60 fits 20000, tt)))
+checked_send =
+    struct_send (Declared.shape checked.the_type) (tree_send, (search programs depth 60 fits 20000, (search programs depth 60 fits 20000, (search programs depth 60 fits 20000, (search programs depth 60 fits 20000, tt)))))
 
 checked_sync : IsSync checked.the_field.row
-checked_sync = struct_sync (Declared.shape checked.the_type) (tree_sync, (search programs depth 60 fits 20000, (search programs depth 60 fits 20000, tt)))
+checked_sync =
+    struct_sync (Declared.shape checked.the_type) (tree_sync, (search programs depth 60 fits 20000, (search programs depth 60 fits 20000, (search programs depth 60 fits 20000, (search programs depth 60 fits 20000, tt)))))
 
 pub compiled_send : IsSend compiled.the_field.row
 compiled_send = struct_send (Declared.shape compiled.the_type) (checked_send, (search programs depth 60 fits 20000, (search programs depth 60 fits 20000, tt)))
