@@ -1,4 +1,4 @@
-//! Rows for messages: heads of `http_heads`, `freshness`, `seen_request`, `delivery` and `access_log`. Each line of the input has a call's name
+//! Rows for messages: heads of `http_heads`, `freshness`, `seen_request` and `delivery`. Each line of the input has a call's name
 //! with what it gets and, behind ` => `, what is to be said of it. The program prints the rows that go otherwise, and how many rows
 //! there are.
 #![tactic(auto)]
@@ -6,7 +6,6 @@
 mod changes;
 mod delivering;
 mod heads;
-mod logging;
 mod seeing;
 mod serving;
 
@@ -45,7 +44,6 @@ fn said(alloc: Global, row: &str) -> Result<String, AllocError> {
         "synthetic" => delivering::synthetic_shown(alloc, rest),
         "failure_page" => delivering::failure_page_shown(alloc),
         "age" => delivering::age_shown(alloc, rest),
-        "logged" => logging::logged_shown(alloc, rest),
         "reason" => delivering::reason_shown(alloc, rest),
         _ => format!(in alloc; "no such row"),
     }
