@@ -247,11 +247,7 @@ fn scene_shown<R: Outside + Files + Threads + Send + 'static>(
     rt: R,
     word: &str,
     row: &str,
-) -> io::Result<String>
-where
-    <R as Files>::File: Send,
-    <R as Files>::Dir: Send,
-{
+) -> io::Result<String> {
     let mut out = String::new(rt.alloc());
     let mut world = SystemWorld::new(rt, HOME);
     let file = free_name(&rt)?;
@@ -273,11 +269,7 @@ where
 }
 
 // A port that is taken isn't had, nor one where the loop hasn't begun.
-fn taken_shown<R: Outside + Files + Threads + Send + 'static>(rt: R) -> io::Result<String>
-where
-    <R as Files>::File: Send,
-    <R as Files>::Dir: Send,
-{
+fn taken_shown<R: Outside + Files + Threads + Send + 'static>(rt: R) -> io::Result<String> {
     let mut world = SystemWorld::new(rt, HOME);
     let is_begun = world.listen(0).is_ok();
     world.start()?;
