@@ -2,21 +2,22 @@
 # What clients that hold connections take from others: 8 clients ask for hits for some seconds, alone and beside each crowd, from a
 # `varn serve` of four workers. The crowds are clients that are idle behind one answer, as many as IDLE says (10,000 where the
 # system lets a process have so many descriptors); 64 that send a byte of a request each second; 64 that take 8 MiB at 10,000 bytes
-# a second; 16 that send a body of 1 MiB at 20,000 bytes a second; and all of these together. A line has the hits of the 8 as a
-# ratio to those alone, with both rates, how long 99 of 100 took at most, and the server's memory. Run it at the top of the
-# repository. The program is built and proved first where it isn't there yet; PROGRAM names another build of it, IDLE another
-# number of idle clients, SECONDS_EACH how long is measured.
+# a second; 16 that send a body of 1 MiB at 20,000 bytes a second; 16 that ask each second for a page of a backend that takes
+# connections and says nothing; and all of these together. A line has the hits of the 8 as a ratio to those alone, with both rates,
+# how long 99 of 100 took at most, and the server's memory. Run it at the top of the repository. The program is built and proved
+# first where it isn't there yet; PROGRAM names another build of it, IDLE another number of idle clients, SECONDS_EACH how long is
+# measured, LARGE_BYTES how long the large pages are.
 # shellcheck source=bench/prepare.sh
 . "$(dirname "$0")/prepare.sh"
 prepare varn
 ulimit -n "$(ulimit -Hn)"
-python3 - "$work" "$program" "${IDLE:-10000}" "${SECONDS_EACH:-5}" <<'PY'
+python3 - "$work" "$program" "${IDLE:-10000}" "${SECONDS_EACH:-5}" "${LARGE_BYTES:-8000000}" <<'PY'
 import os, re, resource, selectors, socket, subprocess, sys, time
 
 work, program = sys.argv[1:3]
 IDLE = min(int(sys.argv[3]), resource.getrlimit(resource.RLIMIT_NOFILE)[0] - 300)
 SECONDS = float(sys.argv[4])
-LARGE = 8_000_000
+LARGE = int(sys.argv[5])
 
 def free_port():
     with socket.socket() as one:
@@ -57,8 +58,11 @@ def attend(listener):
 listener = socket.create_server(('127.0.0.1', 0), backlog=1024)
 BACKEND, PORT = listener.getsockname()[1], free_port()
 backend = forked(lambda: attend(listener))
+# One that takes connections as far as the system does, and says nothing.
+mute = socket.create_server(('127.0.0.1', 0), backlog=1024)
 with open('%s/site.vcl' % work, 'w') as out:
-    out.write('vcl 4.1;\nbackend default { .host = "127.0.0.1"; .port = "%d"; }\n' % BACKEND)
+    out.write('vcl 4.1;\nbackend default { .host = "127.0.0.1"; .port = "%d"; }\nbackend mute { .host = "127.0.0.1"; .port = "%d"; }\n'
+              'sub vcl_recv { if (req.url ~ "^/mute") { set req.backend_hint = mute; } }\n' % (BACKEND, mute.getsockname()[1]))
 
 # ---- clients
 
@@ -122,7 +126,21 @@ def upload():
         link.sendall(b'POST /form HTTP/1.1\r\nHost: h\r\nContent-Length: 1000000\r\n\r\n')
     return each_second(links, lambda link: link.send(b'x' * 20_000))
 
-CROWDS = {'idle': hold_idle, 'dripping': drip, 'taking': take, 'uploading': upload}
+def hang():
+    links = [connect() for _ in range(16)]
+    for place, link in enumerate(links):
+        link.setblocking(False)
+        link.send(b'GET /mute%d HTTP/1.1\r\nHost: h\r\n\r\n' % place)
+    def again(link):
+        try:
+            if not link.recv(65536):
+                raise OSError
+            link.send(b'GET /mute%d HTTP/1.1\r\nHost: h\r\n\r\n' % link.fileno())
+        except BlockingIOError:
+            pass
+    return each_second(links, again)
+
+CROWDS = {'idle': hold_idle, 'dripping': drip, 'taking': take, 'uploading': upload, 'hanging': hang}
 
 class Crowd:
     """Clients in a process of their own, which are there once this is."""
@@ -209,7 +227,8 @@ def beside(name, makers):
 
 try:
     for name, make in CROWDS.items():
-        beside({'idle': '%d that are idle' % IDLE, 'dripping': '64 that drip', 'taking': '64 that take slowly', 'uploading': '16 that upload'}[name], [make])
+        beside({'idle': '%d that are idle' % IDLE, 'dripping': '64 that drip', 'taking': '64 that take slowly', 'uploading': '16 that upload',
+                'hanging': '16 at a mute backend'}[name], [make])
     beside('all of these', list(CROWDS.values()))
 finally:
     os.kill(backend, 9)

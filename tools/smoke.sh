@@ -169,7 +169,8 @@ sub vcl_deliver {
 }
 VCL
 
-"$program" serve --listen "$port" --vcl "$work/site.vcl" --workers 4 --conns $connections > "$work/out" 2> "$work/errors" &
+VARN_ACCESS_LOG=$work/access "$program" serve --listen "$port" --vcl "$work/site.vcl" --workers 4 --conns $connections \
+  > "$work/out" 2> "$work/errors" &
 server=$!
 # A try that finds nobody at the port makes no connection.
 for _ in {1..200}; do
@@ -203,7 +204,7 @@ bears() {
 }
 
 bearing_port=$(free_port)
-VARN_STOP=$work/stop "$program" serve --listen "$bearing_port" --vcl "$work/site.vcl" --workers 8 --conns 1000 \
+VARN_STOP=$work/stop VARN_ACCESS_LOG=$work "$program" serve --listen "$bearing_port" --vcl "$work/site.vcl" --workers 8 --conns 1000 \
   > "$work/bearing_out" 2> "$work/bearing_errors" &
 bearing=$!
 check "a second server listens" listens_at "$bearing_port" $bearing
@@ -271,6 +272,24 @@ took=$((SECONDS - begun))
 comes_soon() { [ $took -lt 3 ] && gets 200 '/beside asked 1 times'; }
 check "a page beside a silent client and a backend that stalls" comes_soon
 
+# told LINE [FILE]: the server has said this line on standard error, which is that file, once
+told() {
+  local errors=${2:-$work/errors}
+  cp "$errors" "$work/reply"
+  [ "$(grep --count --line-regexp --fixed-strings -- "$1" "$errors")" = 1 ]
+}
+# logs PATTERN: a line like this comes in the log, which is written each second
+logs() {
+  for _ in {1..80}; do
+    grep --quiet --line-regexp --extended-regexp -- "$1" "$work/access" 2> /dev/null && return 0
+    sleep 0.05
+  done
+  cp "$work/access" "$work/reply" 2> /dev/null
+  return 1
+}
+client='127\.0\.0\.. - - \[../.../20..:..:..:.. \+0000\]'
+agent='"curl/[^"]*" [0-9]+\.[0-9]{3}'
+
 # ---- one after another
 
 ask "$site/page"
@@ -281,6 +300,9 @@ check "a hit" gets 200 'X-Cache: HIT' '/page asked 1 times'
 ask --head "$site/page"
 check "a HEAD" gets 200 'X-Cache: HIT' 'Content-Length: [0-9]+'
 check "a HEAD has no body" has_no_body
+check "a miss is logged" logs "$client \"GET /page HTTP/1.1\" 200 20 \"-\" $agent miss [0-9]+"
+check "a hit is logged" logs "$client \"GET /page HTTP/1.1\" 200 20 \"-\" $agent hit [0-9]+"
+mv "$work/access" "$work/access.1"
 ask --data 'some words' "$site/form"
 check "a POST" gets 200 'X-Cache: MISS' 'some words' 'X-Times: 1'
 ask --data 'other words' "$site/form"
@@ -296,10 +318,12 @@ ask "$site/tag"
 check "a page that its backend confirms" gets 200 'ETag: "tag"' '/tag asked 1 times'
 ask "$site/down"
 check "a backend that is down" gets 503 '503 Backend fetch failed'
+check "it is told once" told "the backend 127.0.0.1:$nobody can't be reached"
 ask --interface 127.0.0.2 --request PURGE "$site/page"
 check "a purge refused" gets 405 '405 Not allowed'
 ask "$site/page"
 check "a refused purge leaves the page" gets 200 'X-Cache: HIT' '/page asked 1 times'
+check "the log goes on in a new file once it was renamed" logs "$client \"PURGE /page HTTP/1.1\" 405 [0-9]+ \"-\" $agent miss [0-9]+"
 
 while [ $((SECONDS - aged)) -lt 3 ]; do
   sleep 0.1
@@ -345,6 +369,10 @@ ended=$?
 cp "$work/errors" "$work/reply"
 # Every connection had one round, but for the silent one, which had two, and the one whose request can't be read.
 check "the program ends, and tells its rounds" [ "$ended $(cat "$work/out")" = "0 rounds $connections" ]
+# The request that can't be read has a line too.
+cat "$work/access.1" "$work/access" > "$work/reply"
+check "the log has a line of each request" [ "$(wc -l < "$work/reply")" = $((connections + 1)) ]
+check "a log that can't be written is told once" told "the access log can't be written: lines of it are lost" "$work/bearing_errors"
 
 # ---- the ruder clients, and ends before the last connection
 
@@ -359,7 +387,7 @@ check "a client that takes nothing is ended after half a minute" bears taker $ta
 
 # stopped PROCESS OUT ERRORS: the process ends in time, with 0 and a line of rounds
 stopped() {
-  for _ in {1..200}; do
+  for _ in {1..400}; do
     kill -0 "$1" 2> /dev/null || break
     sleep 0.05
   done
@@ -378,6 +406,12 @@ done
 : > "$work/stop"
 check "an idle connection ends once the stop file is there" bears idle $idle
 check "a run ends once its stop file is there" stopped $bearing "$work/bearing_out" "$work/bearing_errors"
+check "and says why" told "the run is to end: its stop file is there" "$work/bearing_errors"
+kill -STOP $open
+sleep 0.5
+kill -CONT $open
+ask "http://127.0.0.1:$open_port/page"
+check "a run that was stopped for a while goes on" gets 200
 : > "$work/open_stop"
 check "so does one that serves as many connections as come" stopped $open "$work/open_out" "$work/open_errors"
 : > "$work/crowd_stop"
@@ -390,6 +424,7 @@ if env --block-signal=TERM true 2> /dev/null; then
   term=$!
   listens_at "$term_port" $term && kill -TERM $term
   check "a run that blocks SIGTERM ends in order by it" stopped $term "$work/term_out" "$work/term_errors"
+  check "and says so" told "the run is to end: SIGTERM came" "$work/term_errors"
 fi
 echo "$passed passed, $failed failed"
 [ $failed = 0 ]

@@ -38,6 +38,8 @@ pub(crate) struct Client {
     gauge: RequestGauge,
     /// How many bytes a worker may have.
     ready: usize,
+    /// Whether it got none of them yet.
+    is_fresh: bool,
     /// When the first bytes of a request came that isn't whole, or the connection got idle, by the loop's clock.
     pub since: u64,
     /// How many requests workers got.
@@ -59,6 +61,7 @@ impl Client {
             input: Intake::new(alloc),
             gauge: RequestGauge::new(),
             ready: 0,
+            is_fresh: false,
             since: now,
             requests: 0,
             has_answered: false,
@@ -81,6 +84,7 @@ impl Client {
     // So many bytes are for a worker.
     fn make_ready(&mut self, count: usize) {
         self.ready = count;
+        self.is_fresh = true;
         self.gauge = RequestGauge::new();
         self.requests = self.requests.saturating_add(1);
     }
@@ -109,6 +113,15 @@ impl Client {
         self.ready > 0
     }
 
+    /// The bytes that a worker may have, of which it got none yet.
+    pub fn fresh(&self) -> Option<&[u8]> {
+        if self.is_fresh {
+            self.input.bytes().get(..self.ready)
+        } else {
+            None
+        }
+    }
+
     /// Gives a worker bytes of the request, at most as many as the room has.
     pub fn give(&mut self, room: &mut [u8]) -> usize
         ensures bound { result ≤ length room.new }
@@ -117,6 +130,7 @@ impl Client {
         let count = self.ready.min(bytes.len()).min(room.len());
         room[..count].copy_from_slice(&bytes[..count]);
         self.input.skip(count);
+        self.is_fresh = false;
         self.ready = self.ready.saturating_sub(count);
         count
     }

@@ -7,6 +7,8 @@
 
 mod client;
 mod client_pace;
+mod holding;
+mod noting;
 mod outside;
 mod places;
 mod port_link;

@@ -1,7 +1,7 @@
 // What an error of accept(2) asks for.
 
-use libc::{ECONNRESET, EMFILE, ENOMEM, EPERM, ETIMEDOUT};
-use std::io::{self, ErrorKind};
+use libc::{EAGAIN, ECONNABORTED, ECONNRESET, EINTR, EMFILE, ENOMEM, EPERM, ETIMEDOUT};
+use std::io;
 
 // Numbers of errors that the kit's libc doesn't name.
 const ENFILE: i32 = 23;
@@ -37,33 +37,27 @@ pub(crate) enum Remedy {
     GiveUp,
 }
 
-// What the system's number of an error asks for. The page of accept(2) names those of the network: they are to be taken as if nobody
-// had come.
-fn remedy_of_number(number: i32) -> Remedy {
-    match number {
-        EMFILE | ENFILE | ENOBUFS | ENOMEM => Remedy::Pause,
-        ENETDOWN
-        | ENETUNREACH
-        | EHOSTDOWN
-        | EHOSTUNREACH
-        | ENONET
-        | EPROTO
-        | ENOPROTOOPT
-        | EOPNOTSUPP
-        | EPERM
-        | ETIMEDOUT
-        | ECONNRESET => Remedy::AskAgain,
-        _ => Remedy::GiveUp,
-    }
-}
-
+/// What an error asks for, by its number; the program's own want of memory has none. The page of accept(2) names those of the network:
+/// they are to be taken as if nobody had come.
 pub(crate) fn remedy_for(error: &io::Error) -> Remedy {
-    match error.kind() {
-        ErrorKind::WouldBlock => Remedy::Wait,
-        ErrorKind::Interrupted | ErrorKind::ConnectionAborted => Remedy::AskAgain,
-        ErrorKind::OutOfMemory => Remedy::Pause,
-        _ => error
-            .raw_os_error()
-            .map_or(Remedy::GiveUp, remedy_of_number),
+    match error.raw_os_error() {
+        None | Some(EMFILE | ENFILE | ENOBUFS | ENOMEM) => Remedy::Pause,
+        Some(EAGAIN) => Remedy::Wait,
+        Some(
+            EINTR
+            | ECONNABORTED
+            | ECONNRESET
+            | ENETDOWN
+            | ENETUNREACH
+            | EHOSTDOWN
+            | EHOSTUNREACH
+            | ENONET
+            | EPROTO
+            | ENOPROTOOPT
+            | EOPNOTSUPP
+            | EPERM
+            | ETIMEDOUT,
+        ) => Remedy::AskAgain,
+        Some(_) => Remedy::GiveUp,
     }
 }

@@ -2,6 +2,7 @@
 
 use crate::client::Client;
 use crate::stop_sign::StopSign;
+use access_log::AccessLog;
 use mio::Waker;
 use mio::net::TcpListener;
 use std::alloc::{AllocError, Global};
@@ -9,7 +10,7 @@ use std::collections::VecDeque;
 use std::mem;
 use std::rt::Clock;
 use std::sync::atomic::{AtomicBool, AtomicU64, Ordering};
-use std::sync::{Condvar, Mutex, Wait};
+use std::sync::{Arc, Condvar, Mutex, Wait};
 use std::time::{Duration, Instant};
 
 /// How many milliseconds a worker waits at most for a connection.
@@ -78,6 +79,8 @@ pub struct Edge {
     unanswered: AtomicU64,
     start: Instant,
     pub(crate) stop: StopSign,
+    /// None where no log is kept.
+    pub(crate) log: Option<Arc<AccessLog, Global>>,
 }
 
 impl Queue {
@@ -98,7 +101,13 @@ impl Queue {
 }
 
 impl Edge {
-    pub(crate) fn new(alloc: Global, waker: Waker, start: Instant, stop: StopSign) -> Edge {
+    pub(crate) fn new(
+        alloc: Global,
+        waker: Waker,
+        start: Instant,
+        stop: StopSign,
+        log: Option<Arc<AccessLog, Global>>,
+    ) -> Edge {
         let queue = Queue {
             ready: VecDeque::new(alloc),
             has_ended: false,
@@ -119,6 +128,7 @@ impl Edge {
             unanswered: AtomicU64::new(0),
             start,
             stop,
+            log,
         }
     }
 

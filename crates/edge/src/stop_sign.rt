@@ -26,6 +26,8 @@ pub struct StopSign {
     /// When it was looked last, in milliseconds from the start.
     looked: AtomicU64,
     is_seen: AtomicBool,
+    /// Whether the signal was seen.
+    is_signal: AtomicBool,
 }
 
 // Whether SIGTERM is among the pending signals.
@@ -54,6 +56,7 @@ impl StopSign {
             start,
             looked: AtomicU64::new(0),
             is_seen: AtomicBool::new(false),
+            is_signal: AtomicBool::new(false),
         }
     }
 
@@ -82,21 +85,29 @@ impl StopSign {
         }
     }
 
-    /// Whether somebody has seen it.
-    pub fn is_seen(&self) -> bool {
-        self.is_seen.load(Ordering::SeqCst)
+    /// What is said of it, where somebody has seen it.
+    pub fn reason(&self) -> Option<&'static str> {
+        if self.is_signal.load(Ordering::SeqCst) {
+            Some("the run is to end: SIGTERM came")
+        } else if self.is_seen.load(Ordering::SeqCst) {
+            Some("the run is to end: its stop file is there")
+        } else {
+            None
+        }
     }
 
     /// Whether it was seen, looked at four times a second at most.
     pub fn is_set<R: Files + Clock + AllocGlobal>(&self, rt: &R) -> bool {
-        if self.is_seen() {
+        if self.is_seen.load(Ordering::SeqCst) {
             return true;
         }
         if !self.is_due(rt) {
             return false;
         }
-        let is_set = self.is_file_there(rt) || is_term_pending(rt);
+        let is_signal = is_term_pending(rt);
+        let is_set = is_signal || self.is_file_there(rt);
         if is_set {
+            self.is_signal.store(is_signal, Ordering::SeqCst);
             self.is_seen.store(true, Ordering::SeqCst);
         }
         is_set

@@ -7,6 +7,7 @@ use crate::remedies::{Remedy, remedy_for};
 use crate::shared::{Edge, Handed};
 use crate::stop_sign::StopSign;
 use crate::telling::tell;
+use access_log::AccessLog;
 use libc::types::rlimit;
 use libc::{RLIMIT_NOFILE, getrlimit};
 use mio::event::Event;
@@ -146,6 +147,7 @@ impl<R: Outside> Turning<R> {
         let rt = self.rt;
         for _ in rt.forever() {
             if self.turn(events).is_err() {
+                tell(&self.rt, "the run is to end: a call of the system's failed");
                 self.edge.end(&self.rt, true);
                 break;
             }
@@ -170,7 +172,13 @@ impl<R: Outside> Turning<R> {
     // Waits until something comes, and does what is to be done then.
     fn turn(&mut self, events: &mut Events<Global>) -> io::Result<()> {
         let patience = Duration::from_millis(self.patience());
-        self.poll.poll(events, Some(patience))?;
+        if let Err(error) = self.poll.poll(events, Some(patience)) {
+            // So it is where the process was stopped and goes on.
+            return match error.kind() {
+                ErrorKind::Interrupted => Ok(()),
+                _ => Err(error),
+            };
+        }
         self.now = self.edge.now(&self.rt);
         self.is_retired = self.edge.is_retired();
         self.take_listener()?;
@@ -255,7 +263,13 @@ impl<R: Outside> Turning<R> {
                 self.tell_shortage(true);
                 self.resume = self.now.saturating_add(PAUSE_MILLIS);
             }
-            Remedy::GiveUp => self.close_listener(true),
+            Remedy::GiveUp => {
+                tell(
+                    &self.rt,
+                    "the run is to end: no connection can be accepted any more",
+                );
+                self.close_listener(true);
+            }
         }
         false
     }
@@ -446,13 +460,8 @@ impl<R: Outside> Turning<R> {
             place.phase = Phase::Taking;
             place.mark = client.untaken() as u64;
             client.since = since;
-            self.await_room(index);
+            self.await_news(index, Interest::WRITABLE);
         }
-    }
-
-    // Has the system tell when a client takes more.
-    fn await_room(&mut self, index: usize) {
-        self.await_news(index, Interest::WRITABLE);
     }
 
     // Has the system tell of a connection.
@@ -492,21 +501,13 @@ impl<R: Outside> Turning<R> {
         }
         let is_answered = client.has_answered && !client.is_over();
         let has_request = goes_on && client.has_request(alloc);
-        if has_request {
-            self.give(index);
-        } else if goes_on {
-            self.await_next(index, was_taking);
-        } else if is_answered {
-            self.begin_closing(index);
-        } else {
-            self.release(index);
-        }
-    }
-
-    // Has the system tell of requests again, where it told of room for what waited.
-    fn await_next(&mut self, index: usize, was_taking: bool) {
-        if was_taking {
-            self.await_news(index, Interest::READABLE);
+        match (goes_on, has_request, was_taking, is_answered) {
+            (true, true, _, _) => self.give(index),
+            // The system told of room for what waited.
+            (true, false, true, _) => self.await_news(index, Interest::READABLE),
+            (true, false, false, _) => {}
+            (false, _, _, true) => self.begin_closing(index),
+            (false, _, _, false) => self.release(index),
         }
     }
 
@@ -576,12 +577,10 @@ impl<R: Outside> Turning<R> {
     fn reason_to_end(&self) -> Option<&'static str> {
         if self.is_retired {
             Some("")
-        } else if self.edge.stop.is_seen() {
-            Some("the run is to end: no more connections are accepted")
         } else if self.edge.is_mute() {
             Some("the run is to end: requests aren't answered any more")
         } else {
-            None
+            self.edge.stop.reason()
         }
     }
 
@@ -630,16 +629,18 @@ impl<R: Outside> Turning<R> {
 const MOST_EVENTS: usize = 1_024;
 
 /// A loop in a thread of its own, which waits for a listening socket; the request to end the run is looked for from this moment on.
+/// Workers add a line of each exchange to the log, if one is kept.
 pub fn begin_loop<R: Outside + Threads + Send + 'static>(
     rt: &R,
     stop_file: Option<Text>,
+    log: Option<Arc<AccessLog, Global>>,
 ) -> io::Result<Arc<Edge, Global>> {
     let alloc = rt.alloc();
     let poll = Poll::new(rt)?;
     let waker = Waker::new(poll.registry(), WAKER)?;
     let start = Instant::now(rt)?;
     let stop = StopSign::new(stop_file, start);
-    let edge = Arc::new(alloc, Edge::new(alloc, waker, start, stop))?;
+    let edge = Arc::new(alloc, Edge::new(alloc, waker, start, stop, log))?;
     let mut turning = Turning::new(*rt, Arc::try_clone(&edge)?, poll)?;
     let mut events = Events::with_capacity(alloc, MOST_EVENTS)?;
     match thread::spawn(rt, move || turning.run(&mut events)) {

@@ -4,6 +4,7 @@
 #![tactic(auto)]
 
 mod bytes;
+mod crowds;
 mod dialers;
 mod exchanges;
 mod links;
@@ -80,6 +81,7 @@ fn said<R: Outside + Threads + Send + 'static>(
         "tcp" => tcp::tcp_shown(outside, alloc, number),
         "tcp_within" => tcp::within_shown(outside, alloc, number),
         "tcp_name" => tcp::name_shown(outside, alloc, row),
+        "crowd" => crowds::crowd_shown(outside, alloc, number),
         "reuse" => reuse::reuse_shown(outside, alloc, row),
         "rest" => process::rest_shown(*rt, alloc, number),
         "clock" => process::clock_shown(alloc, number, row),

@@ -5,7 +5,7 @@ use std::io::{self, ErrorKind, Read, Write};
 use std::net::{OpenStream, TcpListener, TcpStream};
 use std::thread::Threads;
 use std::time::Duration;
-use system::{BackendLink, Outside, TcpDialer, begin_names};
+use system::{BackendLink, Outside, TcpDialer, begin_backends};
 use units::Text;
 use wire::{Dialer, Link, TimeLimits, write_link};
 
@@ -35,7 +35,7 @@ impl<R: Outside + Threads + Send + 'static> Scene<R> {
         let listener = TcpListener::bind(&rt, "127.0.0.1:0")?;
         let host = Text::of(alloc, b"127.0.0.1")?;
         let port = port_text(alloc, listener.local_addr()?.port())?;
-        let mut dialer = TcpDialer::new(rt, begin_names(&rt)?);
+        let mut dialer = TcpDialer::new(rt, begin_backends(&rt)?);
         dialer.within(LIMITS);
         Ok(Scene {
             listener,

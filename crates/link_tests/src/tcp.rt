@@ -5,7 +5,7 @@ use std::net::{OpenStream, TcpListener, TcpStream};
 use std::sync::Arc;
 use std::thread::Threads;
 use std::time::{Duration, Instant};
-use system::{BackendLink, Outside, TcpDialer, TcpLink, begin_names};
+use system::{BackendLink, Outside, TcpDialer, TcpLink, begin_backends};
 use units::Text;
 use wire::{Dialer, Link, Peer, TimeLimits, write_link};
 
@@ -91,10 +91,10 @@ pub fn tcp_shown<R: Outside + Threads + Send + 'static>(
     let Ok(listener) = TcpListener::bind(&rt, "127.0.0.1:0") else {
         return format!(in alloc; "no port");
     };
-    let Ok(names) = begin_names(&rt) else {
-        return format!(in alloc; "no names");
+    let Ok(backends) = begin_backends(&rt) else {
+        return format!(in alloc; "no backends");
     };
-    let mut dialer = TcpDialer::new(rt, names);
+    let mut dialer = TcpDialer::new(rt, backends);
     let Ok(said) = dial(&mut dialer, alloc, listener, seconds as u64) else {
         return format!(in alloc; "the system fails");
     };
@@ -137,10 +137,10 @@ pub fn within_shown<R: Outside + Threads + Send + 'static>(
         between_bytes: 60_000,
         whole: None,
     };
-    let Ok(names) = begin_names(&rt) else {
-        return format!(in alloc; "no names");
+    let Ok(backends) = begin_backends(&rt) else {
+        return format!(in alloc; "no backends");
     };
-    let mut dialer = TcpDialer::new(rt, names);
+    let mut dialer = TcpDialer::new(rt, backends);
     dialer.within(limits);
     let first = unanswered(rt, alloc, &mut dialer, millis as u64);
     dialer.within(TimeLimits {
@@ -164,10 +164,10 @@ fn dial_name<R: Outside + Threads + Send + 'static>(
     let listener = TcpListener::bind(&rt, "127.0.0.1:0")?;
     let host = Text::of(alloc, name.as_bytes())?;
     let port = port_text(alloc, listener.local_addr()?.port())?;
-    let names = begin_names(&rt)?;
+    let backends = begin_backends(&rt)?;
     let mut said = String::new(alloc);
     for _ in 0..2 {
-        let mut dialer = TcpDialer::new(rt, Arc::try_clone(&names)?);
+        let mut dialer = TcpDialer::new(rt, Arc::try_clone(&backends)?);
         let is_dialed = match dialer.dial(&host, &port) {
             Ok(mut link) => {
                 link.shut();

@@ -247,7 +247,11 @@ fn scene_shown<R: Outside + Files + Threads + Send + 'static>(
     rt: R,
     word: &str,
     row: &str,
-) -> io::Result<String> {
+) -> io::Result<String>
+where
+    <R as Files>::File: Send,
+    <R as Files>::Dir: Send,
+{
     let mut out = String::new(rt.alloc());
     let mut world = SystemWorld::new(rt, HOME);
     let file = free_name(&rt)?;
@@ -269,7 +273,11 @@ fn scene_shown<R: Outside + Files + Threads + Send + 'static>(
 }
 
 // A port that is taken isn't had, nor one where the loop hasn't begun.
-fn taken_shown<R: Outside + Files + Threads + Send + 'static>(rt: R) -> io::Result<String> {
+fn taken_shown<R: Outside + Files + Threads + Send + 'static>(rt: R) -> io::Result<String>
+where
+    <R as Files>::File: Send,
+    <R as Files>::Dir: Send,
+{
     let mut world = SystemWorld::new(rt, HOME);
     let is_begun = world.listen(0).is_ok();
     world.start()?;

@@ -3,7 +3,7 @@ ghost use Rattle.std.specs.Prelude.{◌≡◌, ◌≤◌, None};
 ghost use Rattle.std.specs.Io.{ReadsAtMost, WritesAtMost};
 
 use crate::TcpLink;
-use crate::known_names::KnownNames;
+use crate::backends::{Backends, Standing};
 use crate::tcp_dialer::connect;
 use edge::Outside;
 use std::alloc::Global;
@@ -31,7 +31,7 @@ pub enum Past {
 pub struct BackendLink<R: Outside> {
     pub link: TcpLink<TcpStream>,
     pub rt: R,
-    pub names: Arc<KnownNames, Global>,
+    pub backends: Arc<Backends, Global>,
     pub limits: TimeLimits,
     /// When it was dialed.
     pub start: Instant,
@@ -62,7 +62,22 @@ fn is_over(answer: &io::Result<usize>) -> bool {
     }
 }
 
+// What the first read of an exchange shows of the backend.
+fn standing_by(answer: Result<usize, Failed>) -> Standing {
+    match answer {
+        Ok(count) if count > 0 => Standing::There,
+        _ => Standing::Silent,
+    }
+}
+
 impl<R: Outside> BackendLink<R> {
+    /// Says that the backend's first byte isn't waited for any more, and what was seen of the backend.
+    pub(crate) fn end_wait(&self, found: Option<Standing>) {
+        if let Peer::Dialed { host, port } = &self.link.peer {
+            self.backends.end_wait(&self.rt, host, port, found);
+        }
+    }
+
     // How long the next read may take; None where the time for the whole is over, or can't be told.
     fn allowed(&self) -> Option<Duration> {
         let single = Duration::from_millis(if self.has_begun {
@@ -106,7 +121,7 @@ impl<R: Outside> BackendLink<R> {
     {
         let (stream, _) = match &self.link.peer {
             Peer::Dialed { host, port } => {
-                connect(&self.rt, &self.names, host, port, &self.limits)?
+                connect(&self.rt, &self.backends.names, host, port, &self.limits)?
             }
             Peer::Accepted(_) => return Err(io::Error::from(ErrorKind::NotConnected)),
         };
@@ -189,6 +204,9 @@ impl<R: Outside> Link for BackendLink<R> {
             return Ok(0);
         }
         let answer = self.read_in_time(into);
+        if !self.has_begun {
+            self.end_wait(Some(standing_by(answer)));
+        }
         self.has_begun = true;
         if answer.is_err() {
             self.link.read_faults = self.link.read_faults.saturating_add(1);

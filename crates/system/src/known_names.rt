@@ -5,16 +5,12 @@ use std::alloc::{AllocError, AllocGlobal, Global};
 use std::io::{self, ErrorKind};
 use std::net::{IpAddr, Net, SocketAddr, ToSocketAddrs};
 use std::rt::Clock;
-use std::sync::{Arc, Condvar, Mutex, Wait};
-use std::thread::{self, Threads};
+use std::sync::{Condvar, Mutex, Wait};
 use std::time::{Duration, Instant};
 use units::Text;
 
 /// How many seconds the addresses of a host are used until it is looked up anew.
 const KEEP_SECONDS: u64 = 30;
-
-/// How many threads look names up.
-const LOOKERS: u32 = 4;
 
 /// Of how many hosts the addresses are kept at most.
 const MAX_KNOWN: usize = 64;
@@ -98,7 +94,7 @@ fn address_in_digits(host: &Text, port: &Text) -> Option<SocketAddr> {
 
 /// What was found of each host and port, for all who dial. Threads of their own look them up, each name one at a time.
 #[derive(Drop)]
-pub struct KnownNames {
+pub(crate) struct KnownNames {
     names: Mutex<Vec<KnownName>>,
     /// Rung where a look-up is over.
     bell: Condvar,
@@ -160,6 +156,15 @@ fn take_asked(names: &mut [KnownName]) -> Result<Option<(Text, Text)>, AllocErro
 }
 
 impl KnownNames {
+    /// Names of which nothing is known yet.
+    pub fn new(alloc: Global) -> KnownNames {
+        KnownNames {
+            names: Mutex::new(Vec::new(alloc)),
+            bell: Condvar::new(),
+            wish: Condvar::new(),
+        }
+    }
+
     // Asks for a host's port to be looked up, where that wasn't done lately.
     fn ask<R: Clock + Wait>(&self, rt: &R, host: &Text, port: &Text) -> io::Result<()> {
         let mut guard = self.names.lock(rt);
@@ -221,33 +226,13 @@ impl KnownNames {
     }
 }
 
-// Looks names up that are asked for, one behind another.
-fn serve_names<R: Outside>(rt: R, names: &KnownNames) {
+/// Looks names up that are asked for, one behind another.
+pub(crate) fn serve_names<R: Outside>(rt: R, names: &KnownNames) {
     for _ in rt.forever() {
         let (host, port) = names.next_asked(&rt);
         let found = look_up(&rt, &host, &port);
         names.settle(&rt, &host, &port, found);
     }
-}
-
-/// Names of which nothing is known yet, and threads that look them up.
-pub fn begin_names<R: Outside + Threads + Send + 'static>(
-    rt: &R,
-) -> io::Result<Arc<KnownNames, Global>> {
-    let alloc = rt.alloc();
-    let names = KnownNames {
-        names: Mutex::new(Vec::new(alloc)),
-        bell: Condvar::new(),
-        wish: Condvar::new(),
-    };
-    let names = Arc::new(alloc, names)?;
-    for turn in 0..LOOKERS {
-        let (outside, theirs) = (*rt, Arc::try_clone(&names)?);
-        if thread::spawn(rt, move || serve_names(outside, &theirs)).is_err() {
-            return Err(io::Error::from(ErrorKind::OutOfMemory));
-        }
-    }
-    Ok(names)
 }
 
 /// The addresses of a host's port: those that were found last, or else those that are found within this time. Where they were found

@@ -5,6 +5,7 @@
 #![tactic(auto)]
 
 mod backend_link;
+mod backends;
 mod command_line;
 mod kept_streams;
 mod known_names;
@@ -16,9 +17,9 @@ mod tcp_dialer;
 mod tcp_link;
 
 pub use backend_link::BackendLink;
+pub use backends::{Backends, begin_backends};
 pub use command_line::{WordsError, read_words};
 pub use edge::{Outside, PortLink, PortListener, tell};
-pub use known_names::{KnownNames, begin_names};
 pub use stream::{StreamSink, StreamSource};
 pub use system_clock::SystemClock;
 pub use system_shelf::SystemShelf;

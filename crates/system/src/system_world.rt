@@ -1,8 +1,9 @@
 // The outside of a program: the system's sockets, files and clock.
 ghost use Rattle.std.specs.Prelude.{◌≡◌, false, None, IfOk};
 
-use crate::known_names::{KnownNames, begin_names};
+use crate::backends::{Backends, begin_backends};
 use crate::{SystemClock, SystemShelf, TcpDialer};
+use access_log::{AccessLog, begin_log};
 use edge::{Edge, Outside, PortLink, PortListener, begin_loop, tell};
 use mio::net::TcpListener;
 use std::alloc::{AllocError, Global};
@@ -28,12 +29,16 @@ pub struct SystemWorld<R: Drop> {
     pub has_ended: bool,
     /// A file that is looked at: once it is there the run is to end.
     pub stop_file: Option<Text>,
+    /// A file that gets a line of each request, if one is to.
+    pub log_file: Option<Text>,
     /// Whether links end between two requests, and their connections are given again with the next one.
     pub gives_stretches: bool,
     /// What its workers share with the loop, once it has begun.
     edge: Option<Arc<Edge, Global>>,
-    /// What its dialers know of hosts, once that has begun.
-    names: Option<Arc<KnownNames, Global>>,
+    /// The log, once it has begun.
+    log: Option<Arc<AccessLog, Global>>,
+    /// What its dialers share, once that has begun.
+    backends: Option<Arc<Backends, Global>>,
 }
 
 impl<R: Drop> SystemWorld<R> {
@@ -54,23 +59,41 @@ impl<R: Drop> SystemWorld<R> {
             shelf_faults: 0,
             has_ended: false,
             stop_file: None,
+            log_file: None,
             gives_stretches: false,
             edge: None,
-            names: None,
+            log: None,
+            backends: None,
         }
     }
 }
 
-impl<R: Outside + Threads + Send + 'static> SystemWorld<R> {
-    /// Begins the threads of the outside: the loop that owns clients' connections, and those that look hosts up. Without them no
-    /// port is had, and no kit.
+impl<R: Outside + Files + Threads + Send + 'static> SystemWorld<R>
+where
+    <R as Files>::File: Send,
+    <R as Files>::Dir: Send,
+{
+    // Begins the log, where a file for it is named, and gives a share of it.
+    fn start_log(&mut self) -> io::Result<Option<Arc<AccessLog, Global>>> {
+        let Some(file) = &self.log_file else {
+            return Ok(None);
+        };
+        let log = begin_log(&self.rt, file.copy()?)?;
+        let theirs = Arc::try_clone(&log)?;
+        self.log = Some(log);
+        Ok(Some(theirs))
+    }
+
+    /// Begins the threads of the outside: the loop that owns clients' connections, those that look hosts up, and the one that writes
+    /// the log. Without them no port is had, and no kit.
     pub fn start(&mut self) -> io::Result<()> {
-        let file = match &self.stop_file {
+        let stop_file = match &self.stop_file {
             Some(file) => Some(file.copy()?),
             None => None,
         };
-        self.edge = Some(begin_loop(&self.rt, file)?);
-        self.names = Some(begin_names(&self.rt)?);
+        let log = self.start_log()?;
+        self.edge = Some(begin_loop(&self.rt, stop_file, log)?);
+        self.backends = Some(begin_backends(&self.rt)?);
         Ok(())
     }
 }
@@ -144,9 +167,9 @@ impl<R: Outside + Files + Send> World for SystemWorld<R> {
     }
 
     fn kit(&mut self) -> Result<Kit<TcpDialer<R>, SystemClock<R>>, AllocError> {
-        let names = self.names.as_ref().ok_or(AllocError)?;
+        let backends = self.backends.as_ref().ok_or(AllocError)?;
         Ok(Kit {
-            dialer: TcpDialer::new(self.rt, Arc::try_clone(names)?),
+            dialer: TcpDialer::new(self.rt, Arc::try_clone(backends)?),
             clock: SystemClock::new(self.rt),
         })
     }
@@ -163,9 +186,13 @@ impl<R: Outside + Files + Send> World for SystemWorld<R> {
         ensures same { self.new ≡ self.old }
     {}
 
-    /// The port is closed, and what was sent is brought out before, for half a minute at most.
+    /// The port is closed, and what was sent is brought out before, for half a minute at most; and the log is written to its end, for
+    /// five seconds at most.
     fn retire(&mut self, listener: PortListener<R>) {
         listener.close();
+        if let Some(log) = &self.log {
+            log.close(&self.rt);
+        }
         self.listen_faults = self.listen_faults.saturating_add(listener.faults);
         self.given = self.given.saturating_add(listener.given);
         self.has_ended = listener.has_ended || self.has_ended;

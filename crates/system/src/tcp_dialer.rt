@@ -2,6 +2,7 @@
 ghost use Rattle.std.specs.Prelude.{◌≡◌, None};
 
 use crate::backend_link::Past;
+use crate::backends::{Backends, Standing};
 use crate::kept_streams::KeptStreams;
 use crate::known_names::{KnownNames, addresses_of};
 use crate::{BackendLink, TcpLink};
@@ -34,30 +35,31 @@ pub struct TcpDialer<R: Outside> {
     pub dial_faults: u64,
     pub read_faults: u64,
     pub write_faults: u64,
-    /// What is known of hosts, for all dialers that share it.
-    pub names: Arc<KnownNames, Global>,
+    /// What is known of backends, for all dialers that share it.
+    pub backends: Arc<Backends, Global>,
     kept: KeptStreams<TcpStream>,
 }
 
 impl<R: Outside> TcpDialer<R> {
-    pub fn new(rt: R, names: Arc<KnownNames, Global>) -> TcpDialer<R>
+    pub fn new(rt: R, backends: Arc<Backends, Global>) -> TcpDialer<R>
         ensures dials { result.dial_faults ≡ 0 }
         ensures reads { result.read_faults ≡ 0 }
         ensures writes { result.write_faults ≡ 0 }
     {
+        backends.count_dialer();
         TcpDialer {
             rt,
             limits: LIMITS,
             dial_faults: 0,
             read_faults: 0,
             write_faults: 0,
-            names,
+            backends,
             kept: KeptStreams::new(rt.alloc()),
         }
     }
 
     // A stream that an earlier exchange with there left, and the moment; or a new one.
-    fn stream_to(&mut self, host: &Text, port: &Text) -> io::Result<(TcpStream, Instant, Past)>
+    fn open_stream(&mut self, host: &Text, port: &Text) -> io::Result<(TcpStream, Instant, Past)>
         ensures dials { self.new.dial_faults ≡ self.old.dial_faults }
         ensures reads { self.new.read_faults ≡ self.old.read_faults }
         ensures writes { self.new.write_faults ≡ self.old.write_faults }
@@ -66,8 +68,25 @@ impl<R: Outside> TcpDialer<R> {
             let start = Instant::now(&self.rt)?;
             return Ok((stream, start, Past::Earlier(Vec::new(self.rt.alloc()))));
         }
-        let (stream, start) = connect(&self.rt, &self.names, host, port, &self.limits)?;
+        let (stream, start) = connect(&self.rt, &self.backends.names, host, port, &self.limits)?;
         Ok((stream, start, Past::Own))
+    }
+
+    // The same, where not too many wait for a first byte from there.
+    fn stream_to(&mut self, host: &Text, port: &Text) -> io::Result<(TcpStream, Instant, Past)>
+        ensures dials { self.new.dial_faults ≡ self.old.dial_faults }
+        ensures reads { self.new.read_faults ≡ self.old.read_faults }
+        ensures writes { self.new.write_faults ≡ self.old.write_faults }
+    {
+        if !self.backends.begin_wait(&self.rt, host, port)? {
+            return Err(io::Error::from(ErrorKind::WouldBlock));
+        }
+        let opened = self.open_stream(host, port);
+        if opened.is_err() {
+            let found = Some(Standing::Unreachable);
+            self.backends.end_wait(&self.rt, host, port, found);
+        }
+        opened
     }
 }
 
@@ -96,7 +115,7 @@ fn connect_to_one<R: Outside>(
 // A stream to a host's port, and when it was dialed. That its name is looked up counts.
 pub(crate) fn connect<R: Outside>(
     rt: &R,
-    names: &Arc<KnownNames, Global>,
+    names: &KnownNames,
     host: &Text,
     port: &Text,
     limits: &TimeLimits,
@@ -123,18 +142,19 @@ impl<R: Outside> Dialer for TcpDialer<R> {
         self.limits = limits;
     }
 
+    /// While half of all who dial wait for a first byte from there it fails at once, so that one backend never takes all workers.
     fn dial(&mut self, host: &Text, port: &Text) -> Result<BackendLink<R>, DialError> {
         let peer = Peer::Dialed {
             host: host.copy()?,
             port: port.copy()?,
         };
         self.kept.reserve()?;
-        let names = Arc::try_clone(&self.names)?;
+        let backends = Arc::try_clone(&self.backends)?;
         match self.stream_to(host, port) {
             Ok((stream, start, past)) => Ok(BackendLink {
                 link: TcpLink::new(stream, peer),
                 rt: self.rt,
-                names,
+                backends,
                 limits: self.limits,
                 start,
                 has_begun: false,
@@ -150,6 +170,9 @@ impl<R: Outside> Dialer for TcpDialer<R> {
 
     /// A stream that may serve another exchange is kept.
     fn hang_up(&mut self, link: BackendLink<R>) {
+        if !link.has_begun {
+            link.end_wait(None);
+        }
         let BackendLink {
             link,
             is_reusable,

@@ -33,14 +33,19 @@ const ADDRESS: [u8; 4] = [0, 0, 0, 0];
 /// The variable of the environment that names the file whose coming ends a server's run.
 const STOP_VARIABLE: &str = "VARN_STOP";
 
+/// The variable that names the file which gets a line of each request.
+const LOG_VARIABLE: &str = "VARN_ACCESS_LOG";
+
 /// The word that bounds the number of connections: each link is then a whole connection.
 const CONNS_WORD: &[u8] = b"--conns";
 
-/// What a process was started with: its words, and the file whose coming ends a run, if one is named.
+/// What a process was started with: its words, the file whose coming ends a run, and the one for a line of each request, if they are
+/// named.
 #[derive(Drop)]
 pub struct Start {
     pub words: Vec<Text>,
     pub stop_file: Option<Text>,
+    pub log_file: Option<Text>,
 }
 
 // Writes the help on standard output.
@@ -54,9 +59,9 @@ fn print(rt: &HostRuntime, help: Help) -> Status {
     }
 }
 
-// The file whose coming ends a run, if one is named.
-fn stop_file(rt: &HostRuntime) -> Result<Option<Text>, WordsError> {
-    match env::var(rt, STOP_VARIABLE) {
+// The file that a variable of the environment names, if it is there.
+fn named_file(rt: &HostRuntime, variable: &str) -> Result<Option<Text>, WordsError> {
+    match env::var(rt, variable) {
         Ok(name) => Ok(Some(Text::of(rt.alloc(), name.as_bytes())?)),
         Err(VarError::NotPresent) => Ok(None),
         Err(VarError::NotUnicode) => Err(WordsError::Unreadable),
@@ -77,9 +82,11 @@ fn ask_for_server(words: &[Text]) -> bool {
 impl Start {
     /// What this process was started with.
     pub fn read(rt: &HostRuntime) -> Result<Start, WordsError> {
-        let words = read_words(rt)?;
-        let stop_file = stop_file(rt)?;
-        Ok(Start { words, stop_file })
+        Ok(Start {
+            words: read_words(rt)?,
+            stop_file: named_file(rt, STOP_VARIABLE)?,
+            log_file: named_file(rt, LOG_VARIABLE)?,
+        })
     }
 }
 
@@ -123,12 +130,17 @@ where
       nothing = ⊤;
     }) start.words.items outcome × (exit_status result ≡ code_of outcome.status) }
 {
-    let Start { words, stop_file } = start;
+    let Start {
+        words,
+        stop_file,
+        log_file,
+    } = start;
     if let Some(help) = Help::of(words.as_slice()) {
         return ExitCode::from(print(rt, help).code());
     }
     let mut world = SystemWorld::new(*outside, ADDRESS);
     world.stop_file = stop_file;
+    world.log_file = log_file;
     world.gives_stretches = !bounds_connections(words.as_slice());
     if ask_for_server(words.as_slice()) {
         // Where its threads can't begin no port is had, which the run says.

@@ -1,0 +1,189 @@
+// What all dialers share: addresses of hosts, who waits for which backend, and how each backend stands.
+
+use crate::known_names::{KnownNames, serve_names};
+use edge::{Outside, tell};
+use std::alloc::{AllocError, Global};
+use std::io::{self, ErrorKind};
+use std::sync::atomic::{AtomicU64, Ordering};
+use std::sync::{Arc, Mutex, Wait};
+use std::thread::{self, Threads};
+use units::Text;
+
+/// How many threads look names up.
+const LOOKERS: u32 = 4;
+
+/// Of how many backends it is known at most how they stand.
+const MAX_KNOWN: usize = 256;
+
+/// What the last exchange with a backend showed.
+#[derive(Clone, Copy, Debug, PartialEq, Eq)]
+pub(crate) enum Standing {
+    /// It answers.
+    There,
+    /// No connection to it can be made.
+    Unreachable,
+    /// No answer came over a connection.
+    Silent,
+}
+
+impl Standing {
+    fn words(self) -> &'static str {
+        match self {
+            Standing::There => "is there again",
+            Standing::Unreachable => "can't be reached",
+            Standing::Silent => "is silent",
+        }
+    }
+}
+
+/// A backend's host and port.
+#[derive(Drop)]
+struct Backend {
+    host: Text,
+    port: Text,
+    /// How many exchanges wait for a first byte.
+    waiting: u64,
+    standing: Standing,
+}
+
+impl Backend {
+    fn is_at(&self, host: &Text, port: &Text) -> bool {
+        self.host.bytes() == host.bytes() && self.port.bytes() == port.bytes()
+    }
+}
+
+/// What all dialers share.
+#[derive(Drop)]
+pub struct Backends {
+    pub(crate) names: KnownNames,
+    /// How many dialers there are: one for each worker.
+    dialers: AtomicU64,
+    known: Mutex<Vec<Backend>>,
+}
+
+// The place of a backend among those that are known, where it stands from now on. Where too many are known one goes for which nobody
+// waits; None where there is none.
+fn place_of(
+    known: &mut Vec<Backend>,
+    host: &Text,
+    port: &Text,
+) -> Result<Option<usize>, AllocError> {
+    if let Some(place) = known.iter().position(|backend| backend.is_at(host, port)) {
+        return Ok(Some(place));
+    }
+    if known.len() >= MAX_KNOWN {
+        let Some(idle) = known.iter().position(|backend| backend.waiting == 0) else {
+            return Ok(None);
+        };
+        drop(known.swap_remove(idle));
+    }
+    let backend = Backend {
+        host: host.copy()?,
+        port: port.copy()?,
+        waiting: 0,
+        standing: Standing::There,
+    };
+    known.push(backend)?;
+    Ok(known.len().checked_sub(1))
+}
+
+// Says how a backend stands.
+fn tell_standing<R: Outside>(
+    rt: &R,
+    host: &Text,
+    port: &Text,
+    standing: Standing,
+) -> Result<(), AllocError> {
+    let host = str::from_utf8(host.bytes()).unwrap_or("?");
+    let port = str::from_utf8(port.bytes()).unwrap_or("?");
+    let words = standing.words();
+    let line = format!(in rt.alloc(); "the backend {host}:{port} {words}")?;
+    tell(rt, line.as_str());
+    Ok(())
+}
+
+impl Backends {
+    /// Counts one more who dials.
+    pub(crate) fn count_dialer(&self) {
+        self.dialers.fetch_add(1, Ordering::SeqCst);
+    }
+
+    /// Counts an exchange that is to wait for a backend's first byte. Not where half of all who dial wait there.
+    pub(crate) fn begin_wait<R: Wait>(
+        &self,
+        rt: &R,
+        host: &Text,
+        port: &Text,
+    ) -> Result<bool, AllocError> {
+        let dialers = self.dialers.load(Ordering::SeqCst);
+        let mut guard = self.known.lock(rt);
+        let known = &mut *guard;
+        let Some(place) = place_of(known, host, port)? else {
+            return Ok(true);
+        };
+        let Some(backend) = known.get_mut(place) else {
+            return Ok(true);
+        };
+        if backend.waiting > 0 && backend.waiting.saturating_mul(2) >= dialers {
+            return Ok(false);
+        }
+        backend.waiting = backend.waiting.saturating_add(1);
+        Ok(true)
+    }
+
+    // Counts an exchange that waits no more. Whether what it showed is another thing than what was known.
+    fn settle<R: Wait>(
+        &self,
+        rt: &R,
+        host: &Text,
+        port: &Text,
+        found: Option<Standing>,
+    ) -> Option<Standing> {
+        let mut known = self.known.lock(rt);
+        let backend = known.iter_mut().find(|backend| backend.is_at(host, port))?;
+        backend.waiting = backend.waiting.saturating_sub(1);
+        let standing = found?;
+        let is_change = backend.standing != standing;
+        backend.standing = standing;
+        if is_change { Some(standing) } else { None }
+    }
+
+    /// Says that an exchange waits no more for a backend's first byte, and what it showed of the backend.
+    pub(crate) fn end_wait<R: Outside>(
+        &self,
+        rt: &R,
+        host: &Text,
+        port: &Text,
+        found: Option<Standing>,
+    ) {
+        if let Some(standing) = self.settle(rt, host, port, found) {
+            // There is nobody to tell where there is no memory for the line.
+            let _ = tell_standing(rt, host, port, standing);
+        }
+    }
+}
+
+// Looks names up for as long as there are any.
+fn look_up_names<R: Outside>(rt: R, backends: &Backends) {
+    serve_names(rt, &backends.names);
+}
+
+/// Backends of which nothing is known yet, and threads that look their names up.
+pub fn begin_backends<R: Outside + Threads + Send + 'static>(
+    rt: &R,
+) -> io::Result<Arc<Backends, Global>> {
+    let alloc = rt.alloc();
+    let backends = Backends {
+        names: KnownNames::new(alloc),
+        dialers: AtomicU64::new(0),
+        known: Mutex::new(Vec::new(alloc)),
+    };
+    let backends = Arc::new(alloc, backends)?;
+    for turn in 0..LOOKERS {
+        let (outside, theirs) = (*rt, Arc::try_clone(&backends)?);
+        if thread::spawn(rt, move || look_up_names(outside, &theirs)).is_err() {
+            return Err(io::Error::from(ErrorKind::OutOfMemory));
+        }
+    }
+    Ok(backends)
+}
