@@ -7,7 +7,7 @@ use std::io::{self, ErrorKind};
 use std::sync::atomic::{AtomicU64, Ordering};
 use std::sync::{Arc, Mutex, Wait};
 use std::thread::{self, Threads};
-use std::time::{Duration, Instant};
+use std::time::Instant;
 use units::Text;
 
 /// How many threads look names up.
@@ -16,8 +16,8 @@ const LOOKERS: u32 = 4;
 /// Of how many backends it is known at most how they stand.
 const MAX_KNOWN: usize = 256;
 
-/// For how long half of all who dial may wait for a backend until others fail there at once.
-const CROWDED: Duration = Duration::from_secs(1);
+/// For how many milliseconds half of all who dial may wait for a backend until others fail there at once.
+const CROWDED_MILLIS: u128 = 1_000;
 
 /// Whether an exchange may begin to wait for a backend's first byte.
 #[derive(Clone, Copy, Debug, PartialEq, Eq)]
@@ -76,7 +76,7 @@ impl Backend {
     // Whether half of all who dial have waited for too long.
     fn is_stuck<R: Outside>(&self, rt: &R) -> io::Result<bool> {
         match &self.crowded {
-            Some(since) => Ok(since.elapsed(rt)? >= CROWDED),
+            Some(since) => Ok(since.elapsed(rt)?.as_millis() >= CROWDED_MILLIS),
             None => Ok(false),
         }
     }
