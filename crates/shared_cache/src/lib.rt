@@ -9,6 +9,7 @@
 
 mod errands;
 mod kept;
+mod measuring;
 mod sharing;
 
 pub use errands::Errand;
