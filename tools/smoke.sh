@@ -132,6 +132,12 @@ backend nobody {
   .port = "$nobody";
 }
 
+backend hasty {
+  .host = "127.0.0.1";
+  .port = "$backend";
+  .first_byte_timeout = 200ms;
+}
+
 acl office {
   "127.0.0.1";
 }
@@ -149,6 +155,9 @@ sub vcl_recv {
   }
   if (req.url ~ "^/down") {
     set req.backend_hint = nobody;
+  }
+  if (req.url ~ "^/late") {
+    set req.backend_hint = hasty;
   }
 }
 
@@ -345,6 +354,8 @@ ask --header 'Host: one' --header 'Content-Length: 2, 3' "$site/"
 check "a request that can't be read" gets 400 'Connection: close'
 ask "$site/mute"
 check "a backend that says nothing" gets 503 '503 Backend fetch failed'
+ask "$site/late"
+check "a backend that is late for the VCL's limit" gets 503 '503 Backend fetch failed'
 
 wait $stalled
 cp "$work/stalled" "$work/reply"

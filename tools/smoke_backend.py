@@ -7,6 +7,7 @@
   /chunked..  one in chunks
   /stall..    the front of a page, then nothing for two seconds, then the end of the connection
   /large..    a page of 8,000,000 bytes
+  /late..     a page, behind a second of nothing
   /mute..     nothing at all for two seconds, then the end of the connection
 
 A POST is answered by its body. All pages may be stored for an hour, but for the answers to a POST.
@@ -18,6 +19,7 @@ import threading
 import time
 
 STALL_SECONDS = 2
+LATE_SECONDS = 1
 ASKED = collections.Counter()
 LOCK = threading.Lock()
 
@@ -77,6 +79,9 @@ class Handler(http.server.BaseHTTPRequestHandler):
             self.end_headers()
             self.wfile.write(body)
             self.stall()
+        elif self.path.startswith("/late"):
+            time.sleep(LATE_SECONDS)
+            self.answer(200, body, lasting)
         elif self.path.startswith("/mute"):
             self.stall()
         elif self.path.startswith("/large"):

@@ -14,7 +14,7 @@ use Rattle.cache_law.specs.Law.{Step, MayAnswer, answered, behind, discarded_of,
 use Rattle.std.specs.List.{list_any}
 use Rattle.std.specs.Str.{bytes_eq}
 use Rattle.cache_frame.specs.Shelves.{is_beside}
-use Rattle.cache_frame.specs.Stock.{stock_of, without_stock}
+use Rattle.cache_desk.specs.Stock.{stock_of, without_stock}
 
 -- the call concerns the desk alone
 abbrev pub is_desk_call : Call → Bool

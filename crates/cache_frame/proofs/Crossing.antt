@@ -16,17 +16,9 @@ use Rattle.cache_law.proofs.call.Entry.TheSendSync as entry
 use Rattle.cache_law.proofs.setting.Params.TheSendSync as params
 use Rattle.cache_frame.specs.contracts.framed.Framed as framed
 use Rattle.cache_frame.specs.contracts.framed.Framed.TheInside as framed_inside
-use Rattle.cache_frame.specs.contracts.desk.Desk as desk
-use Rattle.cache_frame.specs.contracts.desk.Desk.TheInside as desk_inside
+use Rattle.cache_desk.proofs.Crossing.{desk_send}
 
 ruleset kept = (crosses, sendable, shared.the_send, shared.the_sync, text.the_send, text.the_sync, open_fetch.the_send, open_fetch.the_sync, open_fetch.the_field_send, open_fetch.the_field_sync, open_round.the_send, open_round.the_sync, open_round.the_field_send, open_round.the_field_sync, counter.the_send, counter.the_sync, counter.the_field_send, counter.the_field_sync, forced_health.the_send, forced_health.the_sync, forced_health.the_field_send, forced_health.the_field_sync, loaded_vcl.the_send, loaded_vcl.the_sync, loaded_vcl.the_field_send, loaded_vcl.the_field_sync, vcl.the_send, vcl.the_sync, vcl.the_field_send, vcl.the_field_sync)
-
-desk_fields_send : IsSend desk_inside.the_field.row
-desk_fields_send = struct_send (Declared.shape desk_inside.the_type)
-    (search kept depth 60 fits 20000, (search kept depth 60 fits 20000, (search kept depth 60 fits 20000, (search kept depth 60 fits 20000, (search kept depth 60 fits 20000, (search kept depth 60 fits 20000, (search kept depth 60 fits 20000, (search kept depth 60 fits 20000, (search kept depth 60 fits 20000, (search kept depth 60 fits 20000, tt))))))))))
-
-pub desk_send : IsSend desk.the_row
-desk_send = search (desk_fields_send, sendable) depth 60 fits 20000
 
 ruleset whole = (kept, desk_send, entry.the_send, entry.the_sync, entry.the_field_send, entry.the_field_sync, params.the_send, params.the_sync, params.the_field_send, params.the_field_sync)
 

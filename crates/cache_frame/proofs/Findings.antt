@@ -13,7 +13,7 @@ use Rattle.cache_law.specs.Lookup.{Scan, scanned}
 use Rattle.cache_law.specs.Law.{found_fresh, found_grace, waited_or_missed, busy, found_other, found, remembered}
 use Rattle.cache_frame.specs.declared.finding.Finding.TheVariants.{Miss}
 use Rattle.cache_frame.specs.declared.seen.Seen.{Seen}
-use Rattle.cache_frame.specs.Desk.{DeskState}
+use Rattle.cache_desk.specs.Desk.{DeskState}
 use Rattle.cache_frame.specs.Framed.{StandFor}
 use Rattle.cache_frame.specs.Shelves.{IsScan, Tells}
 use Rattle.cache_frame.specs.Found.{Finds, given_by, graced_by, fetch_finding, other_finding, finding_by, found_so}

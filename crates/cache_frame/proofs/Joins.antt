@@ -19,18 +19,20 @@ use Rattle.cache_law.specs.History.{next_state, reached}
 use Rattle.cache_law.proofs.Growth.{after_grows, behind_either}
 use Rattle.cache_law.proofs.Lawful.{is_refusal, behind_lawful}
 use Rattle.cache_law.proofs.Leaves as leaves
-use Rattle.cache_frame.specs.declared.answer.Answer.{Answer}
+use Rattle.cache_desk.specs.declared.answer.Answer.{Answer}
 use Rattle.cache_frame.specs.declared.finding.Finding.{Finding}
 use Rattle.cache_frame.specs.declared.finding.Finding.TheVariants.{Hit, HitMiss, HitPass, Grace, GraceAlone, Wait, Miss}
 use Rattle.cache_frame.specs.declared.finding.Found.{Found}
 use Rattle.cache_frame.specs.declared.seen.Placing.{Placing}
 use Rattle.cache_frame.specs.declared.seen.Placing.TheVariants.{Refused}
-use Rattle.cache_frame.specs.Desk.{DeskState, bare}
-use Rattle.cache_frame.specs.Found.{AreMarks, Finds, Takes, next_after, opened_for, opens_fetch, reply_of, told_so, use_in}
+use Rattle.cache_desk.specs.Desk.{DeskState, bare}
+use Rattle.cache_frame.specs.Found.{AreMarks, Finds, Takes, opens_fetch, reply_of, told_so, use_in}
+use Rattle.cache_desk.specs.Opening.{next_after, opened_for}
 use Rattle.cache_frame.specs.Framed.{StandFor}
 use Rattle.cache_frame.specs.Shelves.{AreShown, MovesOn, Places, is_beside, StandsBeside, Tells, entry_of, reply_of_placing}
-use Rattle.cache_frame.specs.Step.{Answered, Answers, IsRefusal, Joined}
-use Rattle.cache_frame.specs.Stock.{stock_of, without_stock}
+use Rattle.cache_frame.specs.Step.{Answered, IsRefusal, Joined}
+use Rattle.cache_desk.specs.Answers.{Answers}
+use Rattle.cache_desk.specs.Stock.{stock_of, without_stock}
 use Rattle.cache_frame.proofs.Beside.{beside, beside_call, behind_map, desk_told, is_desk_call, refused_bare, refused_stock}
 
 -- the desk's entry is counted

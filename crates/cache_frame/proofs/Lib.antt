@@ -1,6 +1,3 @@
-pub mod Passes
-pub mod Choosing
-pub mod Replies
 pub mod Results
 pub mod Beside
 pub mod Findings

@@ -4,8 +4,8 @@ use Rattle.std.proofs.lemmas.Bool.{false≢true}
 use Rattle.cache_law.specs.declared.call.Call.{Call}
 use Rattle.cache_law.specs.declared.call.Call.TheVariants.{Insert}
 use Rattle.cache_law.proofs.Reserve.{length-without_fetch}
-use Rattle.cache_frame.specs.declared.answer.Answer.{Answer}
-use Rattle.cache_frame.specs.Desk.{DeskState}
+use Rattle.cache_desk.specs.declared.answer.Answer.{Answer}
+use Rattle.cache_desk.specs.Desk.{DeskState}
 use Rattle.cache_frame.specs.Framed.{HasRoomBehind}
 use Rattle.cache_frame.specs.Step.{IsRefusal}
 

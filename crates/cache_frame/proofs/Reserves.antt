@@ -19,9 +19,10 @@ use Rattle.cache_law.specs.Law.{Step, answered, closed_of, discarded_of, ended, 
 use Rattle.cache_law.specs.declared.state.OpenFetch.{OpenFetch}
 use Rattle.cache_law.specs.declared.state.OpenRound.{OpenRound}
 use Rattle.cache_frame.specs.declared.finding.Found.{Found}
-use Rattle.cache_frame.specs.Desk.{DeskState, bare}
-use Rattle.cache_frame.specs.Stock.{without_stock}
-use Rattle.cache_frame.specs.Found.{opens_fetch, opens_more, opened_for, reply_of, told_so}
+use Rattle.cache_desk.specs.Desk.{DeskState, bare}
+use Rattle.cache_desk.specs.Stock.{without_stock}
+use Rattle.cache_frame.specs.Found.{opens_fetch, opens_more, reply_of, told_so}
+use Rattle.cache_desk.specs.Opening.{opened_for}
 
 by_round : (state : State) (caller : ℕ) (opened : Bool) → 64 * (length state.rounds + length state.fetches + cond opened 0 1) ≡ reserve (cond opened (leaving state NoRound) (record { reply = Began state.next state.active.number state.active.text; state = record state { next = state.next + 1; rounds = record { caller = caller; vcl = state.active.number; waits = None } ∷ state.rounds } })).state
 by_round state caller true = omega arith

@@ -17,13 +17,13 @@ use Rattle.cache_law.specs.Bases.{AreAlike, IsBase, IsClosed, IsSound}
 use Rattle.cache_law.proofs.Histories.{reached-push, bytes_of_all-push, Legal-push}
 use Rattle.cache_law.proofs.Sound.{sound_from}
 use Rattle.cache_law.proofs.Reserve.{reserve-after, ending_takes, dropping_takes}
-use Rattle.cache_frame.specs.declared.answer.Answer.{Answer}
-use Rattle.cache_frame.specs.Desk.{DeskState, bare}
+use Rattle.cache_desk.specs.declared.answer.Answer.{Answer}
+use Rattle.cache_desk.specs.Desk.{DeskState, bare}
 use Rattle.cache_frame.specs.Found.{is_insertion}
 use Rattle.cache_frame.specs.Framed.{FitsNot, HasFit, HasRoomBehind, Sound, StandFor, base_with}
 use Rattle.cache_frame.specs.Shelves.{Reopens, entry_of}
 use Rattle.cache_frame.specs.Step.{Joined}
-use Rattle.cache_frame.specs.Stock.{Stock, stock_of, with_stock, without_stock}
+use Rattle.cache_desk.specs.Stock.{Stock, stock_of, with_stock, without_stock}
 
 -- an entry that joined a legal history leaves it legal
 pub legal_behind : (beginning : Beginning) (old new : List Entry) (caller reading : ℕ) (call : Call) (told : Told) → Entered beginning old new caller reading call told → Legal beginning old → Legal beginning new

@@ -18,7 +18,8 @@ use Rattle.cache_law.specs.History.{reached}
 use Rattle.cache_frame.specs.declared.finding.Finding.{Finding}
 use Rattle.cache_frame.specs.declared.finding.Finding.TheVariants.{Hit, HitMiss, HitPass, Grace, GraceAlone, Wait, Miss}
 use Rattle.cache_frame.specs.declared.finding.Found.{Found}
-use Rattle.cache_frame.specs.Desk.{DeskState}
+use Rattle.cache_desk.specs.Desk.{DeskState}
+use Rattle.cache_desk.specs.Opening.{next_after, opened_for}
 use Rattle.cache_frame.specs.Framed.{StandFor}
 use Rattle.cache_frame.specs.Shelves.{LooksOver, used_for}
 use Rattle.cache_frame.specs.declared.seen.Use.{Use}
@@ -81,13 +82,6 @@ reply_of token (GraceAlone view) = replies.Grace (raised view) None
 reply_of token (Wait other) = replies.Wait other
 reply_of token (Miss stale) = replies.Miss token stale
 
-abbrev pub next_after : Bool → ℕ → ℕ
-next_after opens next = if opens then next + 1 else next
-
-abbrev pub opened_for : Bool → ℕ → ℕ → List (List ℕ) → List OpenFetch → List OpenFetch
-opened_for opens token caller key fetches =
-    if opens then record { token = token; caller = caller; key = key } ∷ fetches else fetches
-
 -- what a lookup that found so answers in an open round, together with the state behind that
 abbrev pub found_so : State → ℕ → List (List ℕ) → Finding → Step
 found_so state caller key finding =
@@ -141,11 +135,3 @@ Takes Stands old new used now query (Some marks) use_ = LooksOver Stands old new
 abbrev pub is_insertion : DeskState → ℕ → Call → Bool
 is_insertion desk caller (Insert token object stale) = has_fetch desk.fetches caller token
 is_insertion desk caller call = false
-
-abbrev pub tail : List OpenFetch → List OpenFetch
-tail [] = []
-tail (fetch ∷ fetches) = fetches
-
--- the fetches without the one that was opened last, if one was
-abbrev pub without_newest : Bool → List OpenFetch → List OpenFetch
-without_newest opened fetches = if opened then tail fetches else fetches

@@ -9,8 +9,8 @@ use Rattle.cache_law.specs.State.{State, at_moment, count_open, reserve}
 use Rattle.cache_law.specs.Beginning.{Beginning}
 use Rattle.cache_law.specs.History.{bytes_of, bytes_of_all, is_numbered, most_entries, reached}
 use Rattle.cache_law.specs.Bases.{IsBase, IsSound}
-use Rattle.cache_frame.specs.Desk.{DeskState, bare}
-use Rattle.cache_frame.specs.Stock.{Stock, with_stock, without_stock}
+use Rattle.cache_desk.specs.Desk.{DeskState, bare}
+use Rattle.cache_desk.specs.Stock.{Stock, with_stock, without_stock}
 
 -- the state of a desk and a stock
 abbrev pub base_with : DeskState → Stock → State

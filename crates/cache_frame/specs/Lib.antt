@@ -1,5 +1,3 @@
-pub mod Desk
-pub mod Stock
 pub mod Shelves
 pub mod Found
 pub mod Step

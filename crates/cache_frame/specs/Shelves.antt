@@ -16,7 +16,7 @@ use Rattle.cache_law.specs.Beginning.{Beginning}
 use Rattle.cache_law.specs.History.{next_state, reached}
 use Rattle.cache_law.specs.Bases.{AreAlike, IsBase, IsClosed, IsSound}
 use Rattle.cache_law.specs.ShownBans.{ShowsBans}
-use Rattle.cache_frame.specs.Stock.{Stock, stock_at, stock_of, with_stock}
+use Rattle.cache_desk.specs.Stock.{Stock, stock_at, stock_of, with_stock}
 use Rattle.cache_frame.specs.declared.seen.Placing.{Placing}
 use Rattle.cache_frame.specs.declared.seen.Placing.TheVariants.{Stored, NotInTime, NoRoom, Refused}
 use Rattle.cache_frame.specs.declared.seen.Seen.{Seen}

@@ -7,20 +7,12 @@ use Rattle.cache_law.specs.Beginning.{Beginning}
 use Rattle.cache_law.specs.History.{next_state, reached}
 use Rattle.cache_law.specs.State.{State, at_moment}
 use Rattle.cache_law.specs.Law.{Step, MayAnswer, behind, refused, step_of}
-use Rattle.cache_frame.specs.declared.answer.Answer.{Answer}
-use Rattle.cache_frame.specs.Desk.{DeskState, bare}
+use Rattle.cache_desk.specs.declared.answer.Answer.{Answer}
+use Rattle.cache_desk.specs.Desk.{DeskState, bare}
 use Rattle.cache_frame.specs.Framed.{StandFor}
 use Rattle.cache_frame.specs.Found.{is_insertion}
 use Rattle.cache_frame.specs.Shelves.{entry_of}
-use Rattle.cache_frame.specs.Stock.{without_stock}
-
--- The call had this answer, twice, where the law gives this reply and state; and what is kept is what the answer
--- leaves, but for objects that aren't in time any more.
-pub record Answers (old new : State) (now : ℕ) (call : Call) (law : Step) (answer : Answer) : Type 0 where
-  pub twice : answer.kept ≡ answer.told
-  pub allows : MayAnswer (at_moment now old) call law.reply answer.told
-  pub moment : new.moment ≡ now
-  pub leaves : at_moment now new ≡ at_moment now (behind answer.told (refused (at_moment now old) call) law.state)
+use Rattle.cache_desk.specs.Stock.{without_stock}
 
 -- The call had this answer, twice, which the law may give behind the entries, so many in a run; and the desk, once its entry is
 -- counted, and the shelf stand for what it leaves.

@@ -5,19 +5,12 @@
 //! shelf beside a desk, and is a `CacheCore` and a `LurkCore` for any shelf that meets the clauses of its trait.
 #![tactic(auto)]
 
-mod answer;
 mod calls;
-mod desk;
 mod finding;
 mod framed;
-mod picking;
-mod rounds;
 mod seen;
 mod shelf;
-mod vcls;
 
-pub use answer::Answer;
 pub use framed::Framed;
-pub use rounds::least_of;
 pub use seen::{Placing, Seen, Use};
 pub use shelf::Shelf;

@@ -10,7 +10,7 @@ ghost use Rattle.cache_law.specs.History.{reached};
 ghost use Rattle.cache_law.specs.State.{is_gone as gone};
 ghost use Rattle.ban_lurker.specs.Verdicts.{IsChoreOf, IsVerdictOf};
 ghost use Rattle.cache_frame.specs.Shelves.{AreShown, IsScan, LooksOver, MovesOn, Places, Reopens, StandsBeside, StandsOn, Tells};
-ghost use Rattle.cache_frame.specs.Stock.{Stock, no_stock, stock_of};
+ghost use Rattle.cache_desk.specs.Stock.{Stock, no_stock, stock_of};
 
 use crate::seen::{Placing, Seen, Use};
 use ban_lurker::{Chore, Verdict};

@@ -13,7 +13,7 @@ use Rattle.flat_core.specs.declared.stored_object.StoredObject.{StoredObject}
 use Rattle.flat_core.specs.declared.stored_object.Fate.{Fate}
 use Rattle.flat_core.specs.declared.stored_object.Fate.TheVariants.{Stays, Tested, Goes}
 use Rattle.flat_core.specs.StoredObject.{is_waiting, since, waiting, held_of, held_all, left_of, settled, held_left, settled_held, is_change, moved_on, stays, tested_for}
-use Rattle.cache_frame.proofs.Passes.{at_next, drop_all, take_all}
+use Rattle.cache_desk.proofs.Passes.{at_next, drop_all, take_all}
 
 -- no ban was issued behind so many where all have lesser numbers
 pub since_low : (count bound : ℕ) (bans : List Issued) → bound ≤ count + 1 → AreFalling bound bans → since count bans ≡ []

@@ -19,19 +19,19 @@ use Rattle.cache_law.specs.Law.{Step, behind, refused, placed, inserted, banned,
 use Rattle.cache_law.proofs.Lawful.{asks_bans}
 use Rattle.cache_law.specs.Bases.{AreFalling, AreNumberedApart}
 use Rattle.cache_law.proofs.Held.{all-weaken}
-use Rattle.cache_frame.specs.declared.answer.Answer.{Answer}
+use Rattle.cache_desk.specs.declared.answer.Answer.{Answer}
 use Rattle.flat_core.specs.declared.stored_object.StoredObject.{StoredObject}
 use Rattle.flat_core.specs.declared.stored_object.Fate.{Fate}
 use Rattle.flat_core.specs.StoredObject.{held_of, held_all, AreTested, settled, settled_held, first_of, using_in}
 use Rattle.flat_core.specs.Room.{stays_from, MakesRoom, HasNone}
 use Rattle.flat_core.specs.Banning.{ban_fates}
 use Rattle.flat_core.specs.Purging.{has_xkey, is_purged, is_spared, softening}
-use Rattle.cache_frame.specs.Step.{Answers}
+use Rattle.cache_desk.specs.Answers.{Answers}
 use Rattle.cache_frame.specs.Shelves.{used_for}
 use Rattle.cache_frame.specs.declared.seen.Use.{Use}
 use Rattle.cache_frame.specs.declared.seen.Use.TheVariants.{Nothing, Hit, Marker}
 use Rattle.cache_frame.proofs.Joins.{other_reply}
-use Rattle.cache_frame.proofs.Replies.{by_law, by_parts, closes, once}
+use Rattle.cache_desk.proofs.Replies.{by_law, by_parts, closes, once}
 use Rattle.flat_core.proofs.Objects.{held_all-filter, held_all-settled, in_time-counted, in_time-touched, inherits}
 use Rattle.flat_core.proofs.Uses.{apart_settled, counted_so, touched_so}
 use Rattle.flat_core.proofs.MadeRoom.{stay_so, room_so, none_so}

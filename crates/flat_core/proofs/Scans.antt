@@ -23,7 +23,7 @@ use Rattle.flat_core.specs.declared.scan.Seen.{Seen}
 use Rattle.flat_core.specs.StoredObject.{is_waiting, since, held_of, held_all, held_left, settled_held}
 use Rattle.flat_core.specs.Scans.{is_struck, is_end, nothing_seen, seeing, seen_all, sight_of, joined}
 use Rattle.flat_core.proofs.Objects.{none_waits}
-use Rattle.cache_frame.proofs.Passes.{drop_one, drop_all}
+use Rattle.cache_desk.proofs.Passes.{drop_one, drop_all}
 
 any_one : (b later : Bool) (rest : List Issued) (test : Issued → Bool) (issued : Issued) → list_any test rest ≡ later → list_any test (cond b (issued ∷ rest) rest) ≡ ((b && test issued) || later)
 any_one true later rest test issued e = rw e refl

@@ -14,12 +14,12 @@ use Rattle.cache_law.specs.Law.{MayAnswer, answered, behind, refused}
 use Rattle.cache_law.specs.Lookup.{Scan, scanned}
 use Rattle.cache_law.specs.State.{State, Held, as_seen, at_moment, is_gone, those_in_time}
 use Rattle.cache_law.proofs.Sound.{sound_at}
-use Rattle.cache_frame.specs.declared.answer.Answer.{Answer}
+use Rattle.cache_desk.specs.declared.answer.Answer.{Answer}
 use Rattle.cache_frame.specs.declared.seen.Seen.{Seen as SeenBy}
 use Rattle.cache_frame.specs.declared.seen.Use.{Use}
 use Rattle.cache_frame.specs.Shelves.{AreShown, IsScan, Joins, LooksOver, Reopens, Tells, entry_of, used_for}
-use Rattle.cache_frame.specs.Step.{Answers}
-use Rattle.cache_frame.specs.Stock.{Stock, no_stock, stock_at, stock_of, with_stock}
+use Rattle.cache_desk.specs.Answers.{Answers}
+use Rattle.cache_desk.specs.Stock.{Stock, no_stock, stock_at, stock_of, with_stock}
 use Rattle.flat_core.specs.declared.stored_object.StoredObject.{StoredObject}
 use Rattle.flat_core.specs.declared.stored_object.Fate.{Fate}
 use Rattle.flat_core.specs.declared.scan.Seen.{Seen}

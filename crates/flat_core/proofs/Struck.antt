@@ -4,7 +4,7 @@ use Rattle.std.specs.List.{list_any}
 use Rattle.std.proofs.lemmas.Bool.{le-ltb, lt-ltb}
 use Rattle.cache_law.specs.declared.ban.Issued.{Issued}
 use Rattle.flat_core.specs.StoredObject.{since}
-use Rattle.cache_frame.proofs.Passes.{drop_one, drop_all}
+use Rattle.cache_desk.proofs.Passes.{drop_one, drop_all}
 
 module _ (test : Issued → Bool) (count n : ℕ) (bans : List Issued) where
   next_ban : (ban : Issued) → n < length bans → ban ≡ get_or bans n ban → list_any test (since count (drop n bans)) ≡ list_any test (since count (ban ∷ drop (n + 1) bans))

@@ -8,7 +8,7 @@ use Rattle.cache_law.proofs.Growth.{after_grows}
 use Rattle.cache_law.proofs.Histories.{reached-push}
 use Rattle.cache_law.proofs.Moments.{at_moment-later, those_in_time-later}
 use Rattle.cache_frame.specs.Shelves.{StandsBeside}
-use Rattle.cache_frame.specs.Stock.{Stock, stock_at, stock_of, with_stock}
+use Rattle.cache_desk.specs.Stock.{Stock, stock_at, stock_of, with_stock}
 use Rattle.flat_core.specs.Shelf.{StandsFor, Stored, stock_in}
 use Rattle.flat_core.specs.StoredObject.{AreOrdered}
 

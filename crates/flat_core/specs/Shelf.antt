@@ -5,7 +5,7 @@ use Rattle.cache_law.specs.declared.call.Entry.{Entry}
 use Rattle.cache_law.specs.State.{as_seen}
 use Rattle.cache_law.specs.Beginning.{Beginning}
 use Rattle.cache_law.specs.History.{reached}
-use Rattle.cache_frame.specs.Stock.{Stock, with_stock}
+use Rattle.cache_desk.specs.Stock.{Stock, with_stock}
 use Rattle.flat_core.specs.declared.stored_object.StoredObject.{StoredObject}
 use Rattle.flat_core.specs.StoredObject.{AreOrdered, held_all}
 

@@ -6,7 +6,7 @@ ghost use Rattle.flat_core.specs.Room.{HasNone, MakesRoom, goes_before, least_us
 
 use crate::lists::stays;
 use crate::stored_object::StoredObject;
-use cache_frame::least_of;
+use cache_desk::least_of;
 use cache_law::{Object, object_size};
 use std::collections::VecDeque;
 

@@ -16,6 +16,9 @@ const HOME: [u8; 4] = [127, 0, 0, 1];
 /// How many bytes an answer has that the system doesn't take at once.
 const LARGE: usize = 16_777_216;
 
+/// How many clients may come, of whom half may wait.
+const CLIENTS: usize = 16;
+
 /// How often something is asked for at most until it comes.
 const TRIES: u32 = 400;
 
@@ -24,7 +27,8 @@ const TRIES: u32 = 400;
 struct Scene<R: Outside> {
     rt: R,
     listener: PortListener<R>,
-    dialer: TcpDialer<R>,
+    /// One for each client that is to come, since half of those who dial may wait for one server.
+    dialers: Vec<TcpDialer<R>>,
     fars: Vec<BackendLink<R>>,
     nears: Vec<PortLink<R>>,
     /// The file whose coming ends the run.
@@ -180,7 +184,8 @@ fn dial<R: Outside>(alloc: Global, scene: &mut Scene<R>) -> io::Result<()> {
     let host = Text::of(alloc, b"127.0.0.1")?;
     let port = format!(in alloc; "{}", scene.listener.port)?;
     let port = Text::of(alloc, port.as_bytes())?;
-    let link = scene.dialer.dial(&host, &port).map_err(|_| broken())?;
+    let mut dialer = scene.dialers.pop().ok_or(broken())?;
+    let link = dialer.dial(&host, &port).map_err(|_| broken())?;
     Ok(scene.fars.push(link)?)
 }
 
@@ -259,11 +264,15 @@ where
     world.gives_stretches = word != "kept";
     world.start()?;
     let listener = world.listen(0).map_err(|_| broken())?;
-    let Kit { dialer, .. } = world.kit()?;
+    let mut dialers = Vec::new(rt.alloc());
+    for _ in 0..CLIENTS {
+        let Kit { dialer, .. } = world.kit()?;
+        dialers.push(dialer)?;
+    }
     let scene = Scene {
         rt,
         listener,
-        dialer,
+        dialers,
         fars: Vec::new(rt.alloc()),
         nears: Vec::new(rt.alloc()),
         file,

@@ -77,8 +77,17 @@ fn answer_exchange<R, C: CacheCore, G: Gate, D: Dialer, K: Clock, P: Programs<M>
         Ok(backend) => backend,
         Err(_) => return Err(Cut::NoMemory),
     };
+    let limits = P::waiting(program, name);
     let caller = shift.pass.number();
-    match exchange_on(site, caller, &mut shift.kit, progress, &backend, request) {
+    match exchange_on(
+        site,
+        caller,
+        &mut shift.kit,
+        progress,
+        limits,
+        &backend,
+        request,
+    ) {
         Ok(got) => Ok(Given::Exchange(got)),
         Err(_) => Err(Cut::NoMemory),
     }

@@ -11,7 +11,7 @@ use cache_law::CacheCore;
 use http_heads::{Backend, BackendRequest, Exchange, Got};
 use std::alloc::{AllocError, Global};
 use units::Copied;
-use wire::{Clock, Dialer};
+use wire::{Clock, Dialer, TimeLimits};
 use world::{Gate, Kit, Place};
 
 // The same outcome again, for the round. None is given where memory was wanting for the exchange.
@@ -26,12 +26,14 @@ fn copied(alloc: Global, outcome: &Exchange) -> Result<Exchange, AllocError>
     }
 }
 
-/// One exchange, which is kept, and given where memory isn't wanting. Its moment is the clock's reading when it is over.
+/// One exchange, within these times, which is kept, and given where memory isn't wanting. Its moment is the clock's reading when it
+/// is over.
 pub(crate) fn exchange_on<R, C: CacheCore, G: Gate, D: Dialer, K: Clock>(
     site: &Site<'_, R, C, G>,
     caller: u32,
     kit: &mut Kit<D, K>,
     progress: &mut Progress,
+    limits: TimeLimits,
     backend: &Backend,
     request: &BackendRequest,
 ) -> Result<Got, AllocError>
@@ -45,6 +47,7 @@ pub(crate) fn exchange_on<R, C: CacheCore, G: Gate, D: Dialer, K: Clock>(
     if progress.exchanges.reserve(1).is_err() {
         return Err(AllocError);
     }
+    kit.dialer.within(limits);
     site.gate.point(caller, Place::BeforeExchange);
     let outcome = exchange(site.alloc, &mut kit.dialer, backend, request);
     site.gate.point(caller, Place::AfterExchange);

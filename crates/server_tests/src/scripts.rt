@@ -1,5 +1,5 @@
 // The programs of a connection's rounds: scripts that the texts of VCLs stand for.
-ghost use Rattle.std.specs.Prelude.{◌≡◌, IfOk, codes};
+ghost use Rattle.std.specs.Prelude.{◌≡◌, IfOk, None, codes};
 ghost use Rattle.server_tests.specs.Scripted.{one_target, route_of, script_of};
 
 use directors::{DirectorKind, Member, Target};
@@ -8,6 +8,7 @@ use std::alloc::{AllocError, Global};
 use units::{Sequence, Shared, Text};
 use vcl_runs::Programs;
 use vcl_scripts::{Route, Script, ScriptRun};
+use wire::TimeLimits;
 
 /// Makes the script of each text that it is given.
 #[derive(Drop)]
@@ -19,6 +20,8 @@ impl Programs<ScriptRun> for Scripts {
     ghost of_text = { λ text script. script ≡ script_of text };
 
     ghost backends = { λ _ name. record { name = name; host = codes "b"; port = codes "80" } };
+
+    ghost times = { λ _ _. record { connecting = 1000; first_byte = 1000; between_bytes = 1000; whole = None } };
 
     ghost one_meaning = { λ text one other p q. one-meaning text one other p q };
 
@@ -37,6 +40,15 @@ impl Programs<ScriptRun> for Scripts {
             host: Text::of(alloc, b"b")?,
             port: Text::of(alloc, b"80")?,
         })
+    }
+
+    fn waiting(_program: &Script, _name: &Text) -> TimeLimits {
+        TimeLimits {
+            connecting: 1000,
+            first_byte: 1000,
+            between_bytes: 1000,
+            whole: None,
+        }
     }
 }
 

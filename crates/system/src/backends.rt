@@ -7,6 +7,7 @@ use std::io::{self, ErrorKind};
 use std::sync::atomic::{AtomicU64, Ordering};
 use std::sync::{Arc, Mutex, Wait};
 use std::thread::{self, Threads};
+use std::time::Instant;
 use units::Text;
 
 /// How many threads look names up.
@@ -14,6 +15,20 @@ const LOOKERS: u32 = 4;
 
 /// Of how many backends it is known at most how they stand.
 const MAX_KNOWN: usize = 256;
+
+/// For how many milliseconds half of all who dial may wait for a backend until others fail there at once.
+const CROWDED_MILLIS: u128 = 1_000;
+
+/// Whether an exchange may begin to wait for a backend's first byte.
+#[derive(Clone, Copy, Debug, PartialEq, Eq)]
+pub(crate) enum Turn {
+    /// It has begun.
+    Begun,
+    /// Half of all who dial wait there.
+    Later,
+    /// They have waited there for too long.
+    Refused,
+}
 
 /// What the last exchange with a backend showed.
 #[derive(Clone, Copy, Debug, PartialEq, Eq)]
@@ -43,12 +58,41 @@ struct Backend {
     port: Text,
     /// How many exchanges wait for a first byte.
     waiting: u64,
+    /// Since when half of all who dial wait there.
+    crowded: Option<Instant>,
     standing: Standing,
 }
 
 impl Backend {
     fn is_at(&self, host: &Text, port: &Text) -> bool {
         self.host.bytes() == host.bytes() && self.port.bytes() == port.bytes()
+    }
+
+    // Whether as many wait as there may be, of so many who dial.
+    fn is_crowded(&self, dialers: u64) -> bool {
+        self.waiting > 0 && self.waiting.saturating_mul(2) >= dialers
+    }
+
+    // Whether half of all who dial have waited for too long.
+    fn is_stuck<R: Outside>(&self, rt: &R) -> io::Result<bool> {
+        match &self.crowded {
+            Some(since) => Ok(since.elapsed(rt)?.as_millis() >= CROWDED_MILLIS),
+            None => Ok(false),
+        }
+    }
+
+    // Counts one more who waits, unless half of so many who dial do.
+    fn take_turn<R: Outside>(&mut self, rt: &R, dialers: u64) -> io::Result<Turn> {
+        if self.is_crowded(dialers) {
+            let is_stuck = self.is_stuck(rt)?;
+            return Ok(if is_stuck { Turn::Refused } else { Turn::Later });
+        }
+        let now = Instant::now(rt)?;
+        self.waiting = self.waiting.saturating_add(1);
+        if self.is_crowded(dialers) {
+            self.crowded = Some(now);
+        }
+        Ok(Turn::Begun)
     }
 }
 
@@ -81,6 +125,7 @@ fn place_of(
         host: host.copy()?,
         port: port.copy()?,
         waiting: 0,
+        crowded: None,
         standing: Standing::There,
     };
     known.push(backend)?;
@@ -108,27 +153,23 @@ impl Backends {
         self.dialers.fetch_add(1, Ordering::SeqCst);
     }
 
-    /// Counts an exchange that is to wait for a backend's first byte. Not where half of all who dial wait there.
-    pub(crate) fn begin_wait<R: Wait>(
+    /// Counts an exchange that is to wait for a backend's first byte, unless half of all who dial wait there.
+    pub(crate) fn begin_wait<R: Outside>(
         &self,
         rt: &R,
         host: &Text,
         port: &Text,
-    ) -> Result<bool, AllocError> {
+    ) -> io::Result<Turn> {
         let dialers = self.dialers.load(Ordering::SeqCst);
         let mut guard = self.known.lock(rt);
         let known = &mut *guard;
         let Some(place) = place_of(known, host, port)? else {
-            return Ok(true);
+            return Ok(Turn::Begun);
         };
-        let Some(backend) = known.get_mut(place) else {
-            return Ok(true);
-        };
-        if backend.waiting > 0 && backend.waiting.saturating_mul(2) >= dialers {
-            return Ok(false);
+        match known.get_mut(place) {
+            Some(backend) => backend.take_turn(rt, dialers),
+            None => Ok(Turn::Begun),
         }
-        backend.waiting = backend.waiting.saturating_add(1);
-        Ok(true)
     }
 
     // Counts an exchange that waits no more. Whether what it showed is another thing than what was known.
@@ -142,6 +183,7 @@ impl Backends {
         let mut known = self.known.lock(rt);
         let backend = known.iter_mut().find(|backend| backend.is_at(host, port))?;
         backend.waiting = backend.waiting.saturating_sub(1);
+        backend.crowded = None;
         let standing = found?;
         let is_change = backend.standing != standing;
         backend.standing = standing;

@@ -2,7 +2,7 @@
 ghost use Rattle.std.specs.Prelude.{◌≡◌, None};
 
 use crate::backend_link::Past;
-use crate::backends::{Backends, Standing};
+use crate::backends::{Backends, Standing, Turn};
 use crate::kept_streams::KeptStreams;
 use crate::known_names::{KnownNames, addresses_of};
 use crate::{BackendLink, TcpLink};
@@ -11,12 +11,18 @@ use std::alloc::Global;
 use std::io::{self, ErrorKind};
 use std::net::{SocketAddr, TcpStream};
 use std::sync::Arc;
+use std::thread;
 use std::time::{Duration, Instant};
 use units::Text;
 use wire::{DialError, Dialer, Peer, TimeLimits};
 
 /// How many seconds a write takes at most.
 const CALL_SECONDS: u64 = 60;
+
+/// How often it is asked at most, and how many milliseconds apart, whether a dial's turn has come where half of all wait for a backend.
+const TURNS: u32 = 100;
+
+const TURN_MILLIS: u64 = 10;
 
 /// The limits of a dialer that was told none.
 const LIMITS: TimeLimits = TimeLimits {
@@ -72,15 +78,25 @@ impl<R: Outside> TcpDialer<R> {
         Ok((stream, start, Past::Own))
     }
 
-    // The same, where not too many wait for a first byte from there.
+    // Waits until an exchange may wait for a first byte from there.
+    fn take_turn(&self, host: &Text, port: &Text) -> io::Result<()> {
+        for _ in 0..TURNS {
+            match self.backends.begin_wait(&self.rt, host, port)? {
+                Turn::Begun => return Ok(()),
+                Turn::Later => thread::sleep(&self.rt, Duration::from_millis(TURN_MILLIS)),
+                Turn::Refused => break,
+            }
+        }
+        Err(io::Error::from(ErrorKind::WouldBlock))
+    }
+
+    // The same, once not too many wait for a first byte from there.
     fn stream_to(&mut self, host: &Text, port: &Text) -> io::Result<(TcpStream, Instant, Past)>
         ensures dials { self.new.dial_faults ≡ self.old.dial_faults }
         ensures reads { self.new.read_faults ≡ self.old.read_faults }
         ensures writes { self.new.write_faults ≡ self.old.write_faults }
     {
-        if !self.backends.begin_wait(&self.rt, host, port)? {
-            return Err(io::Error::from(ErrorKind::WouldBlock));
-        }
+        self.take_turn(host, port)?;
         let opened = self.open_stream(host, port);
         if opened.is_err() {
             let found = Some(Standing::Unreachable);
@@ -142,7 +158,8 @@ impl<R: Outside> Dialer for TcpDialer<R> {
         self.limits = limits;
     }
 
-    /// While half of all who dial wait for a first byte from there it fails at once, so that one backend never takes all workers.
+    /// While half of all who dial wait for a first byte from there it waits for its turn, for a second at most; it fails at once where
+    /// they have waited there for a second. So one backend never takes all workers for long.
     fn dial(&mut self, host: &Text, port: &Text) -> Result<BackendLink<R>, DialError> {
         let peer = Peer::Dialed {
             host: host.copy()?,

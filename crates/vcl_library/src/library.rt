@@ -4,6 +4,7 @@ ghost use Rattle.vcl_library.specs.Functions.{std_functions};
 ghost use Rattle.vcl_library.specs.Programs.{IsProgramOf};
 
 use crate::backends::backend_of;
+use crate::waiting::waiting_at;
 use http_heads::Backend;
 use std::alloc::{AllocError, Global};
 use std::mem;
@@ -13,6 +14,7 @@ use vcl_runs::Programs;
 use vcl_soundness::{backends_are_there, program_never_stuck, standard_are_meant};
 use vcl_store::program_of;
 use vmod_host::VmodTable;
+use wire::TimeLimits;
 
 /// A program with its VCL's number and the text that it was made of.
 #[derive(Drop)]
@@ -130,10 +132,13 @@ impl Programs<Run> for Library {
     ghost use Rattle.vcl_library.specs.Backends.{server_at};
     ghost use Rattle.vcl_library.specs.OneMeaning.{one-meaning};
     ghost use Rattle.vcl_library.specs.Programs.{IsProgramOf};
+    ghost use Rattle.vcl_library.specs.Waiting.{waiting_at};
 
     ghost of_text = { λ text program. IsProgramOf text program.compiled.program.tree program.compiled.program.stored };
 
     ghost backends = { λ program name. server_at program.compiled.program.tree.items name };
+
+    ghost times = { λ program name. waiting_at program.compiled.program.tree.items name };
 
     ghost one_meaning = { λ text one other p q. one-meaning text one.compiled.program.tree other.compiled.program.tree one.compiled.program.stored other.compiled.program.stored p q };
 
@@ -154,5 +159,9 @@ impl Programs<Run> for Library {
 
     fn backend(alloc: Global, program: &Executable, name: &Text) -> Result<Backend, AllocError> {
         backend_of(alloc, program, name)
+    }
+
+    fn waiting(program: &Executable, name: &Text) -> TimeLimits {
+        waiting_at(program, name)
     }
 }

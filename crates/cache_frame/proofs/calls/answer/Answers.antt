@@ -1,6 +1,6 @@
 use Rattle.std.proofs.Common.{refl}
 use Rattle.cache_law.specs.declared.call.Call.TheVariants as calls
-use Rattle.cache_frame.specs.Stock.{no_stock}
+use Rattle.cache_desk.specs.Stock.{no_stock}
 use Rattle.cache_frame.proofs.Joins.{desk_joins}
 use Rattle.cache_frame.proofs.Results.{ok_map}
 use Rattle.cache_frame.proofs.calls.answer.Goals as goal

@@ -1,6 +1,6 @@
 use Rattle.std.proofs.Common.{arith, ◌<◌, length}
 use Rattle.cache_law.specs.BansAtOnce.{open_line}
-use Rattle.cache_frame.proofs.Passes.{map_one, map_whole}
+use Rattle.cache_desk.proofs.Passes.{map_one, map_whole}
 use Rattle.flat_core.proofs.banning.ban_lines.Goals as goal
 
 pub loop-place-preserved : goal.loop-place-preserved

@@ -1,6 +1,6 @@
 use Rattle.std.proofs.Common.{arith, ◌<◌, length}
 use Rattle.flat_core.specs.Banning.{banned_fate}
-use Rattle.cache_frame.proofs.Passes.{map_one, map_whole}
+use Rattle.cache_desk.proofs.Passes.{map_one, map_whole}
 use Rattle.flat_core.proofs.banning.banned_fates.Goals as goal
 
 pub loop-place-preserved : goal.loop-place-preserved

@@ -1,6 +1,6 @@
 use Rattle.std.proofs.Common.{rules, ◌==◌}
 use Rattle.flat_core.specs.declared.stored_object.StoredObject.{StoredObject}
-use Rattle.cache_frame.proofs.Passes.{find-front, find-behind}
+use Rattle.cache_desk.proofs.Passes.{find-front, find-behind}
 use Rattle.flat_core.proofs.lists.kept_of.Goals as goal
 
 pub returns-in-Some : goal.returns-in-Some

@@ -1,6 +1,6 @@
 use Rattle.std.proofs.Common.{rules, arith, ◌≡◌, ◌<◌, ◌++◌, ◌∷◌, [], length}
 use Rattle.flat_core.specs.Purging.{softening}
-use Rattle.cache_frame.proofs.Passes.{map_one, map_whole}
+use Rattle.cache_desk.proofs.Passes.{map_one, map_whole}
 use Rattle.flat_core.proofs.purging.softened_all.Goals as goal
 
 pub loop-place-preserved : goal.loop-place-preserved

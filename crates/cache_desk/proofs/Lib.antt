@@ -1,0 +1,4 @@
+pub mod Passes
+pub mod Choosing
+pub mod Replies
+pub mod Crossing

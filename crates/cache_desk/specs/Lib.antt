@@ -1,0 +1,4 @@
+pub mod Desk
+pub mod Stock
+pub mod Opening
+pub mod Answers

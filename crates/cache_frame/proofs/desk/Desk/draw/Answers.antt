@@ -1,9 +1,0 @@
-use Rattle.std.proofs.Common.{rules, refl}
-use Rattle.cache_frame.proofs.Replies.{draws_not, draws}
-use Rattle.cache_frame.proofs.desk.Desk.draw.Goals as goal
-
-pub returns-then-not-has_round : goal.returns-then-not-has_round
-returns-then-not-has_round c = rw (← c.self.view_is) (draws_not _ _ _ _ (search rules) refl refl)
-
-pub returns : goal.returns
-returns c = rw (← c.self.view_is) (draws _ _ _ _ (search rules) refl refl)

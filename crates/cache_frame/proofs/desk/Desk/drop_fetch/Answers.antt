@@ -1,9 +1,0 @@
-use Rattle.std.proofs.Common.{rules, refl}
-use Rattle.cache_frame.proofs.Replies.{drops_not, drops}
-use Rattle.cache_frame.proofs.desk.Desk.drop_fetch.Goals as goal
-
-pub returns-then-not-has_fetch : goal.returns-then-not-has_fetch
-returns-then-not-has_fetch c = rw (← c.self.view_is) (drops_not _ _ _ _ _ (search rules) refl refl)
-
-pub returns : goal.returns
-returns c = rw (← c.self.view_is) (drops _ _ _ _ _ _ (search rules) (search rules) refl refl)

@@ -1,6 +1,0 @@
-use Rattle.std.proofs.Common.{refl}
-use Rattle.cache_frame.proofs.Replies.{picks_none}
-use Rattle.cache_frame.proofs.desk.Desk.pick_none.Goals as goal
-
-pub returns : goal.returns
-returns c vcl word target = rw (← c.self.view_is) (picks_none _ vcl target word _ _ refl refl)

@@ -1,6 +1,0 @@
-use Rattle.std.proofs.Common.{rules}
-use Rattle.cache_frame.proofs.Choosing.{member_chosen}
-use Rattle.cache_frame.proofs.picking.chosen.Goals as goal
-
-pub returns-clause-within : goal.returns-clause-within
-returns-clause-within c = member_chosen _ c.args.health.now c.args.vcl _ _ _ _ _ (search rules) c.choose.ensures.chosen

@@ -1,8 +1,0 @@
-use Rattle.std.proofs.Common.{◌≡◌}
-use Rattle.cache_law.specs.State.{remembering}
-use Rattle.cache_frame.proofs.Passes.{passed}
-use Rattle.cache_frame.proofs.rounds.remember.Given as goal
-
--- the rounds before this place are changed
-abbrev pub invariant-loop-place : goal.invariant-loop-place
-invariant-loop-place l = l.rounds.items ≡ passed (remembering l.caller l.token) l.place l.initial.rounds.items

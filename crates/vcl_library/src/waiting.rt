@@ -1,0 +1,44 @@
+// How long backends are waited for.
+ghost use Rattle.std.specs.Prelude.{◌≡◌};
+ghost use Rattle.vcl_library.specs.Waiting.{waiting_at, waiting_in, waiting_with};
+
+use units::Text;
+use vcl_attributes::Limits;
+use vcl_runner::Executable;
+use wire::TimeLimits;
+
+fn waiting_with(limits: &Limits) -> TimeLimits
+    ensures { result ≡ waiting_with limits.now }
+{
+    TimeLimits {
+        connecting: limits.connect_timeout.unsigned_abs(),
+        first_byte: limits.first_byte_timeout.unsigned_abs(),
+        between_bytes: limits.between_bytes_timeout.unsigned_abs(),
+        whole: None,
+    }
+}
+
+// As the first limits of this name say it.
+fn waiting_in(wanted: &[u8], limits: &[Limits]) -> TimeLimits
+    ensures { result ≡ waiting_in wanted.now limits.entry.now }
+{
+    for one in limits {
+        if one.backend.bytes() == wanted {
+            return waiting_with(one);
+        }
+    }
+    TimeLimits {
+        connecting: 3500,
+        first_byte: 60_000,
+        between_bytes: 60_000,
+        whole: None,
+    }
+}
+
+/// How long the backend of this name of the program is waited for, by its `.connect_timeout`, `.first_byte_timeout` and
+/// `.between_bytes_timeout`. A reply as a whole has no limit.
+pub fn waiting_at(program: &Executable, name: &Text) -> TimeLimits
+    ensures { result ≡ waiting_at program.now.compiled.program.tree.items name.now }
+{
+    waiting_in(name.bytes(), program.compiled.program.limits())
+}
