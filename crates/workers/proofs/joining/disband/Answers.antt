@@ -1,5 +1,5 @@
 -- Nobody is taken down at first, and then one worker after another.
-use Rattle.std.proofs.Common.{◌≡◌, ◌∷◌, refl, sym, rules, arith, append-nil}
+use Rattle.std.proofs.Common.{◌≡◌, ◌∷◌, sym, rules, arith, append-nil}
 use Rattle.std.specs.Prelude.{IsSome}
 use Rattle.std.proofs.lemmas.Grind.{common_steps}
 use Rattle.std.proofs.lemmas.List.Elements.{All-head, All-tail}
