@@ -29,7 +29,7 @@ use Rattle.server.specs.declared.keeping.Event.{Event}
 use Rattle.server.specs.declared.keeping.Event.TheVariants.{Led}
 use Rattle.server.specs.Serving.{IsSound, TellsAll, TellsOne, TellsRounds, stand_of}
 use Rattle.server.specs.Transcripts.{Stand, AreResponses, LeadsOne, LeadsAll, all_numbers}
-use Rattle.server.proofs.Keeping.{told_none, told_then}
+use Rattle.server.proofs.Tallies.{told_none, told_then}
 
 module _ {P L : Type 0} (language : Language P) (heard : L → LinkTold) (peer : List ℕ) where
   responses_more : (words words' : Option ℕ → Type 0) (readings readings' : ℕ → Type 0) (drawn : (word : Option ℕ) → words word → words' word)

@@ -1,3 +1,3 @@
-pub mod Keeping
+pub mod Tallies
 pub mod Leads
 pub mod Completing

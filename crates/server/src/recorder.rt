@@ -1,6 +1,6 @@
 // The keeper that keeps all that it is told.
-ghost use Rattle.std.specs.Prelude.{◌≡◌, ◌-◌, vec_len, vec_capacity};
-ghost use Rattle.server.specs.Keeping.{tally_of};
+ghost use Rattle.std.specs.Prelude.{◌≡◌, ◌+◌, ◌-◌, ◌<◌, ◌≤◌, ◌∷◌, [], vec_len, vec_capacity};
+ghost use Rattle.server.specs.Keeping.{IsTold, tally_of};
 
 use crate::keeping::{Event, Keeper};
 use crate::tally::Tally;
@@ -29,7 +29,11 @@ impl<L: Drop> Keeper<L> for Recorder<L> {
         self.events.reserve(count)
     }
 
-    fn keep(&mut self, event: Event<L>) {
+    fn keep(&mut self, event: Event<L>)
+        requires { 0 < vec_capacity self.old.events - vec_len self.old.events }
+        ensures told { IsTold (λ recorder events. (recorder.events.items ≡ events) × (recorder.counts ≡ tally_of events)) self.old self.new (event ∷ []) }
+        ensures room { vec_capacity self.old.events - vec_len self.old.events ≤ vec_capacity self.new.events - vec_len self.new.events + 1 }
+    {
         self.counts = self.counts.plus(Tally::of(&event));
         self.events.push_reserved(event);
     }

@@ -1,6 +1,6 @@
 // The keeper that counts, and lets go of what it is told.
-ghost use Rattle.std.specs.Prelude.{◌≡◌, [], ◌∷◌};
-ghost use Rattle.server.specs.Keeping.{added, found_full, tally_of};
+ghost use Rattle.std.specs.Prelude.{◌≡◌, [], ◌∷◌, false};
+ghost use Rattle.server.specs.Keeping.{IsTold, added, found_full, tally_of};
 
 use crate::keeping::{Event, Keeper};
 use connection::Ended;
@@ -71,7 +71,9 @@ impl<L: Drop> Keeper<L> for Tally {
         Ok(())
     }
 
-    fn keep(&mut self, event: Event<L>) {
+    fn keep(&mut self, event: Event<L>)
+        ensures told { IsTold (λ tally events. tally ≡ tally_of events) self.old self.new (event ∷ []) }
+    {
         *self = self.plus(Tally::of(&event));
     }
 

@@ -24,7 +24,7 @@ use Rattle.round_lead.proofs.Stays.{response_more}
 use Rattle.server.specs.declared.keeping.Event.{Event}
 use Rattle.server.specs.Keeping.{places_of}
 use Rattle.server.specs.Transcripts.{AreResponses, all_numbers}
-use Rattle.server.proofs.Keeping.{places_led}
+use Rattle.server.proofs.Tallies.{places_led}
 use Rattle.steering.specs.Serving.{IsReady, Serves}
 use Rattle.steering.specs.Telling.{Tells}
 use Rattle.crew.specs.Calls.{HasCalled}

@@ -7,7 +7,8 @@ use Rattle.wire.specs.Telling.{LinkTold}
 use Rattle.world.specs.declared.kit.Kit.{Kit}
 use Rattle.server.specs.declared.keeping.Event.{Event}
 use Rattle.server.specs.declared.tally.Tally.{Tally}
-use Rattle.server.specs.Keeping.{tally_of}
+use Rattle.server.specs.Keeping.{added, tally_of}
+use Rattle.server.proofs.Tallies.{tally_more}
 use Rattle.crew.specs.Leaving.{AllWhole}
 use Rattle.crew.specs.Parts.{Part, all_came, all_events}
 
@@ -31,3 +32,17 @@ module _ {N E D K : Type 0} (unused : Kit D K → Type 0) (Told : N → List (Ev
       → tally ≡ tally_of (all_events (all_came parts))
   counted keepers parts tally are whole counts =
       counts (events_each parts) (subst (λ (ks : List N). AllZip Told ks (events_each parts)) (sym are) (told_each parts whole)) ∙ ap tally_of (events_joined parts)
+
+-- ---- one keeper behind another
+
+module _ {N E : Type 0} (Told : N → List (Event E) → Type 0) where
+  pub counts_none : (lists : List (List (Event E))) → AllZip Told [] lists → record { rounds = 0; found_full = false } ≡ tally_of (all_events lists)
+  counts_none [] told = refl
+  counts_none (events ∷ lists) never = absurd never
+
+  pub counts_more : (keeper : N) (keepers : List N) (one rest : Tally) → ((events : List (Event E)) → Told keeper events → one ≡ tally_of events)
+      → ((lists : List (List (Event E))) → AllZip Told keepers lists → rest ≡ tally_of (all_events lists)) → (lists : List (List (Event E))) → AllZip Told (keeper ∷ keepers) lists
+      → added one rest ≡ tally_of (all_events lists)
+  counts_more keeper keepers one rest here others [] never = absurd never
+  counts_more keeper keepers one rest here others (events ∷ lists) told =
+      ap (λ (t : Tally). added t rest) (here events told.0) ∙ (ap (λ (t : Tally). added (tally_of events) t) (others lists told.1) ∙ sym (tally_more events (all_events lists)))

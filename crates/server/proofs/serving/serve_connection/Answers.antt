@@ -2,7 +2,7 @@
 use Rattle.std.proofs.Common.{◌∷◌, [], ◌++◌, map, refl}
 use Rattle.server.specs.declared.keeping.Event.TheVariants.{Led, Over}
 use Rattle.server.proofs.Completing.{all_answered}
-use Rattle.server.proofs.Keeping.{told_then}
+use Rattle.server.proofs.Tallies.{told_then}
 use Rattle.server.proofs.serving.serve_connection.Goals as goal
 
 pub returns-clause-served : goal.returns-clause-served

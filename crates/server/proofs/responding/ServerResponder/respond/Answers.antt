@@ -3,7 +3,7 @@ use Rattle.std.proofs.Common.{[], arith, rules, refl, ap}
 use Rattle.std.proofs.lemmas.Grind.{common_steps}
 use Rattle.wire.proofs.Flowing.{Moves-none}
 use Rattle.round_lead.proofs.Told.{Went-none}
-use Rattle.server.proofs.Keeping.{told_then}
+use Rattle.server.proofs.Tallies.{told_then}
 use Rattle.server.proofs.Leads.{as_turn, unled}
 use Rattle.server.proofs.responding.ServerResponder.respond.Goals as goal
 

@@ -1,5 +1,5 @@
 -- Keepers that are told nothing, and more and more.
-use Rattle.std.proofs.Common.{◌≡◌, ℕ, ◌||◌, Bool, List, [], ◌∷◌, ◌++◌, map, refl, sym, ap, ◌∙◌, subst, arith, append-nil, append_assoc}
+use Rattle.std.proofs.Common.{◌≡◌, ℕ, ◌+◌, ◌||◌, Bool, List, [], ◌∷◌, ◌++◌, map, refl, sym, ap, ◌∙◌, subst, arith, append-nil, append_assoc}
 use Rattle.std.specs.Prelude.{sum_by}
 use Rattle.std.specs.List.{list_any}
 use Rattle.std.proofs.lemmas.List.Sums.{sum_by-append}
@@ -25,7 +25,10 @@ told_then {E = E} Told first second third events more one other before told =
 joined_sum : (a b : ℕ) → joined_count 0 (a + b) ≡ joined_count (joined_count 0 a) (joined_count 0 b)
 joined_sum a b = omega arith
 
-same_tally : (r r' : ℕ) (f f' : Bool) → r ≡ r' → f ≡ f' → record { rounds = r; found_full = f } ≡ record { rounds = r'; found_full = f' }
+abbrev tally_with : ℕ → Bool → Tally
+tally_with rounds found_full = record { rounds = rounds; found_full = found_full }
+
+same_tally : (r r' : ℕ) (f f' : Bool) → r ≡ r' → f ≡ f' → tally_with r f ≡ tally_with r' f'
 same_tally r r' f f' a b = cc
 
 -- what more events count is added
