@@ -52,71 +52,59 @@ called_places k after gained c none =
 abbrev pub stand_of : {H K : Type 0} → (H → CallerKnows) → (H → K) → H → Stand K
 stand_of knows kit_of h = record { kit = kit_of h; seen = (knows h).seen }
 
-module _ {K L T : Type 0} (places_of : T → List ℕ) (Tells Tells' : ℕ → K → K → LinkTold → LinkTold → T → Type 0) (told : L → LinkTold)
-    (wider : (number : ℕ) (before after : K) (opening closing : LinkTold) (transcript : T) → Tells number before after opening closing transcript
-    → Tells' number before after opening closing transcript) where
+module _ {K E : Type 0} (places_of : List E → List ℕ) (Tells Tells' : ℕ → K → K → LinkTold → List E → Type 0)
+    (wider : (number : ℕ) (before after : K) (opening : LinkTold) (events : List E) → Tells number before after opening events → Tells' number before after opening events) where
   -- what is told so may be told otherwise
-  pub all_wider : (number : ℕ) (before after : Stand K) (links : List L) (transcripts : List T) → AllTold places_of Tells told number before after links transcripts
-      → AllTold places_of Tells' told number before after links transcripts
-  all_wider number before after [] [] same = same
-  all_wider number before after [] (t ∷ ts) never = never
-  all_wider number before after (l ∷ ls) [] never = never
-  all_wider number before after (l ∷ ls) (t ∷ ts) all = (
+  pub all_wider : (number : ℕ) (before after : Stand K) (came : List (List E)) → AllTold places_of Tells number before after came → AllTold places_of Tells' number before after came
+  all_wider number before after [] same = same
+  all_wider number before after (events ∷ came) all = (
     all.0,
     record {
       opening = all.1.opening;
       address = all.1.address;
       is_new = all.1.is_new;
-      closed = all.1.closed;
-      tells = wider number before.kit all.0.kit all.1.opening (told l) t all.1.tells;
+      tells = wider number before.kit all.0.kit all.1.opening events all.1.tells;
       between = all.1.between;
       seen = all.1.seen;
       places = all.1.places;
     },
-    all_wider number all.0 after ls ts all.2,
+    all_wider number all.0 after came all.2,
   )
 
 -- Below, workers with shifts of this kind serve so, and make their calls by the passes of these.
-module _ {H K L T : Type 0} (Serves : H → H → LinkTold → LinkTold → T → Type 0) (told : L → LinkTold) (knows : H → CallerKnows) (kit_of : H → K)
-    (places_of : T → List ℕ) (Tells : List Entry → ℕ → K → K → LinkTold → LinkTold → T → Type 0) (beginning : Beginning)
-    (calls : (old new : H) (opening closing : LinkTold) (transcript : T) → Serves old new opening closing transcript → HasCalled (knows old) (knows new) (places_of transcript))
-    (tells : (old new : H) (opening closing : LinkTold) (transcript : T) → Serves old new opening closing transcript → (knows new).setting ≡ Some beginning
-    → Tells (knows new).seen (knows old).number (kit_of old) (kit_of new) opening closing transcript)
-    (longer : (history more : List Entry) (number : ℕ) (before after : K) (opening closing : LinkTold) (transcript : T)
-    → Tells history number before after opening closing transcript → Tells (history ++ more) number before after opening closing transcript) where
-  pub all_called : (old new : H) (links : List L) (transcripts : List T) → AllServed Serves told old new links transcripts
-      → HasCalled (knows old) (knows new) (all_places places_of transcripts)
-  all_called old new [] [] same = subst (λ (h : H). HasCalled (knows old) (knows h) []) (sym same) (called_none (knows old))
-  all_called old new [] (t ∷ ts) never = absurd never
-  all_called old new (l ∷ ls) [] never = absurd never
-  all_called old new (l ∷ ls) (t ∷ ts) all =
-      called_then (knows old) (knows all.0) (knows new) (places_of t) (all_places places_of ts) (calls old all.0 all.1.opening (told l) t all.1.serves)
-      (all_called all.0 new ls ts all.2)
+module _ {H K E : Type 0} (Serves : H → H → LinkTold → List E → Type 0) (knows : H → CallerKnows) (kit_of : H → K)
+    (places_of : List E → List ℕ) (Tells : List Entry → ℕ → K → K → LinkTold → List E → Type 0) (beginning : Beginning)
+    (calls : (old new : H) (opening : LinkTold) (events : List E) → Serves old new opening events → HasCalled (knows old) (knows new) (places_of events))
+    (tells : (old new : H) (opening : LinkTold) (events : List E) → Serves old new opening events → (knows new).setting ≡ Some beginning
+    → Tells (knows new).seen (knows old).number (kit_of old) (kit_of new) opening events)
+    (longer : (history more : List Entry) (number : ℕ) (before after : K) (opening : LinkTold) (events : List E)
+    → Tells history number before after opening events → Tells (history ++ more) number before after opening events) where
+  pub all_called : (old new : H) (came : List (List E)) → AllServed Serves old new came → HasCalled (knows old) (knows new) (all_places places_of came)
+  all_called old new [] same = subst (λ (h : H). HasCalled (knows old) (knows h) []) (sym same) (called_none (knows old))
+  all_called old new (events ∷ came) all =
+      called_then (knows old) (knows all.0) (knows new) (places_of events) (all_places places_of came) (calls old all.0 all.1.opening events all.1.serves) (all_called all.0 new came all.2)
 
-  pub all_told : (old new : H) (links : List L) (transcripts : List T) → AllServed Serves told old new links transcripts → (knows new).setting ≡ Some beginning → beginning.base.entries ≡ 0
-      → AllTold places_of (Tells (knows new).seen) told (knows old).number (stand_of knows kit_of old) (stand_of knows kit_of new) links transcripts
-  all_told old new [] [] same set first = ap (stand_of knows kit_of) same
-  all_told old new [] (t ∷ ts) never set first = absurd never
-  all_told old new (l ∷ ls) [] never set first = absurd never
-  all_told old new (l ∷ ls) (t ∷ ts) all set first =
-      let rest = all_called all.0 new ls ts all.2 in
-      let here = calls old all.0 all.1.opening (told l) t all.1.serves in
-      let begun = sym (called_setting (knows all.0) (knows new) (all_places places_of ts) rest) ∙ set in
-      let none = before_is (knows old) beginning (sym (called_setting (knows old) (knows all.0) (places_of t) here) ∙ begun) ∙ first in (
+  pub all_told : (old new : H) (came : List (List E)) → AllServed Serves old new came → (knows new).setting ≡ Some beginning → beginning.base.entries ≡ 0
+      → AllTold places_of (Tells (knows new).seen) (knows old).number (stand_of knows kit_of old) (stand_of knows kit_of new) came
+  all_told old new [] same set first = ap (stand_of knows kit_of) same
+  all_told old new (events ∷ came) all set first =
+      let rest = all_called all.0 new came all.2 in
+      let here = calls old all.0 all.1.opening events all.1.serves in
+      let begun = sym (called_setting (knows all.0) (knows new) (all_places places_of came) rest) ∙ set in
+      let none = before_is (knows old) beginning (sym (called_setting (knows old) (knows all.0) (places_of events) here) ∙ begun) ∙ first in (
         stand_of knows kit_of all.0,
         record {
           opening = all.1.opening;
           address = all.1.address;
           is_new = all.1.is_new;
-          closed = all.1.closed;
-          tells = subst (λ (h : List Entry). Tells h (knows old).number (kit_of old) (kit_of all.0) all.1.opening (told l) t)
-              (sym (called_seen (knows all.0) (knows new) (all_places places_of ts) rest))
-              (longer (knows all.0).seen rest.between (knows old).number (kit_of old) (kit_of all.0) all.1.opening (told l) t
-              (tells old all.0 all.1.opening (told l) t all.1.serves begun));
+          tells = subst (λ (h : List Entry). Tells h (knows old).number (kit_of old) (kit_of all.0) all.1.opening events)
+              (sym (called_seen (knows all.0) (knows new) (all_places places_of came) rest))
+              (longer (knows all.0).seen rest.between (knows old).number (kit_of old) (kit_of all.0) all.1.opening events
+              (tells old all.0 all.1.opening events all.1.serves begun));
           between = here.between;
-          seen = called_seen (knows old) (knows all.0) (places_of t) here;
-          places = called_places (knows old) (knows all.0) (places_of t) here none;
+          seen = called_seen (knows old) (knows all.0) (places_of events) here;
+          places = called_places (knows old) (knows all.0) (places_of events) here none;
         },
-        subst (λ (n : ℕ). AllTold places_of (Tells (knows new).seen) told n (stand_of knows kit_of all.0) (stand_of knows kit_of new) ls ts) (called_number (knows old) (knows all.0) (places_of t) here)
-            (all_told all.0 new ls ts all.2 set first),
+        subst (λ (n : ℕ). AllTold places_of (Tells (knows new).seen) n (stand_of knows kit_of all.0) (stand_of knows kit_of new) came) (called_number (knows old) (knows all.0) (places_of events) here)
+            (all_told all.0 new came all.2 set first),
       )

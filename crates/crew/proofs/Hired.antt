@@ -10,6 +10,7 @@ use Rattle.shared_cache.specs.Sharing.{CallerKnows}
 use Rattle.wire.specs.Telling.{LinkTold}
 use Rattle.world.specs.declared.kit.Kit.{Kit}
 use Rattle.workers.specs.Working.{IsReady}
+use Rattle.workers.specs.declared.post.Post.{Post}
 use Rattle.workers.specs.declared.worker.Worker.{Worker}
 use Rattle.crew.specs.Calls.{HasCalled}
 use Rattle.crew.specs.Opening.{CanBegin, IsStart, IsFirst}
@@ -17,13 +18,13 @@ use Rattle.crew.specs.Hiring.{IsHired, AllHired, Hires}
 use Rattle.crew.specs.Leaving.{HaveLeft, HaveWorked}
 use Rattle.crew.proofs.Leaving.{all_left}
 
-module _ {H L T A B D K : Type 0} (IsPass : Pass Entry Beginning → Type 0) (Unused : Kit D K → Type 0) (pass_of : H → Pass Entry Beginning) (kit_of : H → Kit D K)
-    (Ready : H → Type 0) where
+module _ {H N E A B D K : Type 0} (IsPass : Pass Entry Beginning → Type 0) (Unused : Kit D K → Type 0) (pass_of : H → Pass Entry Beginning) (kit_of : H → Kit D K)
+    (Told : N → List E → Type 0) (Ready : H → Type 0) where
   module _ (setting : Option Beginning) (beginning : Beginning) (set : setting ≡ Some beginning) (can_begin : CanBegin beginning)
       (ready : (shift : H) → IsPass (pass_of shift) → IsStart (known (pass_of shift)) → Ready shift) where
-    ready_one : (n : ℕ) (w : Worker H L T A B) → IsHired IsPass Unused pass_of kit_of setting n w → IsReady Ready w
+    ready_one : (n : ℕ) (w : Worker H N A B) → IsHired IsPass Unused pass_of kit_of Told setting n w → IsReady Ready w
     ready_one n w hired =
-        let start : IsStart (known (pass_of hired.shift)) = record {
+        let start : IsStart (known (pass_of hired.post.shift)) = record {
           beginning = beginning;
           begins = hired.fresh.setting_is ∙ set;
           can_begin = can_begin;
@@ -32,12 +33,12 @@ module _ {H L T A B D K : Type 0} (IsPass : Pass Entry Beginning → Type 0) (Un
         let parts = hired.accepted.0 in
         let others = hired.left.0 in
         record {
-          shift = subst (λ (o : Option H). IsSomeAnd o Ready) (sym hired.has) (ready hired.shift hired.pass start);
+          shift = subst (λ (o : Option (Post H N)). IsSomeAnd o (λ post. Ready post.shift)) (sym hired.has) (ready hired.post.shift hired.pass start);
           accepted = omega arith;
           left = omega arith;
         }
 
-    ready_each : (ns : List ℕ) (ws : List (Worker H L T A B)) → AllHired IsPass Unused pass_of kit_of setting ns ws → All (IsReady Ready) ws
+    ready_each : (ns : List ℕ) (ws : List (Worker H N A B)) → AllHired IsPass Unused pass_of kit_of Told setting ns ws → All (IsReady Ready) ws
     ready_each [] [] hired = All-nil (IsReady Ready)
     ready_each [] (w ∷ ws) hired = absurd hired
     ready_each (n ∷ ns) [] hired = absurd hired
@@ -45,32 +46,29 @@ module _ {H L T A B D K : Type 0} (IsPass : Pass Entry Beginning → Type 0) (Un
 
   -- each may begin
   pub ready_all : (ready : (shift : H) → IsPass (pass_of shift) → IsStart (known (pass_of shift)) → Ready shift)
-      (k after : CallerKnows) (ws : List (Worker H L T A B)) → IsFirst k → Hires IsPass Unused pass_of kit_of k.setting 0 k after ws → All (IsReady Ready) ws
+      (k after : CallerKnows) (ws : List (Worker H N A B)) → IsFirst k → Hires IsPass Unused pass_of kit_of Told k.setting 0 k after ws → All (IsReady Ready) ws
   ready_all ready k after ws first hires =
       ready_each k.setting first.beginning (ap (λ (z : CallerKnows). z.setting) first.knows) first.can_begin ready hires.numbers ws hires.hired
 
-  module _ (places_of : T → List ℕ) (Tells : Beginning → List Entry → ℕ → Kit D K → Kit D K → LinkTold → LinkTold → T → Type 0) (told : L → LinkTold)
-      (Serves : H → H → LinkTold → LinkTold → T → Type 0) (passes : (shift : H) → Ready shift → IsPass (pass_of shift))
-      (calls : (old new : H) (opening closing : LinkTold) (transcript : T) → Serves old new opening closing transcript
-      → HasCalled (known (pass_of old)) (known (pass_of new)) (places_of transcript))
-      (tells : (old new : H) (opening closing : LinkTold) (transcript : T) (beginning : Beginning) → Serves old new opening closing transcript
-      → (known (pass_of new)).setting ≡ Some beginning
-      → Tells beginning (known (pass_of new)).seen (known (pass_of old)).number (kit_of old) (kit_of new) opening closing transcript)
-      (longer : (beginning : Beginning) (history more : List Entry) (number : ℕ) (before after : Kit D K) (opening closing : LinkTold) (transcript : T)
-      → Tells beginning history number before after opening closing transcript
-      → Tells beginning (history ++ more) number before after opening closing transcript) where
+  module _ (places_of : List E → List ℕ) (Tells : Beginning → List Entry → ℕ → Kit D K → Kit D K → LinkTold → List E → Type 0)
+      (Serves : H → H → LinkTold → List E → Type 0) (passes : (shift : H) → Ready shift → IsPass (pass_of shift))
+      (calls : (old new : H) (opening : LinkTold) (events : List E) → Serves old new opening events → HasCalled (known (pass_of old)) (known (pass_of new)) (places_of events))
+      (tells : (old new : H) (opening : LinkTold) (events : List E) (beginning : Beginning) → Serves old new opening events → (known (pass_of new)).setting ≡ Some beginning
+      → Tells beginning (known (pass_of new)).seen (known (pass_of old)).number (kit_of old) (kit_of new) opening events)
+      (longer : (beginning : Beginning) (history more : List Entry) (number : ℕ) (before after : Kit D K) (opening : LinkTold) (events : List E)
+      → Tells beginning history number before after opening events → Tells beginning (history ++ more) number before after opening events) where
     -- all have left
-    pub have_left : (k : CallerKnows) (ws : List (Worker H L T A B)) → HaveWorked IsPass Unused pass_of kit_of Ready Serves told k ws
-        → HaveLeft IsPass Unused pass_of kit_of places_of Tells told k ws
+    pub have_left : (k : CallerKnows) (ws : List (Worker H N A B)) → HaveWorked IsPass Unused pass_of kit_of Told Ready Serves k ws
+        → HaveLeft IsPass Unused pass_of kit_of Told places_of Tells k ws
     have_left k ws all =
         let b = all.first.beginning in
         let set : all.before.setting ≡ Some b = ap (λ (z : CallerKnows). z.setting) all.first.knows in
-        let hired = subst (λ (s : Option Beginning). AllHired IsPass Unused pass_of kit_of s all.hires.numbers all.olds) set all.hires.hired in
+        let hired = subst (λ (s : Option Beginning). AllHired IsPass Unused pass_of kit_of Told s all.hires.numbers all.olds) set all.hires.hired in
         record {
           beginning = b;
           numbers = all.hires.numbers;
-          left = all_left IsPass Unused pass_of kit_of b places_of (Tells b) told Ready Serves passes calls
-              (λ old new opening closing transcript serves begun. tells old new opening closing transcript b serves begun) (longer b) all.first.can_begin.first all.hires.numbers all.olds ws hired all.worked;
+          left = all_left IsPass Unused pass_of kit_of Told b places_of (Tells b) Ready Serves passes calls
+              (λ old new opening events serves begun. tells old new opening events b serves begun) (longer b) all.first.can_begin.first all.hires.numbers all.olds ws hired all.worked;
           knows = all.hires.knows ∙ ap (λ (z : CallerKnows). record z { upto = k.upto; made = z.made ++ all.hires.numbers }) all.first.knows;
           once = all.hires.once;
         }

@@ -65,3 +65,7 @@ pub adds_more : {X A : Type 0} (f : X → A) (xs : List X) (x : X) (first second
     → Adds first third (map f (xs ++ x ∷ []))
 adds_more {A = A} f xs x first second third a b =
     subst (λ (l : List A). Adds first third l) (sym (map_more f xs x)) (adds_then first second third (map f xs) (f x ∷ []) a b)
+
+pub items_more : {X A : Type 0} (f : X → A) (xs : List X) (x : X) (start now new : List A) → now ≡ start ++ map f xs → new ≡ now ++ f x ∷ [] → new ≡ start ++ map f (xs ++ x ∷ [])
+items_more {A = A} f xs x start now new so_far one =
+    one ∙ (ap (λ (l : List A). l ++ f x ∷ []) so_far ∙ (append_assoc start (map f xs) (f x ∷ []) ∙ ap (λ (l : List A). start ++ l) (sym (map_more f xs x))))

@@ -1,5 +1,5 @@
 -- Workers over a cache, from their hiring to their leave.
-use Rattle.std.specs.Prelude.{◌≡◌, ℕ, List, [], ◌∷◌, ◌++◌, Option, Some, vec_len}
+use Rattle.std.specs.Prelude.{◌≡◌, ℕ, List, [], ◌∷◌, ◌++◌, Option, Some}
 use Rattle.cache_law.specs.declared.call.Entry.{Entry}
 use Rattle.cache_law.specs.Beginning.{Beginning}
 use Rattle.turnstile.specs.declared.handles.Pass.{Pass}
@@ -11,6 +11,7 @@ use Rattle.wire.specs.Tapes.{Tape}
 use Rattle.wire.specs.declared.peer.Talk.{Talk}
 use Rattle.world.specs.Keeping.{IsNothingYet, IsUntold}
 use Rattle.world.specs.declared.kit.Kit.{Kit}
+use Rattle.workers.specs.declared.post.Post.{Post}
 use Rattle.workers.specs.declared.worker.Worker.{Worker}
 use Rattle.crew.specs.Places.{AllAbove, AtMostOnce}
 
@@ -32,34 +33,33 @@ pub record IsFresh (setting : Option Beginning) (number : ℕ) (k : CallerKnows)
   pub none_made : k.made ≡ []
   pub none_ended : k.ended ≡ []
 
-module _ {H L T A B D K : Type 0} (IsPass : Pass Entry Beginning → Type 0) (Unused : Kit D K → Type 0) (pass_of : H → Pass Entry Beginning) (kit_of : H → Kit D K)
-    (setting : Option Beginning) where
+module _ {H N E A B D K : Type 0} (IsPass : Pass Entry Beginning → Type 0) (Unused : Kit D K → Type 0) (pass_of : H → Pass Entry Beginning) (kit_of : H → Kit D K)
+    (Told : N → List E → Type 0) (setting : Option Beginning) where
   -- a worker that was just hired, under this number
-  pub record IsHired (number : ℕ) (worker : Worker H L T A B) : Type 0 where
-    pub shift : H
-    pub has : worker.shift ≡ Some shift
-    pub pass : IsPass (pass_of shift)
-    pub fresh : IsFresh setting number (known (pass_of shift))
-    pub unused : Unused (kit_of shift)
-    pub no_link : worker.links.items ≡ []
-    pub no_transcript : (worker.transcripts.items ≡ []) × (vec_len worker.transcripts ≡ 0)
+  pub record IsHired (number : ℕ) (worker : Worker H N A B) : Type 0 where
+    pub post : Post H N
+    pub has : worker.post ≡ Some post
+    pub pass : IsPass (pass_of post.shift)
+    pub fresh : IsFresh setting number (known (pass_of post.shift))
+    pub unused : Unused (kit_of post.shift)
+    pub untold : Told post.keeper []
     pub accepted : (worker.accepted.parts ≡ 1) × (worker.accepted.amount ≡ 0)
     pub left : (worker.left.parts ≡ 1) × (worker.left.amount ≡ 0)
 
   -- One worker was hired under this number, behind the others.
-  pub record HiresOne (number : ℕ) (old new : List (Worker H L T A B)) : Type 0 where
-    pub worker : Worker H L T A B
+  pub record HiresOne (number : ℕ) (old new : List (Worker H N A B)) : Type 0 where
+    pub worker : Worker H N A B
     pub items : new ≡ old ++ worker ∷ []
     pub hired : IsHired number worker
 
   -- one worker for each number, in order
-  abbrev pub AllHired : List ℕ → List (Worker H L T A B) → Type 0
+  abbrev pub AllHired : List ℕ → List (Worker H N A B) → Type 0
   AllHired [] [] = Unit {0}
   AllHired (n ∷ ns) (w ∷ ws) = IsHired n w × AllHired ns ws
   AllHired ns ws = ⊥
 
   -- Workers were hired under numbers above this one, each under its own, and these were split off from the first pass.
-  pub record Hires (low : ℕ) (before after : CallerKnows) (workers : List (Worker H L T A B)) : Type 0 where
+  pub record Hires (low : ℕ) (before after : CallerKnows) (workers : List (Worker H N A B)) : Type 0 where
     pub numbers : List ℕ
     pub hired : AllHired numbers workers
     pub knows : after ≡ record before { upto = after.upto; made = before.made ++ numbers }

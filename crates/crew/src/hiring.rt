@@ -13,7 +13,7 @@ use entrance::Quota;
 use shared_cache::{CachePass, SharedCache};
 use std::alloc::{AllocError, Global};
 use std::sync::ledger::{Ledger, Share};
-use workers::Worker;
+use workers::{Post, Worker};
 use world::{Listener, World};
 
 pub(crate) type LinkOf<W> = <<W as World>::Listener as Listener>::Link;
@@ -34,7 +34,7 @@ fn hire_one<
     number: u32,
     accepted: &mut Share<A>,
     left: &mut Share<B>,
-    workers: &mut Vec<Worker<H::Shift, LinkOf<W>, H::Transcript, A, B>>,
+    workers: &mut Vec<Worker<H::Shift, H::Keeper, A, B>>,
 ) -> Result<(), AllocError>
     requires pass { IsPassOf cache.now root.old }
     requires number { ((known root.old).number < number) × (number < (known root.old).upto) }
@@ -43,7 +43,7 @@ fn hire_one<
     requires nothing { (accepted.old.amount ≡ 0) × (left.old.amount ≡ 0) }
     requires room { vec_len workers.old < vec_capacity workers.old }
     ensures hired { OnOk result (HiresOne (IsPassOf cache.now) (IsUnused W.Dialer.talks W.Dialer.dial_faults W.Dialer.read_faults W.Dialer.write_faults W.Clock.readings W.Clock.words)
-        H.pass_of H.kit_of (known root.old).setting number workers.old.items workers.new.items) }
+        H.pass_of H.kit_of H.Told (known root.old).setting number workers.old.items workers.new.items) }
     ensures pass { IsPassOf cache.now root.new }
     ensures cut { OnOk result (known root.new ≡ cut_off (known root.old) number) }
     ensures parts { OnOk result ((accepted.new.parts + 1 ≡ accepted.old.parts) × (left.new.parts + 1 ≡ left.old.parts)) }
@@ -68,9 +68,10 @@ fn hire_one<
     };
     let pass = cache.split(root, number);
     workers.push_reserved(Worker {
-        shift: Some(host.begin_shift(outfit, pass, kit)),
-        links: Vec::new(alloc),
-        transcripts: Vec::new(alloc),
+        post: Some(Post {
+            shift: host.begin_shift(outfit, pass, kit),
+            keeper: host.begin_keeper(alloc),
+        }),
         accepted: accepted.split_off(1, 0),
         left: left.split_off(1, 0),
         leave: None,
@@ -94,7 +95,7 @@ pub(crate) fn hire<
     count: u32,
     accepted: &mut Share<A>,
     left: &mut Share<B>,
-    workers: &mut Vec<Worker<H::Shift, LinkOf<W>, H::Transcript, A, B>>,
+    workers: &mut Vec<Worker<H::Shift, H::Keeper, A, B>>,
 )
     requires pass { IsPassOf cache.now root.old }
     requires first { IsFirst (known root.old) }
@@ -104,7 +105,7 @@ pub(crate) fn hire<
     requires room { vec_len workers.old + count ≤ vec_capacity workers.old }
     ensures pass { IsPassOf cache.now root.new }
     ensures hired { Hires (IsPassOf cache.now) (IsUnused W.Dialer.talks W.Dialer.dial_faults W.Dialer.read_faults W.Dialer.write_faults W.Clock.readings W.Clock.words)
-        H.pass_of H.kit_of (known root.old).setting 0 (known root.old) (known root.new) workers.new.items }
+        H.pass_of H.kit_of H.Told (known root.old).setting 0 (known root.old) (known root.new) workers.new.items }
     ensures ready { All (IsReady (H.Ready host.now cache.now)) workers.new.items }
     ensures parts { (accepted.new.parts + vec_len workers.new ≡ accepted.old.parts) × (left.new.parts + vec_len workers.new ≡ left.old.parts) }
     ensures nothing { (accepted.new.amount ≡ 0) × (left.new.amount ≡ 0) }

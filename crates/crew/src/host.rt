@@ -1,5 +1,5 @@
 // What workers do over a shared cache.
-ghost use Rattle.std.specs.Prelude.{◌≡◌, ℕ, List, ◌++◌, Some};
+ghost use Rattle.std.specs.Prelude.{◌≡◌, ℕ, List, [], ◌++◌, Some};
 ghost use Rattle.cache_law.specs.Beginning.{Beginning};
 ghost use Rattle.cache_law.specs.declared.call.Entry.{Entry as HistoryEntry};
 ghost use Rattle.turnstile.specs.declared.handles.Pass.{Pass};
@@ -24,17 +24,21 @@ pub trait Host<C: CacheCore, D: Dialer, K: Clock, L: Link>: Service<L, SharedCac
 
     ghost kit_of: { Self.Shift → Tools D K };
 
-    /// The places of the calls that were made for a connection.
-    ghost places: { Self.Transcript → List ℕ };
+    /// The places of the calls that were made for a connection with these events.
+    ghost places: { List Self.Event → List ℕ };
 
-    /// This is told of a connection that was served, over a history that begins so, for a caller of this number: from one kit
-    /// to another, and from what was told of the link when it was new to what is told now.
-    ghost Tells: { Self → Beginning → List HistoryEntry → ℕ → Tools D K → Tools D K → LinkTold → LinkTold → Self.Transcript → Type 0 };
+    /// A connection with these events was served, over a history that begins so, for a caller of this number: from one kit to
+    /// another, and from what was told of the link when it was new.
+    ghost Tells: { Self → Beginning → List HistoryEntry → ℕ → Tools D K → Tools D K → LinkTold → List Self.Event → Type 0 };
 
     /// What a shift needs beside a pass and a kit.
     type Outfit: Drop;
 
     fn outfit(&self, alloc: Global) -> Result<Self::Outfit, AllocError>;
+
+    /// A keeper that was told nothing.
+    fn begin_keeper(&self, alloc: Global) -> Self::Keeper
+        ensures { Self.Told result [] };
 
     /// A shift to begin with.
     fn begin_shift(&self, outfit: Self::Outfit, pass: CachePass, kit: Kit<D, K>) -> Self::Shift
@@ -50,16 +54,16 @@ pub trait Host<C: CacheCore, D: Dialer, K: Clock, L: Link>: Service<L, SharedCac
     ghost pass: { (host : Self) (cache : Cache C) (shift : Self.Shift) → Self.Ready host cache shift → IsPassOf cache (pass_of shift) };
 
     /// The pass gains the places of a connection's calls.
-    ghost calls: { (host : Self) (cache : Cache C) (old new : Self.Shift) (opening closing : LinkTold) (transcript : Self.Transcript)
-        → Self.Serves host cache old new opening closing transcript → HasCalled (known (pass_of old)) (known (pass_of new)) (places transcript) };
+    ghost calls: { (host : Self) (cache : Cache C) (old new : Self.Shift) (opening : LinkTold) (events : List Self.Event)
+        → Self.Serves host cache old new opening events → HasCalled (known (pass_of old)) (known (pass_of new)) (places events) };
 
     /// What is told then holds over the history that the pass has seen.
-    ghost tells: { (host : Self) (cache : Cache C) (old new : Self.Shift) (opening closing : LinkTold) (transcript : Self.Transcript) (beginning : Beginning)
-        → Self.Serves host cache old new opening closing transcript → (known (pass_of new)).setting ≡ Some beginning
-        → Tells host beginning (known (pass_of new)).seen (known (pass_of old)).number (kit_of old) (kit_of new) opening closing transcript };
+    ghost tells: { (host : Self) (cache : Cache C) (old new : Self.Shift) (opening : LinkTold) (events : List Self.Event) (beginning : Beginning)
+        → Self.Serves host cache old new opening events → (known (pass_of new)).setting ≡ Some beginning
+        → Tells host beginning (known (pass_of new)).seen (known (pass_of old)).number (kit_of old) (kit_of new) opening events };
 
     /// It holds over each longer history.
-    ghost longer: { (host : Self) (beginning : Beginning) (history more : List HistoryEntry) (number : ℕ) (before after : Tools D K) (opening closing : LinkTold)
-        (transcript : Self.Transcript) → Tells host beginning history number before after opening closing transcript
-        → Tells host beginning (history ++ more) number before after opening closing transcript };
+    ghost longer: { (host : Self) (beginning : Beginning) (history more : List HistoryEntry) (number : ℕ) (before after : Tools D K) (opening : LinkTold)
+        (events : List Self.Event) → Tells host beginning history number before after opening events
+        → Tells host beginning (history ++ more) number before after opening events };
 }

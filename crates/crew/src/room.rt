@@ -4,32 +4,28 @@ ghost use Rattle.std.specs.Prelude.{◌≡◌, ◌≤◌, [], IfOk, vec_len, vec
 use entrance::Quota;
 use std::alloc::{AllocError, Global};
 use std::sync::ledger::Ledger;
-use workers::Worker;
+use workers::{Post, Worker};
 
-/// Empty lists, with room for so many workers, and for what is told of so many connections.
+/// Empty lists, with room for so many workers.
 #[derive(Drop)]
-pub(crate) struct Room<H, K, T, A: Quota, B: Ledger> {
-    pub workers: Vec<Worker<H, K, T, A, B>>,
-    pub shifts: Vec<H>,
-    pub transcripts: Vec<T>,
+pub(crate) struct Room<H, N, A: Quota, B: Ledger> {
+    pub workers: Vec<Worker<H, N, A, B>>,
+    pub posts: Vec<Post<H, N>>,
+    pub keepers: Vec<N>,
 }
 
-impl<H: Drop, K: Drop, T: Drop, A: Quota, B: Ledger> Room<H, K, T, A, B> {
-    pub fn new(
-        alloc: Global,
-        workers: usize,
-        connections: usize,
-    ) -> Result<Room<H, K, T, A, B>, AllocError>
-        ensures none { IfOk result (λ room. (room.workers.items ≡ []) × (room.shifts.items ≡ []) × (room.transcripts.items ≡ [])) }
-        ensures lengths { IfOk result (λ room. (vec_len room.workers ≡ 0) × (vec_len room.shifts ≡ 0) × (vec_len room.transcripts ≡ 0)) }
-        ensures room { IfOk result (λ room. (workers ≤ vec_capacity room.workers) × (workers ≤ vec_capacity room.shifts) × (connections ≤ vec_capacity room.transcripts)) }
+impl<H: Drop, N: Drop, A: Quota, B: Ledger> Room<H, N, A, B> {
+    pub fn new(alloc: Global, workers: usize) -> Result<Room<H, N, A, B>, AllocError>
+        ensures none { IfOk result (λ room. (room.workers.items ≡ []) × (room.posts.items ≡ []) × (room.keepers.items ≡ [])) }
+        ensures lengths { IfOk result (λ room. (vec_len room.workers ≡ 0) × (vec_len room.posts ≡ 0) × (vec_len room.keepers ≡ 0)) }
+        ensures room { IfOk result (λ room. (workers ≤ vec_capacity room.workers) × (workers ≤ vec_capacity room.posts) × (workers ≤ vec_capacity room.keepers)) }
     {
-        let shifts = Vec::with_capacity(alloc, workers)?;
-        let transcripts = Vec::with_capacity(alloc, connections)?;
+        let posts = Vec::with_capacity(alloc, workers)?;
+        let keepers = Vec::with_capacity(alloc, workers)?;
         Ok(Room {
             workers: Vec::with_capacity(alloc, workers)?,
-            shifts,
-            transcripts,
+            posts,
+            keepers,
         })
     }
 }

@@ -8,7 +8,6 @@ ghost use Rattle.turnstile.specs.Knowledge.{Meets, opened};
 ghost use Rattle.shared_cache.specs.Passes.{IsPassOf};
 ghost use Rattle.shared_cache.specs.Sharing.{IsKeptWhole, caller_of};
 ghost use Rattle.wire.specs.Calls.{joined_count};
-ghost use Rattle.wire.specs.Telling.{told_by};
 ghost use Rattle.crew.specs.Opening.{CanBegin, IsFirst};
 ghost use Rattle.crew.specs.Hiring.{IsUnused};
 ghost use Rattle.crew.specs.Leaving.{HaveWorked};
@@ -31,12 +30,13 @@ use units::Sequence;
 use workers::{Joined, Worker, disband};
 use world::World;
 
-/// What a run of workers comes to: the history of the cache, what is told of the connections that were served, and why no more were
-/// accepted.
+/// What a run of workers comes to: the history of the cache, the workers' keepers, how many connections were served, and why no more
+/// were accepted.
 #[derive(Drop)]
-pub struct Outcome<T> {
+pub struct Outcome<N> {
     pub history: Sequence<Entry>,
-    pub transcripts: Vec<T>,
+    pub keepers: Vec<N>,
+    pub connections: u64,
     pub reason: Reason,
 }
 
@@ -59,7 +59,7 @@ fn employ<
     count: u32,
     accepted: &mut Share<A>,
     left: &mut Share<B>,
-    workers: &mut Vec<Worker<H::Shift, LinkOf<W>, H::Transcript, A, B>>,
+    workers: &mut Vec<Worker<H::Shift, H::Keeper, A, B>>,
 )
 where
     W::Listener: Send,
@@ -71,7 +71,7 @@ where
     requires room { count ≤ vec_capacity workers.old }
     ensures pass { IsPassOf cache.now root.new }
     ensures have_worked { HaveWorked (IsPassOf cache.now) (IsUnused W.Dialer.talks W.Dialer.dial_faults W.Dialer.read_faults W.Dialer.write_faults W.Clock.readings W.Clock.words)
-        H.pass_of H.kit_of (H.Ready host.now cache.now) (H.Serves host.now cache.now) (told_by W.Listener.Link.flow W.Listener.Link.read_faults W.Listener.Link.write_faults W.Listener.Link.peer W.Listener.Link.is_open) (known root.new) workers.new.items }
+        H.pass_of H.kit_of H.Told (H.Ready host.now cache.now) (H.Serves host.now cache.now) (known root.new) workers.new.items }
     ensures setting { (known root.new).setting ≡ (known root.old).setting }
     ensures parts { accepted.new.parts + vec_len workers.new ≡ accepted.old.parts }
     ensures nothing { accepted.new.amount ≡ 0 }
@@ -93,7 +93,8 @@ where
     work_all::<R, C, W, H, A, B>(rt, host, cache, door, workers);
 }
 
-// Workers who have left are taken down, and their passes are joined again. What they leave goes into empty lists.
+// Workers who have left are taken down, and their passes are joined again: their keepers, how many connections they served, and why
+// no more were accepted. What they leave goes into empty lists.
 fn take_down<
     C: CacheCore,
     W: World,
@@ -106,68 +107,68 @@ fn take_down<
     cache: &SharedCache<C>,
     root: &mut CachePass,
     door: Door<W::Listener, A, B>,
-    workers: Vec<Worker<H::Shift, LinkOf<W>, H::Transcript, A, B>>,
-    joined: Joined<H::Shift, H::Transcript, A, B>,
-) -> (Vec<H::Transcript>, Reason)
+    workers: Vec<Worker<H::Shift, H::Keeper, A, B>>,
+    joined: Joined<H::Shift, H::Keeper, A, B>,
+    keepers: &mut Vec<H::Keeper>,
+) -> (u64, Reason)
     requires pass { IsPassOf cache.now root.old }
     requires have_worked { HaveWorked (IsPassOf cache.now) (IsUnused W.Dialer.talks W.Dialer.dial_faults W.Dialer.read_faults W.Dialer.write_faults W.Clock.readings W.Clock.words)
-        H.pass_of H.kit_of (H.Ready host.now cache.now) (H.Serves host.now cache.now) (told_by W.Listener.Link.flow W.Listener.Link.read_faults W.Listener.Link.write_faults W.Listener.Link.peer W.Listener.Link.is_open) (known root.old) workers.items }
-    requires none { (joined.shifts.items ≡ []) × (joined.transcripts.items ≡ []) }
-    requires empty { (vec_len joined.shifts ≡ 0) × (vec_len joined.transcripts ≡ 0) × (joined.accepted.amount ≡ 0) }
+        H.pass_of H.kit_of H.Told (H.Ready host.now cache.now) (H.Serves host.now cache.now) (known root.old) workers.items }
+    requires none { (joined.posts.items ≡ []) × (keepers.old.items ≡ []) }
+    requires empty { (vec_len joined.posts ≡ 0) × (vec_len keepers.old ≡ 0) × (joined.accepted.amount ≡ 0) }
     requires parts { joined.accepted.parts + vec_len workers ≡ A.parts }
     requires count { length workers.items ≡ vec_len workers }
-    requires room { (A.most ≤ vec_capacity joined.transcripts) × (vec_len workers ≤ vec_capacity joined.shifts) }
+    requires room { (vec_len workers ≤ vec_capacity joined.posts) × (vec_len workers ≤ vec_capacity keepers.old) }
     ensures pass { IsPassOf cache.now root.new }
     ensures setting { (known root.new).setting ≡ (known root.old).setting }
     ensures ran { (beginning : Beginning) (history : List HistoryEntry) → (known root.new).setting ≡ Some beginning → Meets caller_of (known root.new) history → Legal beginning history
         → Ran (IsUnused W.Dialer.talks W.Dialer.dial_faults W.Dialer.read_faults W.Dialer.write_faults W.Clock.readings W.Clock.words)
-        H.places (H.Tells host.now) (told_by W.Listener.Link.flow W.Listener.Link.read_faults W.Listener.Link.write_faults W.Listener.Link.peer W.Listener.Link.is_open) beginning
-        history (record { links = W.links world.old; kept = W.kept world.old; kits = W.kits world.old })
-        (record { links = W.links world.new; kept = W.kept world.new; kits = W.kits world.new }) result.0.items }
-    ensures within { vec_len result.0 ≤ A.most }
-    ensures given { W.given world.new ≡ joined_count (W.given world.old) (vec_len result.0) }
-    ensures stopped { Stopped result.1 A.most (vec_len result.0) (W.ended world.new) (W.listen_faults world.old) (W.listen_faults world.new) }
+        H.Told H.places (H.Tells host.now) beginning history (W.kits world.old) (W.kits world.new) keepers.new.items result.0 }
+    ensures within { result.0 ≤ A.most }
+    ensures given { W.given world.new ≡ joined_count (W.given world.old) result.0 }
+    ensures stopped { Stopped result.1 A.most result.0 (W.ended world.new) (W.listen_faults world.old) (W.listen_faults world.new) }
+    ensures links { W.links world.new ≡ W.links world.old }
+    ensures kept { W.kept world.new ≡ W.kept world.old }
     ensures ports { W.ports world.new ≡ W.ports world.old }
     ensures files { W.files world.new ≡ W.files world.old }
     ensures shelves { W.shelf_faults world.new ≡ W.shelf_faults world.old }
 {
     let Remains {
         listener,
+        count,
         accepted,
         left: _,
         reason,
     } = door.close();
     let mut joined = joined;
-    disband(world, &accepted, workers, &mut joined);
+    disband(workers, &mut joined);
     accepted.audit(&mut joined.accepted);
     let Joined {
-        shifts,
-        transcripts,
+        posts,
         accepted: _,
         left: _,
     } = joined;
-    rejoin(world, host, cache, root, shifts);
+    rejoin(world, host, cache, root, posts, keepers);
     world.retire(listener);
-    (transcripts, reason.unwrap_or(Reason::NoMemory))
+    (count, reason.unwrap_or(Reason::NoMemory))
 }
 
 // A new cache with its first pass, and room for what a run of workers leaves.
-fn open_all<C: CacheCore + Drop, S: Drop, L: Drop, T: Drop, A: Quota, B: Ledger>(
+fn open_all<C: CacheCore + Drop, S: Drop, N: Drop, A: Quota, B: Ledger>(
     alloc: Global,
     core: C,
     workers: usize,
-    connections: usize,
-) -> Option<(SharedCache<C>, CachePass, Room<S, L, T, A, B>)>
+) -> Option<(SharedCache<C>, CachePass, Room<S, N, A, B>)>
     requires empty { C.history core ≡ [] }
     requires whole { IsKeptWhole (C.beginning core) [] }
     requires first { (C.beginning core).base.entries ≡ 0 }
     ensures pass { IfSome result (λ all. IsPassOf all.0 all.1) }
     ensures first { IfSome result (λ all. known all.1 ≡ opened 0 (C.beginning core)) }
-    ensures none { IfSome result (λ all. (all.2.workers.items ≡ []) × (all.2.shifts.items ≡ []) × (all.2.transcripts.items ≡ [])) }
-    ensures lengths { IfSome result (λ all. (vec_len all.2.workers ≡ 0) × (vec_len all.2.shifts ≡ 0) × (vec_len all.2.transcripts ≡ 0)) }
-    ensures room { IfSome result (λ all. (workers ≤ vec_capacity all.2.workers) × (workers ≤ vec_capacity all.2.shifts) × (connections ≤ vec_capacity all.2.transcripts)) }
+    ensures none { IfSome result (λ all. (all.2.workers.items ≡ []) × (all.2.posts.items ≡ []) × (all.2.keepers.items ≡ [])) }
+    ensures lengths { IfSome result (λ all. (vec_len all.2.workers ≡ 0) × (vec_len all.2.posts ≡ 0) × (vec_len all.2.keepers ≡ 0)) }
+    ensures room { IfSome result (λ all. (workers ≤ vec_capacity all.2.workers) × (workers ≤ vec_capacity all.2.posts) × (workers ≤ vec_capacity all.2.keepers)) }
 {
-    let Ok(room) = Room::new(alloc, workers, connections) else {
+    let Ok(room) = Room::new(alloc, workers) else {
         return None;
     };
     let Ok((cache, root)) = SharedCache::open(alloc, core, 0, 0) else {
@@ -196,32 +197,33 @@ fn run_all<
     count: u32,
     accepted: Share<A>,
     left: Share<B>,
-    room: Room<H::Shift, LinkOf<W>, H::Transcript, A, B>,
-) -> Outcome<H::Transcript>
+    room: Room<H::Shift, H::Keeper, A, B>,
+) -> Outcome<H::Keeper>
 where
     W::Listener: Send,
     requires pass { IsPassOf cache root }
     requires first { IsFirst (known root) }
     requires parts { (accepted.parts ≡ A.parts) × (accepted.parts ≡ count) × (left.parts ≡ count) }
     requires nothing { (accepted.amount ≡ 0) × (left.amount ≡ 0) }
-    requires none { (room.workers.items ≡ []) × (room.shifts.items ≡ []) × (room.transcripts.items ≡ []) }
-    requires lengths { (vec_len room.workers ≡ 0) × (vec_len room.shifts ≡ 0) × (vec_len room.transcripts ≡ 0) }
-    requires room { (count ≤ vec_capacity room.workers) × (count ≤ vec_capacity room.shifts) × (A.most ≤ vec_capacity room.transcripts) }
+    requires none { (room.workers.items ≡ []) × (room.posts.items ≡ []) × (room.keepers.items ≡ []) }
+    requires lengths { (vec_len room.workers ≡ 0) × (vec_len room.posts ≡ 0) × (vec_len room.keepers ≡ 0) }
+    requires room { (count ≤ vec_capacity room.workers) × (count ≤ vec_capacity room.posts) × (count ≤ vec_capacity room.keepers) }
     ensures ran { (beginning : Beginning) → (known root).setting ≡ Some beginning → Ran (IsUnused W.Dialer.talks W.Dialer.dial_faults W.Dialer.read_faults W.Dialer.write_faults W.Clock.readings W.Clock.words)
-        H.places (H.Tells host.now) (told_by W.Listener.Link.flow W.Listener.Link.read_faults W.Listener.Link.write_faults W.Listener.Link.peer W.Listener.Link.is_open) beginning
-        result.history (record { links = W.links world.old; kept = W.kept world.old; kits = W.kits world.old })
-        (record { links = W.links world.new; kept = W.kept world.new; kits = W.kits world.new }) result.transcripts.items }
-    ensures within { vec_len result.transcripts ≤ A.most }
-    ensures given { W.given world.new ≡ joined_count (W.given world.old) (vec_len result.transcripts) }
-    ensures stopped { Stopped result.reason A.most (vec_len result.transcripts) (W.ended world.new) (W.listen_faults world.old) (W.listen_faults world.new) }
+        H.Told H.places (H.Tells host.now) beginning
+        result.history (W.kits world.old) (W.kits world.new) result.keepers.items result.connections }
+    ensures within { result.connections ≤ A.most }
+    ensures given { W.given world.new ≡ joined_count (W.given world.old) result.connections }
+    ensures stopped { Stopped result.reason A.most result.connections (W.ended world.new) (W.listen_faults world.old) (W.listen_faults world.new) }
+    ensures links { W.links world.new ≡ W.links world.old }
+    ensures kept { W.kept world.new ≡ W.kept world.old }
     ensures ports { W.ports world.new ≡ W.ports world.old }
     ensures files { W.files world.new ≡ W.files world.old }
     ensures shelves { W.shelf_faults world.new ≡ W.shelf_faults world.old }
 {
     let Room {
         mut workers,
-        shifts,
-        transcripts,
+        posts,
+        mut keepers,
     } = room;
     let (mut root, mut accepted, mut left) = (root, accepted, left);
     employ(
@@ -238,16 +240,25 @@ where
         &mut workers,
     );
     let joined = Joined {
-        shifts,
-        transcripts,
+        posts,
         accepted,
         left,
     };
-    let (transcripts, reason) = take_down(world, host, &cache, &mut root, door, workers, joined);
+    let (connections, reason) = take_down(
+        world,
+        host,
+        &cache,
+        &mut root,
+        door,
+        workers,
+        joined,
+        &mut keepers,
+    );
     let (history, _) = cache.close(rt, root);
     Outcome {
         history,
-        transcripts,
+        keepers,
+        connections,
         reason,
     }
 }
@@ -293,7 +304,7 @@ fn serve_counted<
     most: u64,
     accepted: Blank,
     left: Blank,
-) -> Option<Outcome<H::Transcript>>
+) -> Option<Outcome<H::Keeper>>
 where
     W::Listener: Send,
     requires empty { C.history core ≡ [] }
@@ -303,19 +314,20 @@ where
     requires accepted { (accepted.name ≡ A.name) × (accepted.parts ≡ A.parts) × (accepted.parts ≡ workers) }
     requires left { (left.name ≡ B.name) × (left.parts ≡ B.parts) × (left.parts ≡ workers) }
     ensures ran { IfSome result (λ o. Ran (IsUnused W.Dialer.talks W.Dialer.dial_faults W.Dialer.read_faults W.Dialer.write_faults W.Clock.readings W.Clock.words)
-        H.places (H.Tells host.now) (told_by W.Listener.Link.flow W.Listener.Link.read_faults W.Listener.Link.write_faults W.Listener.Link.peer W.Listener.Link.is_open) (C.beginning core)
-        o.history (record { links = W.links world.old; kept = W.kept world.old; kits = W.kits world.old })
-        (record { links = W.links world.new; kept = W.kept world.new; kits = W.kits world.new }) o.transcripts.items) }
-    ensures within { IfSome result (λ o. vec_len o.transcripts ≤ most) }
-    ensures given { IfSome result (λ o. W.given world.new ≡ joined_count (W.given world.old) (vec_len o.transcripts)) }
-    ensures stopped { IfSome result (λ o. Stopped o.reason most (vec_len o.transcripts) (W.ended world.new) (W.listen_faults world.old) (W.listen_faults world.new)) }
-    ensures nobody { IfNone result ((W.links world.new ≡ W.links world.old) × (W.kept world.new ≡ W.kept world.old) × (W.kits world.new ≡ W.kits world.old) × (W.given world.new ≡ W.given world.old)) }
+        H.Told H.places (H.Tells host.now) (C.beginning core)
+        o.history (W.kits world.old) (W.kits world.new) o.keepers.items o.connections) }
+    ensures within { IfSome result (λ o. o.connections ≤ most) }
+    ensures given { IfSome result (λ o. W.given world.new ≡ joined_count (W.given world.old) o.connections) }
+    ensures stopped { IfSome result (λ o. Stopped o.reason most o.connections (W.ended world.new) (W.listen_faults world.old) (W.listen_faults world.new)) }
+    ensures nobody { IfNone result ((W.kits world.new ≡ W.kits world.old) × (W.given world.new ≡ W.given world.old)) }
+    ensures links { W.links world.new ≡ W.links world.old }
+    ensures kept { W.kept world.new ≡ W.kept world.old }
     ensures ports { W.ports world.new ≡ W.ports world.old }
     ensures files { W.files world.new ≡ W.files world.old }
     ensures shelves { W.shelf_faults world.new ≡ W.shelf_faults world.old }
 {
     let (door, accepted, left) = Door::<W::Listener, A, B>::open(listener, most, accepted, left);
-    let Some(all) = open_all(alloc, core, workers as usize, most as usize) else {
+    let Some(all) = open_all(alloc, core, workers as usize) else {
         drop(left);
         turn_away(world, door, accepted);
         return None;
@@ -343,20 +355,21 @@ pub fn serve_all<
     listener: W::Listener,
     workers: u32,
     most: u64,
-) -> Option<Outcome<H::Transcript>>
+) -> Option<Outcome<H::Keeper>>
 where
     W::Listener: Send,
     requires empty { C.history core ≡ [] }
     requires can_begin { CanBegin (C.beginning core) }
     requires unused { W.Listener.given listener ≡ 0 }
     ensures ran { IfSome result (λ o. Ran (IsUnused W.Dialer.talks W.Dialer.dial_faults W.Dialer.read_faults W.Dialer.write_faults W.Clock.readings W.Clock.words)
-        H.places (H.Tells host.now) (told_by W.Listener.Link.flow W.Listener.Link.read_faults W.Listener.Link.write_faults W.Listener.Link.peer W.Listener.Link.is_open) (C.beginning core)
-        o.history (record { links = W.links world.old; kept = W.kept world.old; kits = W.kits world.old })
-        (record { links = W.links world.new; kept = W.kept world.new; kits = W.kits world.new }) o.transcripts.items) }
-    ensures within { IfSome result (λ o. vec_len o.transcripts ≤ most) }
-    ensures given { IfSome result (λ o. W.given world.new ≡ joined_count (W.given world.old) (vec_len o.transcripts)) }
-    ensures stopped { IfSome result (λ o. Stopped o.reason most (vec_len o.transcripts) (W.ended world.new) (W.listen_faults world.old) (W.listen_faults world.new)) }
-    ensures nobody { IfNone result ((W.links world.new ≡ W.links world.old) × (W.kept world.new ≡ W.kept world.old) × (W.kits world.new ≡ W.kits world.old) × (W.given world.new ≡ W.given world.old)) }
+        H.Told H.places (H.Tells host.now) (C.beginning core)
+        o.history (W.kits world.old) (W.kits world.new) o.keepers.items o.connections) }
+    ensures within { IfSome result (λ o. o.connections ≤ most) }
+    ensures given { IfSome result (λ o. W.given world.new ≡ joined_count (W.given world.old) o.connections) }
+    ensures stopped { IfSome result (λ o. Stopped o.reason most o.connections (W.ended world.new) (W.listen_faults world.old) (W.listen_faults world.new)) }
+    ensures nobody { IfNone result ((W.kits world.new ≡ W.kits world.old) × (W.given world.new ≡ W.given world.old)) }
+    ensures links { W.links world.new ≡ W.links world.old }
+    ensures kept { W.kept world.new ≡ W.kept world.old }
     ensures ports { W.ports world.new ≡ W.ports world.old }
     ensures files { W.files world.new ≡ W.files world.old }
     ensures shelves { W.shelf_faults world.new ≡ W.shelf_faults world.old }

@@ -1,7 +1,6 @@
 // Workers who work until each has left.
 ghost use Rattle.std.specs.Prelude.{◌≡◌, All, length, vec_len};
 ghost use Rattle.std.specs.List.{AllZip};
-ghost use Rattle.wire.specs.Telling.{told_by};
 ghost use Rattle.workers.specs.Working.{IsReady, HasWorked};
 
 use crate::hiring::LinkOf;
@@ -28,12 +27,12 @@ fn work_together<
     service: &S,
     cache: &SharedCache<C>,
     door: &Door<W::Listener, A, B>,
-    workers: &mut Vec<Worker<S::Shift, LinkOf<W>, S::Transcript, A, B>>,
+    workers: &mut Vec<Worker<S::Shift, S::Keeper, A, B>>,
 )
 where
     W::Listener: Send,
     requires { All (IsReady (S.Ready service.now cache.now)) workers.old.items }
-    ensures worked { AllZip (HasWorked (S.Ready service.now cache.now) (S.Serves service.now cache.now) (told_by W.Listener.Link.flow W.Listener.Link.read_faults W.Listener.Link.write_faults W.Listener.Link.peer W.Listener.Link.is_open)) workers.old.items workers.new.items }
+    ensures worked { AllZip (HasWorked (S.Ready service.now cache.now) (S.Serves service.now cache.now) S.Told) workers.old.items workers.new.items }
     ensures count { (vec_len workers.new ≡ vec_len workers.old) × (length workers.new.items ≡ vec_len workers.old) }
 {
     work(rt, service, cache, door, workers.as_mut_slice());
@@ -52,12 +51,12 @@ pub(crate) fn work_all<
     host: &H,
     cache: &SharedCache<C>,
     door: &Door<W::Listener, A, B>,
-    workers: &mut Vec<Worker<H::Shift, LinkOf<W>, H::Transcript, A, B>>,
+    workers: &mut Vec<Worker<H::Shift, H::Keeper, A, B>>,
 )
 where
     W::Listener: Send,
     requires ready { All (IsReady (H.Ready host.now cache.now)) workers.old.items }
-    ensures worked { AllZip (HasWorked (H.Ready host.now cache.now) (H.Serves host.now cache.now) (told_by W.Listener.Link.flow W.Listener.Link.read_faults W.Listener.Link.write_faults W.Listener.Link.peer W.Listener.Link.is_open)) workers.old.items workers.new.items }
+    ensures worked { AllZip (HasWorked (H.Ready host.now cache.now) (H.Serves host.now cache.now) H.Told) workers.old.items workers.new.items }
     ensures count { (vec_len workers.new ≡ vec_len workers.old) × (length workers.new.items ≡ vec_len workers.old) }
 {
     work_together::<R, C, W, H, A, B>(rt, host, cache, door, workers);

@@ -110,13 +110,14 @@ impl<L: Listener, A: Quota, B: Ledger> Accepting<L, A, B> {
         ensures parts { (result.accepted.parts ≡ A.parts) × (result.left.parts ≡ B.parts) }
         ensures within { result.accepted.amount ≤ A.most }
         ensures given { L.given result.listener ≡ result.accepted.amount }
+        ensures count { result.count ≡ result.accepted.amount }
         ensures why { Why result.reason A.most result.accepted.amount result.left.amount (L.faults result.listener) (L.ended result.listener) }
     {
         let reason = self.reason();
         let Accepting {
             listener,
             most: _,
-            count: _,
+            count,
             ended: _,
             failed: _,
             wanting: _,
@@ -125,6 +126,7 @@ impl<L: Listener, A: Quota, B: Ledger> Accepting<L, A, B> {
         } = self;
         Remains {
             listener,
+            count,
             accepted: accepted.close(),
             left: left.close(),
             reason,

@@ -76,6 +76,7 @@ impl<L: Listener, A: Quota, B: Ledger> Door<L, A, B> {
         ensures parts { (result.accepted.parts ≡ A.parts) × (result.left.parts ≡ B.parts) }
         ensures within { result.accepted.amount ≤ A.most }
         ensures given { L.given result.listener ≡ result.accepted.amount }
+        ensures count { result.count ≡ result.accepted.amount }
         ensures why { Why result.reason A.most result.accepted.amount result.left.amount (L.faults result.listener) (L.ended result.listener) }
     {
         let Door { entrance } = self;

@@ -8,11 +8,9 @@
 
 mod accepting;
 mod door;
-mod handing_back;
 mod quota;
 mod remains;
 
 pub use door::Door;
-pub use handing_back::hand_back;
 pub use quota::Quota;
 pub use remains::{Reason, Remains};

@@ -16,11 +16,12 @@ pub enum Reason {
     NoMemory,
 }
 
-/// The listener, and the closed books of the accepted connections and of the workers that found the door shut. Without a
-/// reason the door was open to the last.
+/// The listener, how many connections were accepted, and the closed books of these and of the workers that found the door shut.
+/// Without a reason the door was open to the last.
 #[derive(Drop)]
 pub struct Remains<L: Listener, A: Quota, B: Ledger> {
     pub listener: L,
+    pub count: u64,
     pub accepted: Total<A>,
     pub left: Total<B>,
     pub reason: Option<Reason>,

@@ -1,9 +1,13 @@
 // A service that writes the number of each connection on it.
+ghost use Rattle.std.specs.Prelude.{◌≡◌, ◌<◌, vec_len, vec_capacity};
+
+use std::alloc::AllocError;
 use std::sync::Wait;
 use wire::Link;
-use workers::Service;
+use workers::{Post, Service};
 
-/// Writes a connection's number, the last part of its address, on it; a shift counts its connections.
+/// Writes a connection's number, the last part of its address, on it; a shift counts its connections, and a keeper keeps what is told
+/// of them.
 #[derive(Drop)]
 pub struct Numbering;
 
@@ -14,29 +18,52 @@ pub struct Told {
     pub before: u64,
 }
 
-impl<L: Link> Service<L, ()> for Numbering {
+/// A connection that was served: its link, and what is told of it.
+#[derive(Drop)]
+pub struct Numbered<L> {
+    pub link: L,
+    pub told: Told,
+}
+
+impl<L: Link + Send> Service<L, ()> for Numbering {
     type Shift = u64;
 
-    type Transcript = Told;
+    type Keeper = Vec<Numbered<L>>;
+
+    type Event = Numbered<L>;
 
     ghost Ready = { λ _ _ _. Unit {0} };
 
-    ghost Serves = { λ _ _ _ _ _ _ _. Unit {0} };
+    ghost HasRoom = { λ kept. vec_len kept < vec_capacity kept };
+
+    ghost Told = { λ kept events. kept.items ≡ events };
+
+    ghost Serves = { λ _ _ _ _ _ _. Unit {0} };
+
+    fn make_room(&self, kept: &mut Vec<Numbered<L>>) -> Result<(), AllocError> {
+        kept.reserve(1)
+    }
 
     fn serve<R: Wait>(
         &self,
         _rt: &R,
         _site: &(),
-        shift: u64,
-        link: &mut L,
+        post: Post<u64, Vec<Numbered<L>>>,
+        link: L,
         address: [u8; 4],
-    ) -> (u64, Told) {
-        let number = address[3];
+    ) -> Post<u64, Vec<Numbered<L>>> {
+        let Post { shift, mut keeper } = post;
+        let (mut link, number) = (link, address[3]);
         let _ = link.write(&[number]);
+        link.shut();
         let told = Told {
             number,
             before: shift,
         };
-        (shift.saturating_add(1), told)
+        keeper.push_reserved(Numbered { link, told });
+        Post {
+            shift: shift.saturating_add(1),
+            keeper,
+        }
     }
 }

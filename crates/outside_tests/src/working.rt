@@ -3,23 +3,15 @@
 ghost use Rattle.std.specs.Prelude.{◌≡◌, ◌<◌};
 
 use crate::listeners::listener_of;
-use crate::numbering::{Numbering, Told};
+use crate::numbering::{Numbered, Numbering};
 use entrance::{Door, Quota};
 use row_settings::number;
 use std::alloc::{AllocError, Global};
 use std::marker::Brand;
 use std::sync::Wait;
 use std::sync::ledger::{Blank, Ledger};
-use workers::{Leave, Worker, serve_worker};
+use workers::{Leave, Post, Worker, serve_worker};
 use world::{AcceptedLink, FailingListener};
-
-fn took_by(alloc: Global, links: &[AcceptedLink]) -> Result<Vec<Vec<u8>>, AllocError> {
-    let mut took = Vec::new(alloc);
-    for link in links {
-        took.push(link.took().to_vec(alloc)?)?;
-    }
-    Ok(took)
-}
 
 fn serve<R: Wait, A: Quota, B: Ledger>(
     rt: &R,
@@ -38,30 +30,34 @@ fn serve<R: Wait, A: Quota, B: Ledger>(
     let (door, accepted, left) = Door::<FailingListener, A, B>::open(
         listener, most, accepted, left,
     );
+    let post = Post {
+        shift: 0u64,
+        keeper: Vec::<Numbered<AcceptedLink>>::new(alloc),
+    };
     let mut worker = Worker {
-        shift: Some(0u64),
-        links: Vec::new(alloc),
-        transcripts: Vec::new(alloc),
+        post: Some(post),
         accepted,
         left,
         leave: None,
     };
     let leave = serve_worker(rt, &Numbering, &(), &door, &mut worker);
-    served_shown(
-        alloc,
-        &leave,
-        worker.transcripts.as_slice(),
-        worker.links.as_slice(),
-    )
+    match &worker.post {
+        Some(post) => served_shown(alloc, &leave, post.keeper.as_slice()),
+        None => format!(in alloc; "no post"),
+    }
 }
 
 fn served_shown(
     alloc: Global,
     leave: &Result<Leave, AllocError>,
-    told: &[Told],
-    links: &[AcceptedLink],
+    kept: &[Numbered<AcceptedLink>],
 ) -> Result<String, AllocError> {
-    let took = took_by(alloc, links)?;
+    let mut told = Vec::new(alloc);
+    let mut took = Vec::new(alloc);
+    for one in kept {
+        told.push(&one.told)?;
+        took.push(one.link.took().to_vec(alloc)?)?;
+    }
     format!(in alloc; "{leave:?} {told:?} {took:?}")
 }
 

@@ -2,15 +2,13 @@
 use Rattle.std.proofs.Common.{◌≡◌, ◌⊎◌, inl, inr, refl, ℕ, List, [], ◌++◌, Option, Some, None}
 use Rattle.wire.specs.Causes.{Rose}
 use Rattle.wire.specs.Flow.{Flow, Moves}
-use Rattle.wire.specs.Telling.{LinkTold}
 use Rattle.connection.specs.Requests.{BeginsRequests}
 use Rattle.connection.specs.Serving.{Round as Turn, requests_of, sent_of, AllKept, EndsBehind, Stops}
 use Rattle.connection.specs.declared.ended.Ended.{Ended}
 use Rattle.connection.specs.declared.ended.Ended.TheVariants as ending
 use Rattle.connection.proofs.AnswerFacts.{answers_all}
-use Rattle.vcl_runs.specs.Languages.{Language}
-use Rattle.server.specs.Transcripts.{Stand, IsServed}
-use Rattle.server.specs.Complete.{IsUnhindered, AllAnswered, IsComplete}
+use Rattle.server.specs.Transcripts.{Heard}
+use Rattle.server.specs.Complete.{IsUnhindered, AllAnswered}
 
 -- it ended in order
 orderly : (reads reads' writes writes' : ℕ) (ended : Ended) → IsUnhindered reads reads' writes writes' ended → (ended ≡ ending.ReadFault → Rose reads reads')
@@ -29,12 +27,8 @@ all_by None after read turns rest extra left ended moves requests ends order = t
 all_by (Some before) None read turns rest extra left ended moves requests ends order = absurd moves
 all_by (Some before) (Some after) read turns rest extra left ended moves requests ends order = answers_all before after [] read turns rest extra left ended moves requests ends order
 
-module _ {P L : Type 0} (language : Language P) (heard : L → LinkTold) (peer : List ℕ) (x y : Stand L) (before after : Option Flow) (ended : Ended)
-    (served : IsServed language heard peer x y before after ended) (reads reads' writes writes' : ℕ) (read : ended ≡ ending.ReadFault → Rose reads reads')
-    (wrote : ended ≡ ending.WriteFault → Rose writes writes') where
-  pub all_answered : IsUnhindered reads reads' writes writes' ended → AllAnswered before served.turns
-  all_answered free =
-      all_by before after served.read served.turns served.rest served.extra served.left ended served.moves served.requests served.ends (orderly reads reads' writes writes' ended free read wrote)
-
-  pub is_complete : IsUnhindered reads reads' writes writes' ended → IsComplete language heard peer x y before
-  is_complete free = record { turns = served.turns; led = served.led; all = all_answered free }
+-- each request has its answer where nothing hindered the connection
+pub all_answered : (turns : List Turn) (before after : Option Flow) (ended : Ended) → Heard turns before after ended → (reads reads' writes writes' : ℕ)
+    → (ended ≡ ending.ReadFault → Rose reads reads') → (ended ≡ ending.WriteFault → Rose writes writes') → IsUnhindered reads reads' writes writes' ended → AllAnswered before turns
+all_answered turns before after ended heard reads reads' writes writes' read wrote free =
+    all_by before after heard.read turns heard.rest heard.extra heard.left ended heard.moves heard.requests heard.ends (orderly reads reads' writes writes' ended free read wrote)

@@ -1,5 +1,5 @@
 -- When each request of a connection was answered (RFC 9112, section 9.3).
-use Rattle.std.specs.Prelude.{◌≢◌, ℕ, List, Option, Some, None}
+use Rattle.std.specs.Prelude.{◌≡◌, ◌≢◌, ◌≤◌, ℕ, List, Option, Some, None}
 use Rattle.wire.specs.Causes.{Rose}
 use Rattle.wire.specs.Flow.{Flow}
 use Rattle.wire.specs.Telling.{LinkTold}
@@ -7,8 +7,7 @@ use Rattle.connection.specs.Complete.{AnswersAll}
 use Rattle.connection.specs.Serving.{Round as Turn}
 use Rattle.connection.specs.declared.ended.Ended.{Ended}
 use Rattle.connection.specs.declared.ended.Ended.TheVariants.{HistoryFull, NoMemory}
-use Rattle.vcl_runs.specs.Languages.{Language}
-use Rattle.server.specs.Transcripts.{Stand, LeadsAll}
+use Rattle.connection.specs.declared.ended.Ended.TheVariants as ending
 
 -- neither a read nor a write of the link failed, the link took what it was given, and neither the history nor want of memory
 -- ended the connection
@@ -23,8 +22,9 @@ abbrev pub AllAnswered : Option Flow → List Turn → Type 0
 AllAnswered None turns = Unit {0}
 AllAnswered (Some flow) turns = AnswersAll flow.left turns
 
--- a round was led for each request that the link had left, and was whole
-pub record IsComplete {P L : Type 0} (language : Language P) (heard : L → LinkTold) (peer : List ℕ) (x y : Stand L) (before : Option Flow) : Type 0 where
-  pub turns : List Turn
-  pub led : LeadsAll language heard peer x y turns
-  pub all : AllAnswered before turns
+-- A fault of the link comes only where its count rose.
+pub record Faults (opening closing : LinkTold) (ended : Ended) : Type 0 where
+  pub reads : ended ≡ ending.ReadFault → Rose opening.read_faults closing.read_faults
+  pub writes : ended ≡ ending.WriteFault → Rose opening.write_faults closing.write_faults
+  pub later_reads : opening.read_faults ≤ closing.read_faults
+  pub later_writes : opening.write_faults ≤ closing.write_faults

@@ -1,3 +1,4 @@
+pub mod Keeping
 pub mod Transcripts
-pub mod Complete
 pub mod Serving
+pub mod Complete

@@ -1,4 +1,4 @@
--- What is told of a connection.
+-- What a caller did that led rounds for the requests of a connection.
 use Rattle.std.specs.Prelude.{◌≡◌, ◌⊎◌, ℕ, List, [], ◌∷◌, ◌++◌, Option, Some}
 use Rattle.std.specs.List.{flat_map}
 use Rattle.wire.specs.Flow.{Flow, Moves}
@@ -37,27 +37,22 @@ module _ {P L : Type 0} (language : Language P) (words : Option ℕ → Type 0) 
       × AreResponses beginning history caller peer rounds turns rest
   AreResponses beginning history caller peer rounds turns talks = ⊥
 
--- what a caller has when it leads rounds: what its pass knows, what its clock and its dialer tell, and what it has kept of its rounds
+-- what a caller has when it leads rounds: what its pass knows, and what its clock and its dialer tell
 pub record Stand (L : Type 0) : Type 0 where
   pub known : CallerKnows
   pub readings : Option Tape
   pub words : Option Tape
   pub dialer : DialerTold L
-  pub rounds : List Round
 
--- One round was led, for this turn.
-pub record LeadsOne {P L : Type 0} (language : Language P) (heard : L → LinkTold) (peer : List ℕ) (x y : Stand L) (turn : Turn) : Type 0 where
-  pub round : Round
-  pub kept : y.rounds ≡ x.rounds ++ round ∷ []
+-- This round was led, for this turn.
+pub record LeadsOne {P L : Type 0} (language : Language P) (heard : L → LinkTold) (peer : List ℕ) (x y : Stand L) (round : Round) (turn : Turn) : Type 0 where
   pub is : IsOf peer round turn
   pub led : LedBy language (WasDrawn x.words y.words) (ToldIn x.readings y.readings) heard x.known y.known x.dialer y.dialer round turn.answered
   pub read : Went x.readings y.readings
   pub drew : Went x.words y.words
 
--- A round was led for each turn, in order.
-pub record LeadsAll {P L : Type 0} (language : Language P) (heard : L → LinkTold) (peer : List ℕ) (x y : Stand L) (turns : List Turn) : Type 0 where
-  pub rounds : List Round
-  pub kept : y.rounds ≡ x.rounds ++ rounds
+-- These rounds were led, one for each turn, in order.
+pub record LeadsAll {P L : Type 0} (language : Language P) (heard : L → LinkTold) (peer : List ℕ) (x y : Stand L) (rounds : List Round) (turns : List Turn) : Type 0 where
   pub called : HasCalled x.known y.known (all_numbers rounds)
   pub talks : List (Talk L)
   pub gained : Gains x.dialer y.dialer talks
@@ -66,11 +61,9 @@ pub record LeadsAll {P L : Type 0} (language : Language P) (heard : L → LinkTo
   pub read : Went x.readings y.readings
   pub drew : Went x.words y.words
 
--- A connection from a peer, from its first request to its end. What came over the link begins with the requests of the turns, and
--- `rest` stands behind them; the link took what was sent for them, and then `extra`.
-pub record IsServed {P L : Type 0} (language : Language P) (heard : L → LinkTold) (peer : List ℕ) (x y : Stand L) (before after : Option Flow) (ended : Ended) : Type 0 where
-  pub turns : List Turn
-  pub led : LeadsAll language heard peer x y turns
+-- What came over the link begins with the requests of the turns, and `rest` stands behind them; the link took what was sent for
+-- them, and then `extra`. So the connection ended.
+pub record Heard (turns : List Turn) (before after : Option Flow) (ended : Ended) : Type 0 where
   pub read : List ℕ
   pub rest : List ℕ
   pub extra : List ℕ

@@ -15,7 +15,7 @@ use flat_core::FlatCore;
 use http_heads::Exchange;
 use round_lead::{Round, Shift, Site};
 use row_settings::{number, numbers, setting};
-use server::{Transcript, serve_connection};
+use server::{Event, Keeper, Recorder, serve_connection};
 use shared_cache::{CachePass, SharedCache};
 use std::alloc::{AllocError, Global};
 use std::sync::Wait;
@@ -85,9 +85,9 @@ fn serve_over<R: Wait>(
     alloc: Global,
     shared: &SharedCache<FlatCore>,
     shift: Shift<FailingDialer, ScriptedClock, Scripts>,
-    link: &mut FailingLink,
+    link: FailingLink,
     peer: [u8; 4],
-) -> Transcript
+) -> Result<Recorder<FailingLink>, AllocError>
     requires pass { IsPassOf shared.now shift.pass }
     requires idle { has_open (known shift.pass) ≡ false }
     requires legal { SeesLegal (known shift.pass) }
@@ -98,7 +98,9 @@ fn serve_over<R: Wait>(
         shared,
         gate: &OpenGate,
     };
-    let (_shift, transcript) = serve_connection::<
+    let mut keeper = Recorder::begin(alloc);
+    keeper.reserve(2)?;
+    let (_shift, keeper) = serve_connection::<
         R,
         FlatCore,
         OpenGate,
@@ -107,22 +109,23 @@ fn serve_over<R: Wait>(
         Scripts,
         ScriptRun,
         FailingLink,
-    >(site, shift, link, peer);
-    transcript
+        Recorder<FailingLink>,
+    >(site, shift, keeper, link, peer);
+    Ok(keeper)
 }
 
 // The client.
 const PEER: [u8; 4] = [127, 0, 0, 1];
 
-fn transcript_of<R: Wait>(
+fn recorded<R: Wait>(
     rt: &R,
     alloc: Global,
     row: &str,
-    link: &mut FailingLink,
-) -> Result<Transcript, AllocError> {
+    link: FailingLink,
+) -> Result<Recorder<FailingLink>, AllocError> {
     let (shared, pass) = cache(alloc, row)?;
     let shift = shift(alloc, pass, row)?;
-    Ok(serve_over(rt, alloc, &shared, shift, link, PEER))
+    serve_over(rt, alloc, &shared, shift, link, PEER)
 }
 
 // A link on which these bytes come, with reads of at most so many.
@@ -143,9 +146,9 @@ fn served_shown<R: Wait>(
     input: &[u8],
     most: usize,
 ) -> Result<String, AllocError> {
-    let mut link = link_of(alloc, row, input, most)?;
-    let transcript = transcript_of(rt, alloc, row, &mut link)?;
-    transcript_shown(alloc, &transcript, link.took())
+    let link = link_of(alloc, row, input, most)?;
+    let recorder = recorded(rt, alloc, row, link)?;
+    events_shown(alloc, recorder.events.as_slice())
 }
 
 // Adds the bytes between quotes.
@@ -154,17 +157,19 @@ fn push_quoted(alloc: Global, out: &mut String, bytes: &[u8]) -> Result<(), Allo
     out.push_str(str::from_utf8(text.bytes()).unwrap_or("no text"))
 }
 
-fn transcript_shown(
-    alloc: Global,
-    transcript: &Transcript,
-    took: &[u8],
-) -> Result<String, AllocError> {
-    let mut out = format!(in alloc; "{:?}", transcript.ended)?;
-    for round in &transcript.rounds {
-        push_round(alloc, &mut out, round)?;
+// How the connection ended, its rounds, and what the client got: the rounds are told before the end.
+fn events_shown(alloc: Global, events: &[Event<FailingLink>]) -> Result<String, AllocError> {
+    let mut rounds = String::new(alloc);
+    let mut out = String::new(alloc);
+    for event in events {
+        match event {
+            Event::Led(round) => push_round(alloc, &mut rounds, round)?,
+            Event::Over(link, ended) => {
+                write!(out, "{ended:?}{rounds}; ")?;
+                push_quoted(alloc, &mut out, link.took())?;
+            }
+        }
     }
-    out.push_str("; ")?;
-    push_quoted(alloc, &mut out, took)?;
     Ok(out)
 }
 

@@ -21,9 +21,10 @@ use Rattle.vcl_runs.specs.Languages.{Language}
 use Rattle.round_lead.specs.Seen.{has_open, HasCalled as Called}
 use Rattle.round_lead.specs.Tapes.{ToldIn, WasDrawn}
 use Rattle.round_lead.proofs.Stays.{response_more}
-use Rattle.server.specs.declared.transcript.Transcript.{Transcript}
+use Rattle.server.specs.declared.keeping.Event.{Event}
+use Rattle.server.specs.Keeping.{places_of}
 use Rattle.server.specs.Transcripts.{AreResponses, all_numbers}
-use Rattle.server.proofs.Completing.{all_answered}
+use Rattle.server.proofs.Tallies.{places_led}
 use Rattle.steering.specs.Serving.{IsReady, Serves}
 use Rattle.steering.specs.Telling.{Tells}
 use Rattle.crew.specs.Calls.{HasCalled}
@@ -53,33 +54,38 @@ starts cache shift pass start = record {
 
 -- ---- serving
 
-module _ {P D K Q L : Type 0} (language : Language P) (heard : L → LinkTold) (talks : D → Option (List (Talk L))) (dial_faults : D → ℕ) (readings words : K → Option Tape)
-    (old new : Shift D K Q) (opening closing : LinkTold) (transcript : Transcript) (serves : Serves language heard talks dial_faults readings words old new opening closing transcript) where
-  pub calls_of : HasCalled (known old.pass) (known new.pass) (all_numbers transcript.rounds.items)
+module _ {P D K Q L E : Type 0} (language : Language P) (heard : L → LinkTold) (tell : E → LinkTold) (talks : D → Option (List (Talk L))) (dial_faults : D → ℕ) (readings words : K → Option Tape)
+    (old new : Shift D K Q) (opening : LinkTold) (events : List (Event E)) (serves : Serves language heard tell talks dial_faults readings words old new opening events) where
+  pub calls_of : HasCalled (known old.pass) (known new.pass) (places_of events)
   calls_of =
-      let all = serves.served.led in
-      let called = subst (λ (rounds : List Round). Called (known old.pass) (known new.pass) (all_numbers rounds)) (sym all.kept) all.called in
+      let served = serves.served in
+      let are : all_numbers served.rounds ≡ places_of events = sym (ap places_of served.events_are ∙ places_led served.rounds served.over served.ended) in
+      let called = subst (λ (places : List ℕ). Called (known old.pass) (known new.pass) places) are served.led.called in
       record { between = called.between; knows = called.knows; gained = called.gained }
 
   pub tells_of : (beginning : Beginning) → (known new.pass).setting ≡ Some beginning
-      → Tells language heard talks dial_faults readings words beginning (known new.pass).seen (known old.pass).number old.kit new.kit opening closing transcript
+      → Tells language heard tell talks dial_faults readings words beginning (known new.pass).seen (known old.pass).number old.kit new.kit opening events
   tells_of beginning begins =
       let served = serves.served in
       let all = served.led in
       record {
         address = serves.address;
         from = serves.from;
-        stays = serves.stays;
+        rounds = served.rounds;
+        over = served.over;
+        ended = served.ended;
+        events_are = served.events_are;
+        stays = served.stays;
+        closed = served.closed;
         turns = served.turns;
         talked = all.talks;
         gained = all.gained;
-        responses = subst (λ (rounds : List Round). AreResponses language (WasDrawn (words old.kit.clock) (words new.kit.clock)) (ToldIn (readings old.kit.clock) (readings new.kit.clock)) heard
-            beginning (known new.pass).seen (known old.pass).number serves.address rounds served.turns all.talks) (sym all.kept) (all.each beginning begins);
+        responses = all.each beginning begins;
         reads = all.read;
         draws = all.drew;
-        link = record { read = served.read; rest = served.rest; extra = served.extra; moves = served.moves; requests = served.requests; left = served.left; ends = served.ends };
-        faults = serves.faults;
-        complete = λ free. all_answered _ _ _ _ _ _ _ _ served _ _ _ _ serves.faults.reads serves.faults.writes free;
+        link = served.link;
+        faults = served.faults;
+        complete = served.complete;
       }
 
 -- ---- a longer history
@@ -100,20 +106,25 @@ module _ {P L : Type 0} (language : Language P) (heard : L → LinkTold) (words 
     responses_more rounds turns are.1 are.5,
   )
 
-pub longer_of : {P D K L : Type 0} (language : Language P) (heard : L → LinkTold) (talks : D → Option (List (Talk L))) (dial_faults : D → ℕ) (readings words : K → Option Tape)
-    (beginning : Beginning) (history more : List Entry) (number : ℕ) (before after : Kit D K) (opening closing : LinkTold) (transcript : Transcript)
-    → Tells language heard talks dial_faults readings words beginning history number before after opening closing transcript
-    → Tells language heard talks dial_faults readings words beginning (history ++ more) number before after opening closing transcript
-longer_of language heard talks dial_faults readings words beginning history more number before after opening closing transcript tells =
+pub longer_of : {P D K L E : Type 0} (language : Language P) (heard : L → LinkTold) (tell : E → LinkTold) (talks : D → Option (List (Talk L))) (dial_faults : D → ℕ) (readings words : K → Option Tape)
+    (beginning : Beginning) (history more : List Entry) (number : ℕ) (before after : Kit D K) (opening : LinkTold) (events : List (Event E))
+    → Tells language heard tell talks dial_faults readings words beginning history number before after opening events
+    → Tells language heard tell talks dial_faults readings words beginning (history ++ more) number before after opening events
+longer_of language heard tell talks dial_faults readings words beginning history more number before after opening events tells =
     record {
       address = tells.address;
       from = tells.from;
+      rounds = tells.rounds;
+      over = tells.over;
+      ended = tells.ended;
+      events_are = tells.events_are;
       stays = tells.stays;
+      closed = tells.closed;
       turns = tells.turns;
       talked = tells.talked;
       gained = tells.gained;
       responses = responses_more language heard (WasDrawn (words before.clock) (words after.clock)) (ToldIn (readings before.clock) (readings after.clock)) beginning history more number
-          tells.address transcript.rounds.items tells.turns tells.talked tells.responses;
+          tells.address tells.rounds tells.turns tells.talked tells.responses;
       reads = tells.reads;
       draws = tells.draws;
       link = tells.link;

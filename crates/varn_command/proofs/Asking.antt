@@ -8,6 +8,7 @@ use Rattle.command_line.specs.declared.order.LoadOptions.{LoadOptions}
 use Rattle.command_line.specs.declared.order.ServeOptions.{ServeOptions}
 use Rattle.command_line.specs.Faults.{IsFault, Refuses, missing_of_load, missing_of_serve}
 use Rattle.command_line.specs.Words.{Asks, AsksLoad}
+use Rattle.server.specs.declared.tally.Tally.{Tally}
 use Rattle.varn_program.specs.declared.outcome.Outcome.{Outcome as Played}
 use Rattle.varn_serve.specs.declared.ending.Served.{Served}
 use Rattle.varn_command.specs.declared.outcome.Outcome.{Outcome}
@@ -19,7 +20,7 @@ does_as : (claims : Claims) (words : List (List ℕ)) (asked : Option (CommandNa
 does_as claims words asked outcome is does = record { does = subst (λ (o : Option (CommandName × List (List ℕ))). DoesAs claims o outcome) (sym is) does }
 
 module _ (claims : Claims) (words options : List (List ℕ)) (outcome : Outcome) where
-  pub serves : (order : ServeOptions) (came : Served) → command_of words ≡ Some (command.Serve, options) → Asks options order → claims.serves order came → outcome ≡ of_served came → Does claims words outcome
+  pub serves : (order : ServeOptions) (came : Served Tally) → command_of words ≡ Some (command.Serve, options) → Asks options order → claims.serves order came → outcome ≡ of_served came → Does claims words outcome
   serves order came is asks claim handed = does_as claims words (Some (command.Serve, options)) outcome is (inl (order, came, asks, claim, handed))
 
   pub loads : (load : LoadOptions) (came : Played) → command_of words ≡ Some (command.Load, options) → AsksLoad options load → claims.loads load came → outcome ≡ of_played came → Does claims words outcome
@@ -49,7 +50,7 @@ unasked_load options NoMemory is outside = tt
 pub record IsWeaker (claims weaker : Claims) : Type 0 where
   pub replays : (came : Played) → claims.replays came → weaker.replays came
   pub loads : (load : LoadOptions) (came : Played) → claims.loads load came → weaker.loads load came
-  pub serves : (order : ServeOptions) (came : Served) → claims.serves order came → weaker.serves order came
+  pub serves : (order : ServeOptions) (came : Served Tally) → claims.serves order came → weaker.serves order came
   pub nothing : claims.nothing → weaker.nothing
 
 does_less : (claims weaker : Claims) (asked : Option (CommandName × List (List ℕ))) (outcome : Outcome) → IsWeaker claims weaker → DoesAs claims asked outcome → DoesAs weaker asked outcome

@@ -9,6 +9,7 @@ use Rattle.command_line.specs.declared.order.LoadOptions.{LoadOptions}
 use Rattle.command_line.specs.declared.order.ServeOptions.{ServeOptions}
 use Rattle.command_line.specs.Words.{Asks, AsksLoad}
 use Rattle.command_line.specs.Faults.{IsFault, missing_of_load, missing_of_serve}
+use Rattle.server.specs.declared.tally.Tally.{Tally}
 use Rattle.varn_program.specs.declared.outcome.Outcome.{Outcome as Played}
 use Rattle.varn_serve.specs.declared.ending.Served.{Served}
 use Rattle.varn_command.specs.declared.outcome.Outcome.{Outcome}
@@ -18,7 +19,7 @@ use Rattle.varn_command.specs.Outcomes.{of_played, of_served, of_unasked}
 pub record Claims : Type 1 where
   pub replays : Played → Type 0
   pub loads : LoadOptions → Played → Type 0
-  pub serves : ServeOptions → Served → Type 0
+  pub serves : ServeOptions → Served Tally → Type 0
   pub nothing : Type 0
 
 -- the fault of the options of a command, which ask for nothing

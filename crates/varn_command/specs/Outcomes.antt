@@ -3,6 +3,7 @@ use Rattle.std.specs.Prelude.{ℕ, List, [], Option, Some, None, option_map}
 use Rattle.cache_law.specs.declared.call.Entry.{Entry}
 use Rattle.command_line.specs.declared.fault.OrderError.{OrderError}
 use Rattle.command_line.specs.declared.fault.OrderError.TheVariants.{Refused, NoMemory}
+use Rattle.server.specs.declared.tally.Tally.{Tally}
 use Rattle.varn_program.specs.declared.outcome.Note.{Note as LineNote}
 use Rattle.varn_program.specs.declared.outcome.Outcome.{Outcome as Played}
 use Rattle.varn_program.specs.declared.outcome.Status.{Status as PlayedStatus}
@@ -60,25 +61,31 @@ place_note told = note.Place told.place told.kind
 
 -- ---- what is handed out
 
+-- what nothing counts
+abbrev pub none_counted : Tally
+none_counted = record { rounds = 0; found_full = false }
+
 -- of a session that was played, or wasn't
 abbrev pub of_played : Played → Outcome
 of_played one = record {
   status = status_of_played one.status;
   note = option_map line_note one.note;
   history = one.history;
-  transcripts = [];
+  connections = 0;
+  tally = none_counted;
   console = [];
   swept = one.swept;
   probed = [];
 }
 
 -- of a server's run
-abbrev pub of_served : Served → Outcome
+abbrev pub of_served : Served Tally → Outcome
 of_served one = record {
   status = status_of_served one.status;
   note = option_map place_note one.note;
   history = one.history;
-  transcripts = one.transcripts;
+  connections = one.connections;
+  tally = one.tally;
   console = [];
   swept = [];
   probed = [];
@@ -90,4 +97,4 @@ unasked_status (Refused fault) = status.Words
 unasked_status NoMemory = status.NoMemory
 
 abbrev pub of_unasked : OrderError → Outcome
-of_unasked error = record { status = unasked_status error; note = None; history = []; transcripts = []; console = []; swept = []; probed = [] }
+of_unasked error = record { status = unasked_status error; note = None; history = []; connections = 0; tally = none_counted; console = []; swept = []; probed = [] }

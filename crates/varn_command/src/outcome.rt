@@ -4,7 +4,7 @@ ghost use Rattle.varn_command.specs.Outcomes.{code_of, of_played, of_served, of_
 
 use cache_law::Entry;
 use command_line::OrderError;
-use server::Transcript;
+use server::Tally;
 use std::alloc::Global;
 use units::{Sequence, Text};
 use varn_program::{Outcome as Played, Status as PlayedStatus};
@@ -115,14 +115,16 @@ pub struct Probed {
     pub good: bool,
 }
 
-/// How a run ended, what is to blame, the history of its cache, what was kept of each connection of a server and of its console's,
-/// for each `lurk` of a session how many objects the lurker tested, and what the probes came to. What a command doesn't have is empty.
+/// How a run ended, what is to blame, the history of its cache, how many connections a server served and what was counted of them, what
+/// was kept of its console's, for each `lurk` of a session how many objects the lurker tested, and what the probes came to. What a
+/// command doesn't have is empty.
 #[derive(Drop)]
 pub struct Outcome {
     pub status: Status,
     pub note: Option<Note>,
     pub history: Sequence<Entry>,
-    pub transcripts: Sequence<Transcript>,
+    pub connections: u64,
+    pub tally: Tally,
     pub console: Sequence<ConsoleLine>,
     pub swept: Sequence<u32>,
     pub probed: Sequence<Probed>,
@@ -149,21 +151,24 @@ impl Outcome {
             status: Status::of_played(status),
             note,
             history,
-            transcripts: Sequence::new(alloc),
+            connections: 0,
+            tally: Tally::none(),
             console: Sequence::new(alloc),
             swept,
             probed: Sequence::new(alloc),
         }
     }
 
-    pub(crate) fn of_served(alloc: Global, served: Served) -> Outcome
+    pub(crate) fn of_served(alloc: Global, served: Served<Tally>) -> Outcome
         ensures { result ≡ of_served served }
     {
         let Served {
             status,
             note,
             history,
-            transcripts,
+            keepers: _,
+            connections,
+            tally,
         } = served;
         let note = match note {
             Some(note) => Some(Note::Place {
@@ -176,7 +181,8 @@ impl Outcome {
             status: Status::of_served(status),
             note,
             history,
-            transcripts,
+            connections,
+            tally,
             console: Sequence::new(alloc),
             swept: Sequence::new(alloc),
             probed: Sequence::new(alloc),
@@ -190,7 +196,8 @@ impl Outcome {
             status: Status::of_unasked(error),
             note: None,
             history: Sequence::new(alloc),
-            transcripts: Sequence::new(alloc),
+            connections: 0,
+            tally: Tally::none(),
             console: Sequence::new(alloc),
             swept: Sequence::new(alloc),
             probed: Sequence::new(alloc),

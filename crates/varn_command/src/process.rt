@@ -1,11 +1,9 @@
 // The run of a process.
-ghost use Rattle.std.specs.Prelude.{◌≡◌, ◌≤◌, ⊤, ℕ, List, Option, None, length};
-ghost use Rattle.std.specs.List.{list_any};
+ghost use Rattle.std.specs.Prelude.{◌≡◌, ◌≤◌, ⊤, ℕ, List, Option, None};
 ghost use Rattle.std.specs.Process.{exit_status};
 ghost use Rattle.diagnostics.specs.Helping.{help_of};
 ghost use Rattle.vcl_library.specs.Functions.{std_functions};
 ghost use Rattle.varn_program.specs.Run.{Ends};
-ghost use Rattle.varn_serve.specs.Endings.{is_full};
 ghost use Rattle.varn_serve.specs.Run.{is_full_status};
 ghost use Rattle.varn_command.specs.Asking.{Does};
 ghost use Rattle.varn_command.specs.Outcomes.{code_of};
@@ -126,7 +124,7 @@ where
     ensures { help_of start.words.items ≡ None → (outcome : Came) × Does (record {
       replays = λ came. (left0 left1 held0 held1 : Option (List ℕ)) × Ends std_functions start.words.items left0 left1 held0 held1 came;
       loads = λ load came. ⊤;
-      serves = λ order came. (length came.transcripts ≤ order.conns) × (is_full_status came.status ≡ list_any is_full came.transcripts);
+      serves = λ order came. (came.connections ≤ order.conns) × (is_full_status came.status ≡ came.tally.found_full);
       nothing = ⊤;
     }) start.words.items outcome × (exit_status result ≡ code_of outcome.status) }
 {

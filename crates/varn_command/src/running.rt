@@ -1,6 +1,5 @@
 // The top call.
-ghost use Rattle.std.specs.Prelude.{◌≡◌, ◌≤◌, ◌⊎◌, length, option_map};
-ghost use Rattle.std.specs.List.{list_any};
+ghost use Rattle.std.specs.Prelude.{◌≡◌, ◌≤◌, ◌⊎◌, option_map};
 ghost use Rattle.cache_law.specs.declared.setting.Params.{Params as Limits};
 ghost use Rattle.crew.specs.Hiring.{IsUnused};
 ghost use Rattle.wire.specs.Telling.{told_by};
@@ -10,7 +9,7 @@ ghost use Rattle.varn_program.specs.Load.{IsLoaded, Loads};
 ghost use Rattle.varn_program.specs.Run.{Ends, IsComplete};
 ghost use Rattle.varn_program.specs.Words.{AsksReplay};
 ghost use Rattle.varn_program.specs.declared.outcome.Status.TheVariants as replay_status;
-ghost use Rattle.varn_serve.specs.Endings.{is_full};
+ghost use Rattle.server.specs.Keeping.{tally_of};
 ghost use Rattle.varn_serve.specs.Run.{CameTo, EndsAs, GaveFor, IsComplete as IsWhole, RanBy, is_full_status};
 ghost use Rattle.varn_command.specs.Asking.{Does, command_of};
 ghost use Rattle.wire.specs.Causes.{Rose};
@@ -19,6 +18,7 @@ ghost use Rattle.world.specs.Keeping.{MayAdd};
 use crate::outcome::Outcome;
 use command_line::{CommandName, LoadOptions, read_load, read_order};
 use flat_core::FlatCore;
+use server::Tally;
 use std::alloc::Global;
 use std::sync::Wait;
 use std::thread::Threads;
@@ -78,8 +78,7 @@ where
           × (source.new ≡ source.old) × (world.new ≡ world.old);
       serves = λ order served. CameTo (RanBy (IsUnused W.Dialer.talks W.Dialer.dial_faults W.Dialer.read_faults W.Dialer.write_faults W.Clock.readings W.Clock.words)
           (told_by W.Dialer.Link.flow W.Dialer.Link.read_faults W.Dialer.Link.write_faults W.Dialer.Link.peer W.Dialer.Link.is_open) W.Dialer.talks W.Dialer.dial_faults W.Clock.readings W.Clock.words (told_by W.Listener.Link.flow W.Listener.Link.read_faults W.Listener.Link.write_faults W.Listener.Link.peer W.Listener.Link.is_open)
-          (record { links = W.links world.old; kept = W.kept world.old; kits = W.kits world.old }) (record { links = W.links world.new; kept = W.kept world.new; kits = W.kits world.new }))
-          (record { links = W.links world.old; kept = W.kept world.old; kits = W.kits world.old }) (record { links = W.links world.new; kept = W.kept world.new; kits = W.kits world.new })
+          (λ tally events. tally ≡ tally_of events) (W.kits world.old) (W.kits world.new)) (W.kits world.old) (W.kits world.new)
           (W.files world.old) std_functions order served
           × EndsAs (record {
             read_failed = Rose (W.shelf_faults world.old) (W.shelf_faults world.new);
@@ -97,10 +96,10 @@ where
             held = K.held sink.old;
             holds = K.held sink.new;
           }) (W.files world.old) std_functions order served
-          × (length served.transcripts ≤ order.conns)
-          × (is_full_status served.status ≡ list_any is_full served.transcripts)
+          × (served.connections ≤ order.conns)
+          × (is_full_status served.status ≡ served.tally.found_full)
           × MayAdd (W.ports world.old) (W.ports world.new) order.port
-          × GaveFor (W.given world.old) (W.given world.new) (length served.transcripts)
+          × GaveFor (W.given world.old) (W.given world.new) served.connections
           × (source.new ≡ source.old);
       nothing = (source.new ≡ source.old) × (sink.new ≡ sink.old) × (world.new ≡ world.old);
     }) words.now result }
@@ -108,7 +107,9 @@ where
     match command_of(words) {
         Some((CommandName::Serve, options)) => match read_order(options) {
             Ok(order) => {
-                let served = serve_with_std(rt, alloc, &order, world, gate, sink);
+                let served = serve_with_std::<R, W, G, K, Tally>(
+                    rt, alloc, &order, world, gate, sink,
+                );
                 Outcome::of_served(alloc, served)
             }
             Err(error) => Outcome::of_unasked(alloc, error),

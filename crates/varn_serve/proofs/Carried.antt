@@ -1,5 +1,6 @@
 -- What is told by one language is told by another that means the same.
 use Rattle.std.proofs.Common.{◌≡◌, inl, inr, ℕ, Bool, List, [], ◌∷◌, ◌++◌, Option, refl, ap, subst}
+use Rattle.std.specs.List.{AllZip}
 use Rattle.vcl_tree.specs.declared.item.Tree.{Tree}
 use Rattle.vmod_host.specs.declared.signature.Stored.{Stored}
 use Rattle.vcl_library.specs.Meaning.{by_trees, meant, vcl}
@@ -22,14 +23,17 @@ use Rattle.vcl_runs.specs.Languages.{Language}
 use Rattle.round_lead.specs.Talks.{TalksOf}
 use Rattle.round_lead.specs.Things.{Runs, text_of}
 use Rattle.round_lead.specs.Tapes.{ToldIn, WasDrawn}
-use Rattle.server.specs.declared.transcript.Transcript.{Transcript}
-use Rattle.server.specs.Transcripts.{AreResponses, all_numbers}
+use Rattle.server.specs.declared.keeping.Event.{Event}
+use Rattle.server.specs.declared.tally.Tally.{Tally}
+use Rattle.server.specs.Keeping.{places_of, tally_of}
+use Rattle.server.specs.Transcripts.{AreResponses}
 use Rattle.steering.specs.Telling.{Tells as TellsOf}
 use Rattle.crew.specs.Leaving.{AllWhole}
-use Rattle.crew.specs.Parts.{Part}
-use Rattle.crew.specs.Running.{Held, Ran}
+use Rattle.crew.specs.Parts.{Part, all_events}
+use Rattle.crew.specs.Running.{Ran}
 use Rattle.crew.proofs.Called.{all_wider}
 use Rattle.varn_serve.specs.Run.{RanIn, RanBy}
+use Rattle.varn_serve.proofs.Counted.{counted}
 
 -- each program of the one is, as the other sees it, one of the same text, and does and reaches the same
 pub record MeansAs {P Q : Type 0} (one : Language P) (other : Language Q) (f : P → Q) : Type 1 where
@@ -119,19 +123,24 @@ module _ {P Q L : Type 0} (one : Language P) (other : Language Q) (f : P → Q) 
 
   -- ---- connections
 
-  module _ {D K : Type 0} (talks : D → Option (List (Talk L))) (dial_faults : D → ℕ) (readings words : K → Option Tape) (beginning : Beginning) (history : List Entry) where
-    told_as : (number : ℕ) (before after : Kit D K) (opening closing : LinkTold) (transcript : Transcript)
-        → TellsOf one heard talks dial_faults readings words beginning history number before after opening closing transcript
-        → TellsOf other heard talks dial_faults readings words beginning history number before after opening closing transcript
-    told_as number before after opening closing transcript t = record {
+  module _ {D K E : Type 0} (tell : E → LinkTold) (talks : D → Option (List (Talk L))) (dial_faults : D → ℕ) (readings words : K → Option Tape) (beginning : Beginning) (history : List Entry) where
+    told_as : (number : ℕ) (before after : Kit D K) (opening : LinkTold) (events : List (Event E))
+        → TellsOf one heard tell talks dial_faults readings words beginning history number before after opening events
+        → TellsOf other heard tell talks dial_faults readings words beginning history number before after opening events
+    told_as number before after opening events t = record {
       address = t.address;
       from = t.from;
+      rounds = t.rounds;
+      over = t.over;
+      ended = t.ended;
+      events_are = t.events_are;
       stays = t.stays;
+      closed = t.closed;
       turns = t.turns;
       talked = t.talked;
       gained = t.gained;
       responses = responses_as (WasDrawn (words before.clock) (words after.clock)) (ToldIn (readings before.clock) (readings after.clock)) beginning history number
-          t.address transcript.rounds.items t.turns t.talked t.responses;
+          t.address t.rounds t.turns t.talked t.responses;
       reads = t.reads;
       draws = t.draws;
       link = t.link;
@@ -141,37 +150,41 @@ module _ {P Q L : Type 0} (one : Language P) (other : Language Q) (f : P → Q) 
 
     -- ---- workers
 
-    module _ {N : Type 0} (unused : Kit D K → Type 0) (places_of : Transcript → List ℕ) (told : N → LinkTold) where
-      whole_as : (parts : List (Part (Kit D K) N Transcript))
-          → AllWhole unused places_of (λ number before after opening closing transcript. TellsOf one heard talks dial_faults readings words beginning history number before after opening closing transcript) told history parts
-          → AllWhole unused places_of (λ number before after opening closing transcript. TellsOf other heard talks dial_faults readings words beginning history number before after opening closing transcript) told history parts
+    module _ {N : Type 0} (unused : Kit D K → Type 0) (Told : N → List (Event E) → Type 0) where
+      whole_as : (parts : List (Part (Kit D K) N (Event E)))
+          → AllWhole unused Told (λ events. places_of events) (λ number before after opening events. TellsOf one heard tell talks dial_faults readings words beginning history number before after opening events) history parts
+          → AllWhole unused Told (λ events. places_of events) (λ number before after opening events. TellsOf other heard tell talks dial_faults readings words beginning history number before after opening events) history parts
       whole_as [] whole = whole
       whole_as (part ∷ parts) whole = (
         record {
           unused = whole.0.unused;
-          is_told = all_wider places_of
-              (λ number before after opening closing transcript. TellsOf one heard talks dial_faults readings words beginning history number before after opening closing transcript)
-              (λ number before after opening closing transcript. TellsOf other heard talks dial_faults readings words beginning history number before after opening closing transcript)
-              told told_as part.number (record { kit = part.first; seen = [] }) (record { kit = part.last; seen = part.seen }) part.links part.transcripts whole.0.is_told;
+          is_told = all_wider (λ events. places_of events)
+              (λ number before after opening events. TellsOf one heard tell talks dial_faults readings words beginning history number before after opening events)
+              (λ number before after opening events. TellsOf other heard tell talks dial_faults readings words beginning history number before after opening events)
+              told_as part.number (record { kit = part.first; seen = [] }) (record { kit = part.last; seen = part.seen }) part.came whole.0.is_told;
+          told = whole.0.told;
           front = whole.0.front;
           places = whole.0.places;
         },
         whole_as parts whole.1,
       )
 
-      pub ran_as : (before after : Held N (Kit D K)) (transcripts : List Transcript)
-          → Ran unused places_of (λ began seen number first last opening closing transcript. TellsOf one heard talks dial_faults readings words began seen number first last opening closing transcript) told beginning history before after transcripts
-          → Ran unused places_of (λ began seen number first last opening closing transcript. TellsOf other heard talks dial_faults readings words began seen number first last opening closing transcript) told beginning history before after transcripts
-      ran_as before after transcripts r = record {
-        legal = r.legal;
-        parts = r.parts;
-        whole = whole_as r.parts r.whole;
-        links_are = r.links_are;
-        kept_is = r.kept_is;
-        kits_are = r.kits_are;
-        transcripts_are = r.transcripts_are;
-        each_once = r.each_once;
-      }
+      -- a run is told so by the other too, and of the same connections
+      pub ran_as : (before after : Option (List (Kit D K))) (keepers : List N) (connections : ℕ) (tally : Tally)
+          → RanIn one unused heard talks dial_faults readings words tell Told before after beginning history keepers connections tally
+          → RanIn other unused heard talks dial_faults readings words tell Told before after beginning history keepers connections tally
+      ran_as before after keepers connections tally r = (
+        record {
+          legal = r.0.legal;
+          parts = r.0.parts;
+          whole = whole_as r.0.parts r.0.whole;
+          kits_are = r.0.kits_are;
+          keepers_are = r.0.keepers_are;
+          count_is = r.0.count_is;
+          each_once = r.0.each_once;
+        },
+        r.1,
+      )
 
 -- ---- the programs of a library
 
@@ -182,10 +195,18 @@ trees_mean tree_of stored_of = record {
   places = λ p. refl;
 }
 
--- a run that such programs steer is one that VCL steers
-pub by_vcl : {P N D K L : Type 0} (tree_of : P → Tree) (stored_of : P → List Stored) (unused : Kit D K → Type 0) (heard : L → LinkTold) (talks : D → Option (List (Talk L))) (dial_faults : D → ℕ)
-    (readings words : K → Option Tape) (told : N → LinkTold) (before after : Held N (Kit D K)) (beginning : Beginning) (history : List Entry) (transcripts : List Transcript)
-    → RanIn (by_trees tree_of stored_of) unused heard talks dial_faults readings words told before after beginning history transcripts
-    → RanBy unused heard talks dial_faults readings words told before after beginning history transcripts
-by_vcl tree_of stored_of unused heard talks dial_faults readings words told before after beginning history transcripts ran =
-    ran_as (by_trees tree_of stored_of) vcl tree_of (trees_mean tree_of stored_of) heard talks dial_faults readings words beginning history unused (λ (t : Transcript). all_numbers t.rounds.items) told before after transcripts ran
+-- a run that such programs steer is one that VCL steers, and its tally counts what its keepers were told
+pub by_vcl : {P N D K L E : Type 0} (tree_of : P → Tree) (stored_of : P → List Stored) (unused : Kit D K → Type 0) (heard : L → LinkTold) (talks : D → Option (List (Talk L))) (dial_faults : D → ℕ)
+    (readings words : K → Option Tape) (tell : E → LinkTold) (Told : N → List (Event E) → Type 0) (before after : Option (List (Kit D K))) (beginning : Beginning) (history : List Entry)
+    (keepers : List N) (connections : ℕ) (tally : Tally) → ((lists : List (List (Event E))) → AllZip Told keepers lists → tally ≡ tally_of (all_events lists))
+    → Ran unused Told (λ events. places_of events)
+    (λ began seen number first last opening events. TellsOf (by_trees tree_of stored_of) heard tell talks dial_faults readings words began seen number first last opening events)
+    beginning history before after keepers connections
+    → RanBy unused heard talks dial_faults readings words tell Told before after beginning history keepers connections tally
+by_vcl tree_of stored_of unused heard talks dial_faults readings words tell Told before after beginning history keepers connections tally counts ran =
+    ran_as (by_trees tree_of stored_of) vcl tree_of (trees_mean tree_of stored_of) heard tell talks dial_faults readings words beginning history unused Told before after keepers connections tally (
+      ran,
+      counted unused Told (λ events. places_of events)
+          (λ number first last opening events. TellsOf (by_trees tree_of stored_of) heard tell talks dial_faults readings words beginning history number first last opening events)
+          history keepers ran.parts tally ran.keepers_are ran.whole counts,
+    )

@@ -1,3 +1,4 @@
 pub mod Ends
+pub mod Counted
 pub mod Carried
 pub mod Crossing

@@ -1,7 +1,6 @@
 -- What a server's run comes to.
-use Rattle.std.specs.Prelude.{◌≡◌, ◌⊎◌, ℕ, Bool, true, false, List, [], Option, Some, None, length}
+use Rattle.std.specs.Prelude.{◌≡◌, ◌⊎◌, ℕ, Bool, true, false, List, [], Option, Some, None}
 use Rattle.std.specs.Io.KnownBytes.{Appends}
-use Rattle.std.specs.List.{list_any}
 use Rattle.cache_law.specs.declared.call.Entry.{Entry}
 use Rattle.cache_law.specs.declared.setting.Boot.{Boot}
 use Rattle.cache_law.specs.declared.setting.Params.{Params}
@@ -15,9 +14,11 @@ use Rattle.boot_file.specs.declared.error.BootError.{BootError}
 use Rattle.boot_file.specs.declared.error.BootError.TheVariants as without
 use Rattle.boot_file.specs.Booting.{Boots}
 use Rattle.command_line.specs.declared.order.ServeOptions.{ServeOptions}
-use Rattle.server.specs.declared.transcript.Transcript.{Transcript}
-use Rattle.server.specs.Transcripts.{all_numbers}
-use Rattle.crew.specs.Running.{Held, Ran}
+use Rattle.server.specs.declared.keeping.Event.{Event}
+use Rattle.server.specs.declared.tally.Tally.{Tally}
+use Rattle.server.specs.Keeping.{places_of, tally_of}
+use Rattle.crew.specs.Parts.{all_came, all_events}
+use Rattle.crew.specs.Running.{Ran}
 use Rattle.wire.specs.Telling.{LinkTold}
 use Rattle.vcl_runs.specs.Languages.{Language}
 use Rattle.vcl_library.specs.Meaning.{vcl}
@@ -30,7 +31,7 @@ use Rattle.varn_serve.specs.declared.ending.Served.{Served}
 use Rattle.varn_serve.specs.declared.ending.Status.{Status}
 use Rattle.varn_serve.specs.declared.ending.Status.TheVariants.{Done, ReadFault, WriteFault, NoMemory, ListenFault, Vcl, HistoryFull}
 use Rattle.varn_serve.specs.declared.ending.VclNote.{VclNote}
-use Rattle.varn_serve.specs.Endings.{is_full, rounds_in, rounds_line}
+use Rattle.varn_serve.specs.Endings.{rounds_line}
 
 abbrev pub limits_of : ServeOptions → Params
 limits_of order = record { room = order.room; history = order.history; segments = false }
@@ -45,38 +46,43 @@ is_unserved ListenFault = true
 is_unserved Vcl = true
 is_unserved other = false
 
--- Nothing was served: nothing was handed back, and nothing is kept.
-pub record IsIdle {L K : Type 0} (before after : Held L K) (served : Served) : Type 0 where
-  pub links : after.links ≡ before.links
-  pub kept : after.kept ≡ before.kept
-  pub kits : after.kits ≡ before.kits
+-- nothing was served, for this
+abbrev pub unserved : {N : Type 0} → Status → Option VclNote → Served N
+unserved status note = record { status = status; note = note; history = []; keepers = []; connections = 0; tally = record { rounds = 0; found_full = false } }
+
+-- Nothing was served: nothing was handed back, and nothing was kept or counted.
+pub record IsIdle {N K : Type 0} (before after : Option (List K)) (served : Served N) : Type 0 where
+  pub kits : after ≡ before
   pub no_entry : served.history ≡ []
-  pub no_transcript : served.transcripts ≡ []
+  pub no_keeper : served.keepers ≡ []
+  pub no_connection : served.connections ≡ 0
+  pub no_round : served.tally ≡ record { rounds = 0; found_full = false }
   pub unserved : is_unserved served.status ≡ true
 
 -- Workers ran over one cache, from the limits of the order and the VCL of its file. `Ran` says what their run comes to.
-pub record Runs (Ran : Beginning → List Entry → List Transcript → Type 0) (files : Option (List File)) (stored : List Stored) (order : ServeOptions) (served : Served) : Type 0 where
+pub record Runs {N : Type 0} (Ran : Beginning → List Entry → List N → ℕ → Tally → Type 0) (files : Option (List File)) (stored : List Stored) (order : ServeOptions) (served : Served N) : Type 0 where
   pub boot : Boot
   pub boots : Boots files order.file stored boot
-  pub ran : Ran (beginning_of (limits_of order) boot) served.history served.transcripts
+  pub ran : Ran (beginning_of (limits_of order) boot) served.history served.keepers served.connections served.tally
 
 -- Nothing was served, or workers ran.
-abbrev pub CameTo : {L K : Type 0} → (Beginning → List Entry → List Transcript → Type 0) → Held L K → Held L K → Option (List File) → List Stored → ServeOptions → Served → Type 0
+abbrev pub CameTo : {N K : Type 0} → (Beginning → List Entry → List N → ℕ → Tally → Type 0) → Option (List K) → Option (List K) → Option (List File) → List Stored → ServeOptions → Served N → Type 0
 CameTo Ran before after files stored order served = IsIdle before after served ⊎ Runs Ran files stored order served
 
--- What a run of workers comes to whose rounds this language steers: one legal history, of which each round is a response.
-abbrev pub RanIn : {P L D K DL : Type 0} → Language P → (Kit D K → Type 0) → (DL → LinkTold) → (D → Option (List (Talk DL))) → (D → ℕ) → (K → Option Tape) → (K → Option Tape)
-    → (L → LinkTold) → Held L (Kit D K) → Held L (Kit D K) → Beginning → List Entry → List Transcript → Type 0
-RanIn language unused heard talks dial_faults readings words told before after beginning history transcripts =
-    Ran unused (λ transcript. all_numbers transcript.rounds.items)
-    (λ began seen number first last opening closing transcript. Tells language heard talks dial_faults readings words began seen number first last opening closing transcript)
-    told beginning history before after transcripts
+-- What a run of workers comes to whose rounds this language steers: one legal history, of which each round is a response. The tally
+-- counts the events of all connections.
+abbrev pub RanIn : {P L N D K E : Type 0} → Language P → (Kit D K → Type 0) → (L → LinkTold) → (D → Option (List (Talk L))) → (D → ℕ) → (K → Option Tape) → (K → Option Tape)
+    → (E → LinkTold) → (N → List (Event E) → Type 0) → Option (List (Kit D K)) → Option (List (Kit D K)) → Beginning → List Entry → List N → ℕ → Tally → Type 0
+RanIn language unused heard talks dial_faults readings words tell Told before after beginning history keepers connections tally =
+    (ran : Ran unused Told (λ events. places_of events)
+    (λ began seen number first last opening events. Tells language heard tell talks dial_faults readings words began seen number first last opening events)
+    beginning history before after keepers connections) × (tally ≡ tally_of (all_events (all_came ran.parts)))
 
 -- The same where VCL steers the rounds.
-abbrev pub RanBy : {L D K DL : Type 0} → (Kit D K → Type 0) → (DL → LinkTold) → (D → Option (List (Talk DL))) → (D → ℕ) → (K → Option Tape) → (K → Option Tape) → (L → LinkTold)
-    → Held L (Kit D K) → Held L (Kit D K) → Beginning → List Entry → List Transcript → Type 0
-RanBy unused heard talks dial_faults readings words told before after beginning history transcripts =
-    RanIn vcl unused heard talks dial_faults readings words told before after beginning history transcripts
+abbrev pub RanBy : {L N D K E : Type 0} → (Kit D K → Type 0) → (L → LinkTold) → (D → Option (List (Talk L))) → (D → ℕ) → (K → Option Tape) → (K → Option Tape) → (E → LinkTold)
+    → (N → List (Event E) → Type 0) → Option (List (Kit D K)) → Option (List (Kit D K)) → Beginning → List Entry → List N → ℕ → Tally → Type 0
+RanBy unused heard talks dial_faults readings words tell Told before after beginning history keepers connections tally =
+    RanIn vcl unused heard talks dial_faults readings words tell Told before after beginning history keepers connections tally
 
 -- The listeners gave this many connections, none of which was thrown away; where nothing was served there may be no listener.
 abbrev pub GaveFor : ℕ → ℕ → ℕ → Type 0
@@ -100,13 +106,13 @@ IsWithoutVcl files stored name None = IsShelved files name None
 IsWithoutVcl files stored name (Some note) = (text : List ℕ) × IsShelved files name (Some text) × IsRefusalOf text stored (error.Refused note.kind note.place)
 
 -- as many connections were served as the order says, or no more came
-abbrev pub IsAll : Outside → ServeOptions → Served → Type 0
-IsAll outside order served = (length served.transcripts ≡ order.conns) ⊎ (outside.ended ≡ true)
+abbrev pub IsAll : {N : Type 0} → Outside → ServeOptions → Served N → Type 0
+IsAll outside order served = (served.connections ≡ order.conns) ⊎ (outside.ended ≡ true)
 
 -- the cause of each status; only a whole run writes
-abbrev pub EndsAs : Outside → Option (List File) → List Stored → ServeOptions → Served → Status → Type 0
+abbrev pub EndsAs : {N : Type 0} → Outside → Option (List File) → List Stored → ServeOptions → Served N → Status → Type 0
 EndsAs outside files stored order served Done =
-    (served.note ≡ None) × IsAll outside order served × Appends outside.held outside.holds (rounds_line (rounds_in served.transcripts))
+    (served.note ≡ None) × IsAll outside order served × Appends outside.held outside.holds (rounds_line served.tally.rounds)
 EndsAs outside files stored order served WriteFault = (served.note ≡ None) × IsAll outside order served × outside.write_failed
 EndsAs outside files stored order served ReadFault = (served.note ≡ None) × outside.read_failed × (outside.holds ≡ outside.held)
 EndsAs outside files stored order served ListenFault = (served.note ≡ None) × outside.listen_failed × (outside.holds ≡ outside.held)
@@ -120,10 +126,10 @@ IsAccepted files stored name = (note : Option VclNote) → ¬ IsWithoutVcl files
 
 -- Where nothing failed outside, the file is accepted and no connection found the history full, the run is whole, or memory was
 -- wanting.
-abbrev pub IsComplete : Outside → Option (List File) → List Stored → ServeOptions → Served → Type 0
+abbrev pub IsComplete : {N : Type 0} → Outside → Option (List File) → List Stored → ServeOptions → Served N → Type 0
 IsComplete outside files stored order served =
     ¬ outside.read_failed → ¬ outside.listen_failed → ¬ outside.write_failed → IsAccepted files stored order.file
-    → list_any is_full served.transcripts ≡ false → (served.status ≡ Done) ⊎ (served.status ≡ NoMemory)
+    → served.tally.found_full ≡ false → (served.status ≡ Done) ⊎ (served.status ≡ NoMemory)
 
 -- how a run ends in which nothing was served, though there is a VCL: memory was wanting, or listening failed
 abbrev pub Halts : Type 0 → Status → Type 0
@@ -131,7 +137,7 @@ Halts failed NoMemory = Unit {0}
 Halts failed ListenFault = failed
 Halts failed other = ⊥
 
--- a run ends as this exactly where a transcript did
+-- a run ends as this exactly where a connection found the history full
 abbrev pub is_full_status : Status → Bool
 is_full_status HistoryFull = true
 is_full_status other = false

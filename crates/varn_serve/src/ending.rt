@@ -3,7 +3,7 @@ ghost use Rattle.std.specs.Prelude.{◌≡◌};
 ghost use Rattle.varn_serve.specs.Statuses.{code_of};
 
 use cache_law::Entry;
-use server::Transcript;
+use server::Tally;
 use units::Sequence;
 use vcl_tree::Refusal;
 
@@ -49,11 +49,14 @@ pub struct VclNote {
     pub kind: Refusal,
 }
 
-/// How a run ended, what its VCL is refused for, the history of its cache, and what was kept of each connection.
+/// How a run ended, what its VCL is refused for, the history of its cache, the workers' keepers, how many connections were served,
+/// and what the keepers counted.
 #[derive(Drop)]
-pub struct Served {
+pub struct Served<N> {
     pub status: Status,
     pub note: Option<VclNote>,
     pub history: Sequence<Entry>,
-    pub transcripts: Sequence<Transcript>,
+    pub keepers: Sequence<N>,
+    pub connections: u64,
+    pub tally: Tally,
 }

@@ -1,18 +1,17 @@
 // A server with the stored functions that the program has.
-ghost use Rattle.std.specs.Prelude.{◌≡◌, ◌≤◌, IfOk, OnErr, length};
-ghost use Rattle.std.specs.List.{list_any};
+ghost use Rattle.std.specs.Prelude.{◌≡◌, ◌≤◌, IfOk, OnErr};
 ghost use Rattle.crew.specs.Hiring.{IsUnused};
 ghost use Rattle.wire.specs.Telling.{told_by};
 ghost use Rattle.vcl_library.specs.Functions.{std_functions};
 ghost use Rattle.wire.specs.Causes.{Rose};
 ghost use Rattle.world.specs.Keeping.{MayAdd};
-ghost use Rattle.varn_serve.specs.Endings.{is_full};
 ghost use Rattle.varn_serve.specs.Run.{CameTo, EndsAs, GaveFor, IsComplete, RanBy, is_full_status};
 
 use crate::ending::{Served, Status};
 use crate::programs::{SharedPrograms, stocked_boot};
-use crate::running::{finished, serve_stocked, stopped, unbooted};
+use crate::running::{LinkOf, finished, serve_stocked, stopped, unbooted};
 use command_line::ServeOptions;
+use server::Keeper;
 use std::alloc::{AllocError, Global};
 use std::sync::Wait;
 use std::thread::Threads;
@@ -23,23 +22,29 @@ use wire::{Dialer, Sink};
 use world::{Gate, World};
 
 // The run, or want of memory for the table.
-fn try_serve<R: Threads + Wait + Sync, W: World + Send, G: Gate + Sync, S: Sink>(
+fn try_serve<
+    R: Threads + Wait + Sync,
+    W: World + Send,
+    G: Gate + Sync,
+    S: Sink,
+    N: Keeper<LinkOf<W>> + Send + Sync,
+>(
     rt: &R,
     alloc: Global,
     order: &ServeOptions,
     world: &mut W,
     gate: &G,
     sink: &mut S,
-) -> Result<Served, AllocError>
+) -> Result<Served<N>, AllocError>
 where
     W::Listener: Send,
     W::Dialer: Sync,
     W::Clock: Sync,
     <W::Dialer as Dialer>::Link: Send,
     ensures came { IfOk result (λ served. CameTo (RanBy (IsUnused W.Dialer.talks W.Dialer.dial_faults W.Dialer.read_faults W.Dialer.write_faults W.Clock.readings W.Clock.words)
-        (told_by W.Dialer.Link.flow W.Dialer.Link.read_faults W.Dialer.Link.write_faults W.Dialer.Link.peer W.Dialer.Link.is_open) W.Dialer.talks W.Dialer.dial_faults W.Clock.readings W.Clock.words (told_by W.Listener.Link.flow W.Listener.Link.read_faults W.Listener.Link.write_faults W.Listener.Link.peer W.Listener.Link.is_open)
-        (record { links = W.links world.old; kept = W.kept world.old; kits = W.kits world.old }) (record { links = W.links world.new; kept = W.kept world.new; kits = W.kits world.new }))
-        (record { links = W.links world.old; kept = W.kept world.old; kits = W.kits world.old }) (record { links = W.links world.new; kept = W.kept world.new; kits = W.kits world.new })
+        (told_by W.Dialer.Link.flow W.Dialer.Link.read_faults W.Dialer.Link.write_faults W.Dialer.Link.peer W.Dialer.Link.is_open) W.Dialer.talks W.Dialer.dial_faults W.Clock.readings W.Clock.words (told_by W.Listener.Link.flow W.Listener.Link.read_faults W.Listener.Link.write_faults W.Listener.Link.peer W.Listener.Link.is_open) N.Told
+        (W.kits world.old) (W.kits world.new))
+        (W.kits world.old) (W.kits world.new)
         (W.files world.old) std_functions order.now served) }
     ensures ends { IfOk result (λ served. EndsAs (record {
       read_failed = Rose (W.shelf_faults world.old) (W.shelf_faults world.new);
@@ -49,9 +54,9 @@ where
       held = S.held sink.old;
       holds = S.held sink.new;
     }) (W.files world.old) std_functions order.now served served.status) }
-    ensures within { IfOk result (λ served. length served.transcripts ≤ order.now.conns) }
-    ensures given { IfOk result (λ served. GaveFor (W.given world.old) (W.given world.new) (length served.transcripts)) }
-    ensures full { IfOk result (λ served. is_full_status served.status ≡ list_any is_full served.transcripts) }
+    ensures within { IfOk result (λ served. served.connections ≤ order.now.conns) }
+    ensures given { IfOk result (λ served. GaveFor (W.given world.old) (W.given world.new) served.connections) }
+    ensures full { IfOk result (λ served. is_full_status served.status ≡ served.tally.found_full) }
     ensures ports { IfOk result (λ served. MayAdd (W.ports world.old) (W.ports world.new) order.now.port) }
     ensures unchanged { OnErr result ((world.new ≡ world.old) × (sink.new ≡ sink.old)) }
 {
@@ -60,33 +65,32 @@ where
         Ok(stocked) => stocked,
         Err(error) => return Ok(unbooted(alloc, error)),
     };
-    match serve_stocked::<R, W, G, SharedPrograms, Library, Run>(
+    match serve_stocked::<R, W, G, SharedPrograms, Library, Run, N>(
         rt, alloc, order, boot, stock, gate, world,
     ) {
-        Ok(outcome) => Ok(finished(alloc, outcome, sink)),
+        Ok(outcome) => Ok(finished::<LinkOf<W>, N, S>(alloc, outcome, sink)),
         Err(status) => Ok(stopped(alloc, status, None)),
     }
 }
 
 /// Serves connections as the order says, and writes how many rounds they had. The texts of VCL may call the functions of the modules
 /// `std` and `cookie`. The call may wait for good.
-pub fn serve_with_std<R: Threads + Wait + Sync, W: World + Send, G: Gate + Sync, S: Sink>(
-    rt: &R,
-    alloc: Global,
-    order: &ServeOptions,
-    world: &mut W,
-    gate: &G,
-    sink: &mut S,
-) -> Served
+pub fn serve_with_std<
+    R: Threads + Wait + Sync,
+    W: World + Send,
+    G: Gate + Sync,
+    S: Sink,
+    N: Keeper<LinkOf<W>> + Send + Sync,
+>(rt: &R, alloc: Global, order: &ServeOptions, world: &mut W, gate: &G, sink: &mut S) -> Served<N>
 where
     W::Listener: Send,
     W::Dialer: Sync,
     W::Clock: Sync,
     <W::Dialer as Dialer>::Link: Send,
     ensures came { CameTo (RanBy (IsUnused W.Dialer.talks W.Dialer.dial_faults W.Dialer.read_faults W.Dialer.write_faults W.Clock.readings W.Clock.words)
-        (told_by W.Dialer.Link.flow W.Dialer.Link.read_faults W.Dialer.Link.write_faults W.Dialer.Link.peer W.Dialer.Link.is_open) W.Dialer.talks W.Dialer.dial_faults W.Clock.readings W.Clock.words (told_by W.Listener.Link.flow W.Listener.Link.read_faults W.Listener.Link.write_faults W.Listener.Link.peer W.Listener.Link.is_open)
-        (record { links = W.links world.old; kept = W.kept world.old; kits = W.kits world.old }) (record { links = W.links world.new; kept = W.kept world.new; kits = W.kits world.new }))
-        (record { links = W.links world.old; kept = W.kept world.old; kits = W.kits world.old }) (record { links = W.links world.new; kept = W.kept world.new; kits = W.kits world.new })
+        (told_by W.Dialer.Link.flow W.Dialer.Link.read_faults W.Dialer.Link.write_faults W.Dialer.Link.peer W.Dialer.Link.is_open) W.Dialer.talks W.Dialer.dial_faults W.Clock.readings W.Clock.words (told_by W.Listener.Link.flow W.Listener.Link.read_faults W.Listener.Link.write_faults W.Listener.Link.peer W.Listener.Link.is_open) N.Told
+        (W.kits world.old) (W.kits world.new))
+        (W.kits world.old) (W.kits world.new)
         (W.files world.old) std_functions order.now result }
     ensures ends { EndsAs (record {
       read_failed = Rose (W.shelf_faults world.old) (W.shelf_faults world.new);
@@ -104,9 +108,9 @@ where
       held = S.held sink.old;
       holds = S.held sink.new;
     }) (W.files world.old) std_functions order.now result }
-    ensures within { length result.transcripts ≤ order.now.conns }
-    ensures given { GaveFor (W.given world.old) (W.given world.new) (length result.transcripts) }
-    ensures full { is_full_status result.status ≡ list_any is_full result.transcripts }
+    ensures within { result.connections ≤ order.now.conns }
+    ensures given { GaveFor (W.given world.old) (W.given world.new) result.connections }
+    ensures full { is_full_status result.status ≡ result.tally.found_full }
     ensures ports { MayAdd (W.ports world.old) (W.ports world.new) order.now.port }
 {
     match try_serve(rt, alloc, order, world, gate, sink) {

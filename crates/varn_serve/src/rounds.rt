@@ -1,27 +1,26 @@
 // What connections came to.
-ghost use Rattle.std.specs.Prelude.{◌≡◌, IfOk};
-ghost use Rattle.std.specs.List.{list_any};
+ghost use Rattle.std.specs.Prelude.{◌≡◌, List, IfOk};
+ghost use Rattle.std.specs.List.{AllZip};
 ghost use Rattle.wire.specs.Causes.{Rose};
-ghost use Rattle.varn_serve.specs.Endings.{by_reason, is_full, rounds_in, rounds_line, verdict_of, Reports};
+ghost use Rattle.server.specs.Keeping.{tally_of};
+ghost use Rattle.server.specs.declared.keeping.Event.{Event};
+ghost use Rattle.crew.specs.Parts.{all_events};
+ghost use Rattle.varn_serve.specs.Endings.{by_reason, rounds_line, verdict_of, Reports};
 
 use crate::ending::Status;
-use connection::Ended;
 use entrance::Reason;
-use server::Transcript;
+use server::{Keeper, Tally};
 use std::alloc::{AllocError, Global};
 use wire::{Sink, write_all};
 
-// Whether a call of the connection's last round didn't fit the history.
-fn is_full(transcript: &Transcript) -> bool
-    ensures { result ≡ is_full transcript.now }
+/// What these keepers counted together.
+pub(crate) fn tally_all<L, N: Keeper<L>>(keepers: &[N]) -> Tally
+    ensures { (told : List (List (Event L))) → AllZip N.Told keepers.now told → result ≡ tally_of (all_events told) }
 {
-    matches!(transcript.ended, Ended::HistoryFull)
-}
-
-fn has_full(transcripts: &[Transcript]) -> bool
-    ensures { result ≡ list_any is_full transcripts.now }
-{
-    transcripts.iter().any(|transcript| is_full(transcript))
+    match keepers {
+        [] => Tally::none(),
+        [first, rest @ ..] => first.tally().plus(tally_all::<L, N>(rest)),
+    }
 }
 
 // How a run ends whose workers left for this reason, but for what connections came to.
@@ -36,42 +35,31 @@ fn by_reason(reason: Reason) -> Status
 }
 
 /// How a run ends whose workers left for this reason.
-pub(crate) fn verdict(reason: Reason, transcripts: &[Transcript]) -> Status
-    ensures { result ≡ verdict_of reason transcripts.now }
+pub(crate) fn verdict(reason: Reason, tally: Tally) -> Status
+    ensures { result ≡ verdict_of reason tally }
 {
-    if has_full(transcripts) {
+    if tally.found_full {
         Status::HistoryFull
     } else {
         by_reason(reason)
     }
 }
 
-// How many rounds all connections had.
-fn rounds_in(transcripts: &[Transcript]) -> u128
-    ensures { result ≡ rounds_in transcripts.now }
-{
-    let mut rounds: u128 = 0;
-    for transcript in transcripts {
-        rounds += transcript.rounds.as_slice().len() as u128;
-    }
-    rounds
-}
-
-fn rounds_line(alloc: Global, transcripts: &[Transcript]) -> Result<Vec<u8>, AllocError>
-    ensures { IfOk result (λ line. line.items ≡ rounds_line (rounds_in transcripts.now)) }
+fn rounds_line(alloc: Global, rounds: u64) -> Result<Vec<u8>, AllocError>
+    ensures { IfOk result (λ line. line.items ≡ rounds_line rounds) }
 {
     let mut line = Vec::new(alloc);
     line.extend_from_slice(b"rounds ")?;
-    line.extend_from_slice(rounds_in(transcripts).to_string(alloc)?.as_bytes())?;
+    line.extend_from_slice(rounds.to_string(alloc)?.as_bytes())?;
     line.extend_from_slice(b"\n")?;
     Ok(line)
 }
 
 /// Writes how many rounds all connections had, and says how the run ends that was whole but for that.
-pub(crate) fn report<S: Sink>(alloc: Global, sink: &mut S, transcripts: &[Transcript]) -> Status
-    ensures { Reports (S.held sink.old) (S.held sink.new) (Rose (S.faults sink.old) (S.faults sink.new)) transcripts.now result }
+pub(crate) fn report<S: Sink>(alloc: Global, sink: &mut S, rounds: u64) -> Status
+    ensures { Reports (S.held sink.old) (S.held sink.new) (Rose (S.faults sink.old) (S.faults sink.new)) rounds result }
 {
-    match rounds_line(alloc, transcripts) {
+    match rounds_line(alloc, rounds) {
         Ok(line) => match write_all(sink, line.as_slice()) {
             Ok(()) => Status::Done,
             Err(_) => Status::WriteFault,

@@ -1,14 +1,18 @@
 // A run over a row's world (`run_worlds.rt`), and what is said of it.
 use crate::holding::HoldingGate;
 use crate::run_worlds::{order_of, world_of};
-use crate::telling::{push_links, push_quoted};
+use crate::telling::push_quoted;
 use row_settings::numbers;
+use server::{Event, Recorder};
 use std::alloc::{AllocError, Global};
 use std::sync::Wait;
 use std::thread::Threads;
 use varn_serve::{Served, serve_with_std};
 use wire::FailingSink;
-use world::{FailingWorld, Gate, OpenGate};
+use world::{AcceptedLink, FailingWorld, Gate, OpenGate};
+
+/// What a run comes to whose keepers keep all that they are told.
+type Ran = Served<Recorder<AcceptedLink>>;
 
 fn sink_of(alloc: Global, settings: &str) -> Result<FailingSink, AllocError> {
     let fails = numbers(alloc, settings, "writes")?;
@@ -22,12 +26,12 @@ fn run<R: Threads + Wait + Sync, G: Gate + Sync>(
     gate: &G,
     world: &mut FailingWorld,
     sink: &mut FailingSink,
-) -> Result<Served, AllocError> {
+) -> Result<Ran, AllocError> {
     let order = order_of(alloc, settings)?;
     Ok(serve_with_std(rt, alloc, &order, world, gate, sink))
 }
 
-fn push_status(out: &mut String, served: &Served) -> Result<(), AllocError> {
+fn push_status(out: &mut String, served: &Ran) -> Result<(), AllocError> {
     write!(out, "{}", served.status.code())?;
     match served.note {
         Some(note) => write!(out, " place {} kind {}", note.place, note.kind.number()),
@@ -40,9 +44,37 @@ fn push_written(alloc: Global, out: &mut String, written: &[u8]) -> Result<(), A
     push_quoted(alloc, out, written)
 }
 
-fn push_connections(out: &mut String, served: &Served) -> Result<(), AllocError> {
-    for transcript in served.transcripts.as_slice() {
-        write!(out, " {:?} {}", transcript.ended, transcript.rounds.len())?;
+// What each link took, the one that was handed over last first.
+fn push_links(alloc: Global, out: &mut String, served: &Ran) -> Result<(), AllocError> {
+    for keeper in served.keepers.as_slice().iter().rev() {
+        for event in keeper.events.as_slice().iter().rev() {
+            if let Event::Over(link, _) = event {
+                out.push_str(" took ")?;
+                push_quoted(alloc, out, link.took())?;
+            }
+        }
+    }
+    Ok(())
+}
+
+// How each connection of a worker ended, and how many rounds it had.
+fn push_ends(out: &mut String, events: &[Event<AcceptedLink>]) -> Result<(), AllocError> {
+    let mut rounds: u64 = 0;
+    for event in events {
+        match event {
+            Event::Led(_) => rounds = rounds.saturating_add(1),
+            Event::Over(_, ended) => {
+                write!(out, " {ended:?} {rounds}")?;
+                rounds = 0;
+            }
+        }
+    }
+    Ok(())
+}
+
+fn push_connections(out: &mut String, served: &Ran) -> Result<(), AllocError> {
+    for keeper in served.keepers.as_slice() {
+        push_ends(out, keeper.events.as_slice())?;
     }
     write!(out, " entries {}", served.history.as_slice().len())
 }
@@ -63,14 +95,14 @@ pub fn run_shown<R: Threads + Wait + Sync>(
 
 fn said(
     alloc: Global,
-    served: &Served,
+    served: &Ran,
     world: &FailingWorld,
     written: &[u8],
 ) -> Result<String, AllocError> {
     let mut out = String::new(alloc);
     push_status(&mut out, served)?;
     push_written(alloc, &mut out, written)?;
-    push_links(alloc, &mut out, world.latest_link())?;
+    push_links(alloc, &mut out, served)?;
     push_connections(&mut out, served)?;
     write!(out, " ports {:?}", world.ports())?;
     Ok(out)
@@ -93,7 +125,7 @@ pub fn held_shown<R: Threads + Wait + Sync>(
 
 fn held_said(
     alloc: Global,
-    served: &Served,
+    served: &Ran,
     written: &[u8],
     went_well: bool,
 ) -> Result<String, AllocError> {

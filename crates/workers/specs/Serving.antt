@@ -1,33 +1,35 @@
 -- What workers do.
-use Rattle.std.specs.Prelude.{◌≡◌, ℕ, ◌+◌, false, List, [], ◌∷◌, ◌++◌, Option, Some}
+use Rattle.std.specs.Prelude.{◌≡◌, ℕ, ◌+◌, List, [], ◌∷◌, ◌++◌, length, Option, Some}
+use Rattle.std.specs.List.{flat_map}
 use Rattle.entrance.specs.Arriving.{IsNew}
 use Rattle.wire.specs.Telling.{LinkTold}
+use Rattle.workers.specs.declared.post.Post.{Post}
 
--- Below, a connection is served in this way, and a link is told so.
-module _ {H K T : Type 0} (Serves : H → H → LinkTold → LinkTold → T → Type 0) (told : K → LinkTold) where
-  -- One connection was served and ended, from what was told of it when it was new to what its link tells now.
-  pub record Served (before after : H) (link : K) (transcript : T) : Type 0 where
+-- A keeper was told these events, behind all that it was told before.
+abbrev pub IsTold : {N E : Type 0} → (N → List E → Type 0) → N → N → List E → Type 0
+IsTold {E = E} Told old new events = (before : List E) → Told old before → Told new (before ++ events)
+
+-- Below, a connection is served in this way, and has these events.
+module _ {H E : Type 0} (Serves : H → H → LinkTold → List E → Type 0) where
+  -- One connection was accepted and served.
+  pub record Served (before after : H) (events : List E) : Type 0 where
     pub opening : LinkTold
     pub address : List ℕ
     pub is_new : IsNew opening address
-    pub serves : Serves before after opening (told link) transcript
-    pub closed : (told link).is_open ≡ false
+    pub serves : Serves before after opening events
 
-  -- Connections were served, one behind another, each from the shift that the one before it left.
-  abbrev pub AllServed : H → H → List K → List T → Type 0
-  AllServed before after [] [] = after ≡ before
-  AllServed before after (link ∷ links) (transcript ∷ transcripts) =
-      (mid : H) × Served before mid link transcript × AllServed mid after links transcripts
-  AllServed before after links transcripts = ⊥
+  -- Connections were served, one behind another, each from the shift that the one before it left. Each has a list of events.
+  abbrev pub AllServed : H → H → List (List E) → Type 0
+  AllServed before after [] = after ≡ before
+  AllServed before after (events ∷ others) = (mid : H) × Served before mid events × AllServed mid after others
 
-  -- A worker has served connections, which it keeps behind those that it had, each with its transcript at the same place.
-  pub record Works (shift shift' : Option H) (links links' : List K) (transcripts transcripts' : List T) : Type 0 where
-    pub before : H
-    pub after : H
-    pub had : shift ≡ Some before
-    pub has : shift' ≡ Some after
-    pub more_links : List K
-    pub more : List T
-    pub links_are : links' ≡ links ++ more_links
-    pub transcripts_are : transcripts' ≡ transcripts ++ more
-    pub served : AllServed before after more_links more
+  -- A worker has served connections: its keeper was told of them, in their order, and its share has grown by their number.
+  pub record Works {N : Type 0} (Told : N → List E → Type 0) (post post' : Option (Post H N)) (amount amount' : ℕ) : Type 0 where
+    pub before : Post H N
+    pub after : Post H N
+    pub had : post ≡ Some before
+    pub has : post' ≡ Some after
+    pub came : List (List E)
+    pub served : AllServed before.shift after.shift came
+    pub told : IsTold Told before.keeper after.keeper (flat_map (λ events. events) came)
+    pub counted : amount' ≡ amount + length came

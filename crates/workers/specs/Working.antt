@@ -1,5 +1,5 @@
--- What a worker has when it begins, when it has left, and in between.
-use Rattle.std.specs.Prelude.{◌≡◌, ◌<◌, ℕ, ◌+◌, Option, Some, None, Result, Ok, Err, IsSome, IsSomeAnd, vec_len}
+-- What a worker has when it begins, and when it has left.
+use Rattle.std.specs.Prelude.{◌≡◌, ◌<◌, ℕ, ◌+◌, List, Option, Some, None, Result, Ok, Err, IsSomeAnd}
 use Rattle.std.specs.declared.alloc.AllocError.{AllocError}
 use Rattle.wire.specs.Telling.{LinkTold}
 use Rattle.workers.specs.Serving.{Works}
@@ -12,23 +12,17 @@ LeavesSo None before after = ⊥
 LeavesSo (Some (Ok leave)) before after = after ≡ before + 1
 LeavesSo (Some (Err error)) before after = after ≡ before
 
-module _ {H K T A B : Type 0} where
+module _ {H N A B : Type 0} where
   -- it may begin: it may serve a connection with its shift, and has a part of each book
-  pub record IsReady (Ready : H → Type 0) (worker : Worker H K T A B) : Type 0 where
-    pub shift : IsSomeAnd worker.shift Ready
+  pub record IsReady (Ready : H → Type 0) (worker : Worker H N A B) : Type 0 where
+    pub shift : IsSomeAnd worker.post (λ post. Ready post.shift)
     pub accepted : 0 < worker.accepted.parts
     pub left : 0 < worker.left.parts
 
   -- what it did from its beginning until it left
-  pub record HasWorked (Ready : H → Type 0) (Serves : H → H → LinkTold → LinkTold → T → Type 0) (told : K → LinkTold) (old new : Worker H K T A B) : Type 0 where
-    pub works : Works Serves told old.shift new.shift old.links.items new.links.items old.transcripts.items new.transcripts.items
-    pub ready : IsSomeAnd new.shift Ready
-    pub counted : new.accepted.amount + vec_len old.transcripts ≡ old.accepted.amount + vec_len new.transcripts
+  pub record HasWorked {E : Type 0} (Ready : H → Type 0) (Serves : H → H → LinkTold → List E → Type 0) (Told : N → List E → Type 0) (old new : Worker H N A B) : Type 0 where
+    pub works : Works Serves Told old.post new.post old.accepted.amount new.accepted.amount
+    pub ready : IsSomeAnd new.post (λ post. Ready post.shift)
     pub leaves : LeavesSo new.leave old.left.amount new.left.amount
     pub accepted : new.accepted.parts ≡ old.accepted.parts
     pub left : new.left.parts ≡ old.left.parts
-
-  -- what it leaves is counted: it has a shift, and its share says how many transcripts it has
-  pub record IsCounted (worker : Worker H K T A B) : Type 0 where
-    pub shift : IsSome worker.shift
-    pub count : worker.accepted.amount ≡ vec_len worker.transcripts

@@ -1,105 +1,59 @@
 // What workers leave, joined in their order.
-ghost use Rattle.std.specs.Prelude.{◌≡◌, ◌+◌, ◌<◌, ◌≤◌, ◌++◌, ◌∷◌, [], false, Some, All, map, sum_by, vec_len, vec_capacity};
-ghost use Rattle.std.specs.List.{flat_map};
-ghost use Rattle.wire.specs.Talks.{Adds};
-ghost use Rattle.entrance.specs.HandingBack.{kept_after};
-ghost use Rattle.workers.specs.Working.{IsCounted};
+ghost use Rattle.std.specs.Prelude.{◌≡◌, ◌+◌, ◌<◌, ◌≤◌, ◌++◌, ◌∷◌, [], IsSome, Some, All, map, sum_by, vec_len, vec_capacity};
 
+use crate::post::Post;
 use crate::worker::Worker;
-use entrance::{Quota, hand_back};
-use std::sync::ledger::{Ledger, Share, Total};
-use world::{Listener, World};
+use entrance::Quota;
+use std::sync::ledger::{Ledger, Share};
 
-type LinkOf<W> = <<W as World>::Listener as Listener>::Link;
-
-/// What workers leave, joined in their order: their shifts, and what is told of the connections that they have served; and the
-/// shares of all.
+/// What workers leave, joined in their order: their posts, and the shares of all.
 #[derive(Drop)]
-pub struct Joined<H, T, A: Quota, B: Ledger> {
-    pub shifts: Vec<H>,
-    pub transcripts: Vec<T>,
+pub struct Joined<H, N, A: Quota, B: Ledger> {
+    pub posts: Vec<Post<H, N>>,
     pub accepted: Share<A>,
     pub left: Share<B>,
 }
 
 // What one worker leaves, behind what others left.
-fn join_one<W: World, H: Drop, T: Drop, A: Quota, B: Ledger>(
-    world: &mut W,
-    total: &Total<A>,
-    worker: Worker<H, LinkOf<W>, T, A, B>,
-    joined: &mut Joined<H, T, A, B>,
+fn join_one<H: Drop, N: Drop, A: Quota, B: Ledger>(
+    worker: Worker<H, N, A, B>,
+    joined: &mut Joined<H, N, A, B>,
 )
-    requires counted { IsCounted worker }
-    requires closed { All (λ link. W.Listener.Link.is_open link ≡ false) worker.links.items }
-    requires so_far { joined.old.accepted.amount ≡ vec_len joined.old.transcripts }
-    requires room { total.now.amount ≤ vec_capacity joined.old.transcripts }
-    requires seats { vec_len joined.old.shifts < vec_capacity joined.old.shifts }
-    ensures links { Adds (W.links world.old) (W.links world.new) worker.links.items }
-    ensures kept { W.kept world.new ≡ kept_after (W.kept world.old) worker.links.items }
-    ensures given { W.given world.new ≡ W.given world.old }
-    ensures ports { W.ports world.new ≡ W.ports world.old }
-    ensures kits { W.kits world.new ≡ W.kits world.old }
-    ensures files { W.files world.new ≡ W.files world.old }
-    ensures listens { W.listen_faults world.new ≡ W.listen_faults world.old }
-    ensures shelves { W.shelf_faults world.new ≡ W.shelf_faults world.old }
-    ensures ended { W.ended world.new ≡ W.ended world.old }
-    ensures shift { map Some joined.new.shifts.items ≡ map Some joined.old.shifts.items ++ worker.shift ∷ [] }
-    ensures transcripts { joined.new.transcripts.items ≡ joined.old.transcripts.items ++ worker.transcripts.items }
-    ensures so_far { joined.new.accepted.amount ≡ vec_len joined.new.transcripts }
-    ensures accepted { joined.new.accepted.parts ≡ joined.old.accepted.parts + worker.accepted.parts }
+    requires has { IsSome worker.post }
+    requires seats { vec_len joined.old.posts < vec_capacity joined.old.posts }
+    ensures posts { map Some joined.new.posts.items ≡ map Some joined.old.posts.items ++ worker.post ∷ [] }
+    ensures accepted { (joined.new.accepted.amount ≡ joined.old.accepted.amount + worker.accepted.amount) × (joined.new.accepted.parts ≡ joined.old.accepted.parts + worker.accepted.parts) }
     ensures left { (joined.new.left.amount ≡ joined.old.left.amount + worker.left.amount) × (joined.new.left.parts ≡ joined.old.left.parts + worker.left.parts) }
-    ensures room { vec_capacity joined.old.transcripts ≤ vec_capacity joined.new.transcripts }
-    ensures seats { (vec_len joined.new.shifts ≡ vec_len joined.old.shifts + 1) × (vec_capacity joined.new.shifts ≡ vec_capacity joined.old.shifts) }
+    ensures seats { (vec_len joined.new.posts ≡ vec_len joined.old.posts + 1) × (vec_capacity joined.new.posts ≡ vec_capacity joined.old.posts) }
 {
     let Worker {
-        shift,
-        links,
-        mut transcripts,
+        post,
         accepted,
         left,
         leave: _,
     } = worker;
     joined.accepted.merge(accepted);
-    total.audit(&mut joined.accepted);
     joined.left.merge(left);
-    hand_back(world, links);
-    if joined.transcripts.append(&mut transcripts).is_err() {
-        unreachable!()
-    }
-    let Some(shift) = shift else { unreachable!() };
-    joined.shifts.push_reserved(shift);
+    let Some(post) = post else { unreachable!() };
+    joined.posts.push_reserved(post);
 }
 
-/// Takes down workers that have left, in their order: their links, each of which was ended, go back to the world, and all else that they leave is joined
-/// behind what was joined before. It takes no memory.
-pub fn disband<W: World, H: Drop, T: Drop, A: Quota, B: Ledger>(
-    world: &mut W,
-    total: &Total<A>,
-    workers: Vec<Worker<H, LinkOf<W>, T, A, B>>,
-    joined: &mut Joined<H, T, A, B>,
+/// Takes down workers that have left, in their order: all that they leave is joined behind what was joined before. It takes no
+/// memory.
+pub fn disband<H: Drop, N: Drop, A: Quota, B: Ledger>(
+    workers: Vec<Worker<H, N, A, B>>,
+    joined: &mut Joined<H, N, A, B>,
 )
-    requires counted { All IsCounted workers.items }
-    requires closed { All (λ worker. All (λ link. W.Listener.Link.is_open link ≡ false) worker.links.items) workers.items }
-    requires so_far { joined.old.accepted.amount ≡ vec_len joined.old.transcripts }
-    requires room { total.now.amount ≤ vec_capacity joined.old.transcripts }
-    requires seats { vec_len joined.old.shifts + vec_len workers ≤ vec_capacity joined.old.shifts }
-    ensures links { Adds (W.links world.old) (W.links world.new) (flat_map (λ worker. worker.links.items) workers.items) }
-    ensures kept { W.kept world.new ≡ kept_after (W.kept world.old) (flat_map (λ worker. worker.links.items) workers.items) }
-    ensures given { W.given world.new ≡ W.given world.old }
-    ensures ports { W.ports world.new ≡ W.ports world.old }
-    ensures kits { W.kits world.new ≡ W.kits world.old }
-    ensures files { W.files world.new ≡ W.files world.old }
-    ensures listens { W.listen_faults world.new ≡ W.listen_faults world.old }
-    ensures shelves { W.shelf_faults world.new ≡ W.shelf_faults world.old }
-    ensures ended { W.ended world.new ≡ W.ended world.old }
-    ensures shifts { map Some joined.new.shifts.items ≡ map Some joined.old.shifts.items ++ map (λ worker. worker.shift) workers.items }
-    ensures transcripts { joined.new.transcripts.items ≡ joined.old.transcripts.items ++ flat_map (λ worker. worker.transcripts.items) workers.items }
-    ensures so_far { joined.new.accepted.amount ≡ vec_len joined.new.transcripts }
-    ensures accepted { joined.new.accepted.parts ≡ joined.old.accepted.parts + sum_by (λ worker. worker.accepted.parts) workers.items }
+    requires have { All (λ worker. IsSome worker.post) workers.items }
+    requires seats { vec_len joined.old.posts + vec_len workers ≤ vec_capacity joined.old.posts }
+    ensures posts { map Some joined.new.posts.items ≡ map Some joined.old.posts.items ++ map (λ worker. worker.post) workers.items }
+    ensures accepted { joined.new.accepted.amount ≡ joined.old.accepted.amount + sum_by (λ worker. worker.accepted.amount) workers.items }
+    ensures accepted_parts { joined.new.accepted.parts ≡ joined.old.accepted.parts + sum_by (λ worker. worker.accepted.parts) workers.items }
     ensures left { joined.new.left.amount ≡ joined.old.left.amount + sum_by (λ worker. worker.left.amount) workers.items }
     ensures left_parts { joined.new.left.parts ≡ joined.old.left.parts + sum_by (λ worker. worker.left.parts) workers.items }
+    ensures count { vec_len joined.new.posts ≡ vec_len joined.old.posts + vec_len workers }
 {
     for worker in workers {
-        join_one(world, total, worker, joined);
+        join_one(worker, joined);
     }
 }

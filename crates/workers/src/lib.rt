@@ -8,12 +8,14 @@
 #![tactic(auto)]
 
 mod joining;
+mod post;
 mod service;
 mod serving;
 mod worker;
 mod working;
 
 pub use joining::{Joined, disband};
+pub use post::Post;
 pub use service::Service;
 pub use serving::serve_worker;
 pub use worker::{Leave, Worker};

@@ -1,4 +1,5 @@
 // A worker, and how it leaves.
+use crate::post::Post;
 use entrance::Quota;
 use std::alloc::AllocError;
 use std::sync::ledger::{Ledger, Share};
@@ -10,13 +11,11 @@ pub enum Leave {
     Shut,
 }
 
-/// A worker: its shift, which is out only while it serves a connection; the connections that it has served and what is told of
-/// them; its shares of the door's books; and how it left, once it has.
+/// A worker: its post, which is out only while it serves a connection; its shares of the door's books; and how it left, once it
+/// has. It keeps nothing of the connections that it has served.
 #[derive(Drop)]
-pub struct Worker<H, K, T, A: Quota, B: Ledger> {
-    pub shift: Option<H>,
-    pub links: Vec<K>,
-    pub transcripts: Vec<T>,
+pub struct Worker<H, N, A: Quota, B: Ledger> {
+    pub post: Option<Post<H, N>>,
     pub accepted: Share<A>,
     pub left: Share<B>,
     pub leave: Option<Result<Leave, AllocError>>,

@@ -1,7 +1,6 @@
 // All workers, side by side.
 ghost use Rattle.std.specs.Prelude.{◌≡◌, ◌<◌, ℕ, All, length, slice_index_or};
 ghost use denote.Param.Send.{IsSync, IsSend};
-ghost use Rattle.wire.specs.Telling.{told_by};
 ghost use Rattle.workers.specs.Working.{IsReady, HasWorked};
 
 use crate::service::Service;
@@ -19,10 +18,10 @@ fn work_out<R: Wait, L: Listener, S: Service<L::Link, P>, P, A: Quota, B: Ledger
     service: &S,
     site: &P,
     door: &Door<L, A, B>,
-    worker: &mut Worker<S::Shift, L::Link, S::Transcript, A, B>,
+    worker: &mut Worker<S::Shift, S::Keeper, A, B>,
 )
     requires { IsReady (S.Ready service.now site.now) worker.old }
-    ensures { HasWorked (S.Ready service.now site.now) (S.Serves service.now site.now) (told_by L.Link.flow L.Link.read_faults L.Link.write_faults L.Link.peer L.Link.is_open) worker.old worker.new }
+    ensures { HasWorked (S.Ready service.now site.now) (S.Serves service.now site.now) S.Told worker.old worker.new }
 {
     let leave = serve_worker(rt, service, site, door, worker);
     worker.leave = Some(leave);
@@ -41,20 +40,20 @@ pub fn work<
     service: &S,
     site: &P,
     door: &Door<L, A, B>,
-    workers: &mut [Worker<S::Shift, L::Link, S::Transcript, A, B>],
+    workers: &mut [Worker<S::Shift, S::Keeper, A, B>],
 )
     requires { All (IsReady (S.Ready service.now site.now)) workers.old }
     ensures { (i : ℕ) (d : _) → i < length workers.old
-        → HasWorked (S.Ready service.now site.now) (S.Serves service.now site.now) (told_by L.Link.flow L.Link.read_faults L.Link.write_faults L.Link.peer L.Link.is_open) (slice_index_or workers.old i d) (slice_index_or workers.new i d) }
+        → HasWorked (S.Ready service.now site.now) (S.Serves service.now site.now) S.Told (slice_index_or workers.old i d) (slice_index_or workers.new i d) }
 {
     let threads = workers.len().max(1);
     thread::for_each_mut(
         rt,
         workers,
         threads,
-        &|_, worker: &mut Worker<S::Shift, L::Link, S::Transcript, A, B>|
+        &|_, worker: &mut Worker<S::Shift, S::Keeper, A, B>|
             requires { IsReady (S.Ready service.now site.now) worker.now }
-            ensures { HasWorked (S.Ready service.entry.now site.entry.now) (S.Serves service.entry.now site.entry.now) (told_by L.Link.flow L.Link.read_faults L.Link.write_faults L.Link.peer L.Link.is_open) worker.entry.now worker.exit.now }
+            ensures { HasWorked (S.Ready service.entry.now site.entry.now) (S.Serves service.entry.now site.entry.now) S.Told worker.entry.now worker.exit.now }
         { work_out(rt, service, site, door, worker) },
     );
 }

@@ -13,7 +13,7 @@ use Rattle.crew.proofs.hiring.hire.Goals as goal
 pub hiring-init : goal.hiring-init
 hiring-init g c = record {
   pass = c.requires.pass;
-  hired = hires_none _ _ _ _ _ _ (known c.args.root.now) _ c.requires.none.0;
+  hired = hires_none _ _ _ _ _ _ _ (known c.args.root.now) _ c.requires.none.0;
   below = let at = ap (λ (k : CallerKnows). k.upto) c.requires.first.knows in let fits = c.ranges.count.fits in omega arith;
   parts = (omega arith, omega arith);
   enough = c.requires.parts;
@@ -47,8 +47,8 @@ hiring-preserved g c =
     let same : (known c.hiring.root).setting ≡ (known c.args.root.now).setting = ap (λ (k : CallerKnows). k.setting) before.hired.knows in
     let one = subst (λ (setting : Option Beginning). OnOk c.hire_one.result (HiresOne (IsPassOf c.args.cache.now)
     (IsUnused g.W.Dialer.Dialer.talks g.W.Dialer.Dialer.dial_faults g.W.Dialer.Dialer.read_faults g.W.Dialer.Dialer.write_faults g.W.Clock.Clock.readings g.W.Clock.Clock.words)
-    g.H.Host.pass_of g.H.Host.kit_of setting c.hiring.number c.hiring.workers.items c.hire_one.new.workers.items)) same c.hire_one.ensures.hired in
-    let next = number_passed _ _ _ _ _ c.hire_one.result (c.hiring.number - 1) c.hiring.number (known c.args.root.now) (known c.hiring.root) (known c.hire_one.new.root) c.hiring.workers.items
+    g.H.Host.pass_of g.H.Host.kit_of g.H.Service.Told setting c.hiring.number c.hiring.workers.items c.hire_one.new.workers.items)) same c.hire_one.ensures.hired in
+    let next = number_passed _ _ _ _ _ _ c.hire_one.result (c.hiring.number - 1) c.hiring.number (known c.args.root.now) (known c.hiring.root) (known c.hire_one.new.root) c.hiring.workers.items
     c.hire_one.new.workers.items c.hiring.accepted.parts c.hire_one.new.accepted.parts c.hiring.left.parts c.hire_one.new.left.parts (vec_len c.hiring.workers)
     (vec_len c.hire_one.new.workers) before.hired (omega arith) before.below one c.hire_one.ensures.cut c.hire_one.ensures.parts c.hire_one.ensures.one c.hire_one.ensures.same in
     let p = next.parts.0 in
@@ -84,5 +84,5 @@ pub returns-clause-ready : goal.returns-clause-ready
 returns-clause-ready g c =
     let none : c.hiring.number ≡ 0 = omega arith in
     ready_all (IsPassOf c.args.cache.now) (IsUnused g.W.Dialer.Dialer.talks g.W.Dialer.Dialer.dial_faults g.W.Dialer.Dialer.read_faults g.W.Dialer.Dialer.write_faults g.W.Clock.Clock.readings g.W.Clock.Clock.words)
-    g.H.Host.pass_of g.H.Host.kit_of (g.H.Service.Ready c.args.host.now c.args.cache.now) (g.met.H.Host.ready c.args.host.now c.args.cache.now) (known c.args.root.now) (known c.hiring.root)
+    g.H.Host.pass_of g.H.Host.kit_of g.H.Service.Told (g.H.Service.Ready c.args.host.now c.args.cache.now) (g.met.H.Host.ready c.args.host.now c.args.cache.now) (known c.args.root.now) (known c.hiring.root)
     c.hiring.workers.items c.requires.first (rw none at c.hiring.invariant.hired)

@@ -10,7 +10,7 @@ abbrev pub invariant-hiring : goal.invariant-hiring
 invariant-hiring g l = record {
   pass : IsPassOf l.cache l.root;
   hired : Hires (IsPassOf l.cache) (IsUnused g.W.Dialer.Dialer.talks g.W.Dialer.Dialer.dial_faults g.W.Dialer.Dialer.read_faults g.W.Dialer.Dialer.write_faults g.W.Clock.Clock.readings g.W.Clock.Clock.words)
-      g.H.Host.pass_of g.H.Host.kit_of (known l.fn.root).setting l.number (known l.fn.root) (known l.root) l.workers.items;
+      g.H.Host.pass_of g.H.Host.kit_of g.H.Service.Told (known l.fn.root).setting l.number (known l.fn.root) (known l.root) l.workers.items;
   below : l.number < (known l.root).upto;
   parts : (l.accepted.parts + vec_len l.workers ≡ l.fn.accepted.parts) × (l.left.parts + vec_len l.workers ≡ l.fn.left.parts);
   enough : (l.number ≤ l.accepted.parts) × (l.number ≤ l.left.parts);

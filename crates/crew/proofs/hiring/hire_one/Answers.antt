@@ -7,16 +7,14 @@ pub returns-clause-hired : goal.returns-clause-hired
 returns-clause-hired g c =
     let knows = c.split-pass.ensures.new.1 in record {
       worker = record {
-        shift = Some c.begin_shift.result;
-        links = c.new.result;
-        transcripts = c.new-2.result;
+        post = Some (record { shift = c.begin_shift.result; keeper = c.begin_keeper.result });
         accepted = c.split_off.result;
         left = c.split_off-2.result;
         leave = None;
       };
       items = c.push_reserved.ensures.items;
       hired = record {
-        shift = c.begin_shift.result;
+        post = record { shift = c.begin_shift.result; keeper = c.begin_keeper.result };
         has = refl;
         pass = rw c.begin_shift.ensures.0 c.split-pass.ensures.new.0;
         fresh = rw c.begin_shift.ensures.0 (record {
@@ -34,8 +32,7 @@ returns-clause-hired g c =
           no_reading = c.in-Ok.ensures.readings;
           no_word = c.in-Ok.ensures.words;
         });
-        no_link = c.new.ensures.items;
-        no_transcript = (c.new-2.ensures.items, c.new-2.ensures.len);
+        untold = c.begin_keeper.ensures;
         accepted = (c.split_off.ensures.parts, c.split_off.ensures.amount);
         left = (c.split_off-2.ensures.parts, c.split_off-2.ensures.amount);
       };

@@ -7,9 +7,9 @@ use Rattle.crew.proofs.running.run_all.Goals as goal
 pub returns-clause-ran : goal.returns-clause-ran
 returns-clause-ran g c =
     λ beginning set.
-    let begun = c.take_down-transcripts.ensures.setting ∙ (c.employ.ensures.setting ∙ set) in
-    let legal = legal_of (known c.take_down-transcripts.new.root) (known c.close-history.result.1) c.close-history.result.0 beginning c.close-history.ensures.known c.close-history.ensures.legal begun in
-    rw (← c.employ.ensures.links, ← c.employ.ensures.kept, ← c.employ.ensures.kits) (c.take_down-transcripts.ensures.ran beginning c.close-history.result.0 begun c.close-history.ensures.history legal)
+    let begun = c.take_down-connections.ensures.setting ∙ (c.employ.ensures.setting ∙ set) in
+    let legal = legal_of (known c.take_down-connections.new.root) (known c.close-history.result.1) c.close-history.result.0 beginning c.close-history.ensures.known c.close-history.ensures.legal begun in
+    rw (← c.employ.ensures.kits) (c.take_down-connections.ensures.ran beginning c.close-history.result.0 begun c.close-history.ensures.history legal)
 
 pub returns-clause-stopped : goal.returns-clause-stopped
-returns-clause-stopped g c = rw (← c.employ.ensures.listens) c.take_down-transcripts.ensures.stopped
+returns-clause-stopped g c = rw (← c.employ.ensures.listens) c.take_down-connections.ensures.stopped

@@ -8,4 +8,4 @@ pub returns-in-Ok-clause-complete : goal.returns-in-Ok-clause-complete
 returns-in-Ok-clause-complete g c = is_complete _ _ _ c.args.order.now c.in-Ok.served c.in-Ok.ensures.ends c.in-Ok.ensures.full
 
 pub returns-in-Err-clause-complete : goal.returns-in-Err-clause-complete
-returns-in-Err-clause-complete g c = λ read listen write accepted fits. inr (ap (λ (s : Served). s.status) c.stopped.ensures)
+returns-in-Err-clause-complete g c = λ read listen write accepted fits. inr (ap (λ (s : Served g.row.N.Denot). s.status) c.stopped.ensures)

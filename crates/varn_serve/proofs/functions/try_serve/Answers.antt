@@ -1,5 +1,5 @@
 -- The programs of workers may cross threads, and what they do is what the trees of their texts mean.
-use Rattle.std.proofs.Common.{◌≡◌, ◌∙◌, ap, length, inl, inr}
+use Rattle.std.proofs.Common.{◌≡◌, ◌∙◌, ap, inl, inr}
 use Rattle.std.proofs.Crossing.{crosses}
 use denote.Param.Send.{sendable}
 use Rattle.vcl_library.specs.Functions.{std_functions}
@@ -37,27 +37,27 @@ returns-in-Ok-serve_stocked-clause-came g c =
     inr (record {
       boot = c.in-Ok.stocked.0;
       boots = rw same at c.in-Ok.ensures.boot;
-      ran = rw (c.finished.ensures.history, c.finished.ensures.transcripts, ← c.stocked_boot.ensures.links, ← c.stocked_boot.ensures.kept, ← c.stocked_boot.ensures.kits)
-          (by_vcl _ _ _ _ _ _ _ _ _ _ _ _ _ _ c.in-Ok-serve_stocked.ensures.ran);
+      ran = rw (c.finished.ensures.history, c.finished.ensures.keepers, c.finished.ensures.connections, ← c.stocked_boot.ensures.kits)
+          (by_vcl _ _ _ _ _ _ _ _ _ _ _ _ _ _ _ _ c.finished.result.tally c.finished.ensures.tally c.in-Ok-serve_stocked.ensures.ran);
     })
 
 pub returns-in-Err-clause-came : goal.returns-in-Err-clause-came
 returns-in-Err-clause-came g c =
-    inl (idle_unbooted _ _ c.unbooted.result c.stocked_boot.ensures.links c.stocked_boot.ensures.kept c.stocked_boot.ensures.kits c.in-Err.error c.unbooted.ensures)
+    inl (idle_unbooted _ _ c.unbooted.result c.stocked_boot.ensures.kits c.in-Err.error c.unbooted.ensures)
 
 pub returns-in-Err-serve_stocked-clause-came : goal.returns-in-Err-serve_stocked-clause-came
 returns-in-Err-serve_stocked-clause-came g c =
     let nobody = c.in-Err-serve_stocked.ensures.nobody in
-    inl (idle_halted _ _ c.stopped.result (nobody.0 ∙ c.stocked_boot.ensures.links) (nobody.1 ∙ c.stocked_boot.ensures.kept) (nobody.2 ∙ c.stocked_boot.ensures.kits) c.in-Err-serve_stocked.status _
+    inl (idle_halted _ _ c.stopped.result (nobody.0 ∙ c.stocked_boot.ensures.kits) c.in-Err-serve_stocked.status _
     c.stopped.ensures _ c.in-Err-serve_stocked.ensures.halted)
 
 pub returns-in-Ok-serve_stocked-clause-given : goal.returns-in-Ok-serve_stocked-clause-given
-returns-in-Ok-serve_stocked-clause-given g c = inl (rw (c.finished.ensures.count, ← c.stocked_boot.ensures.given) c.in-Ok-serve_stocked.ensures.given)
+returns-in-Ok-serve_stocked-clause-given g c = inl (rw (c.finished.ensures.connections, ← c.stocked_boot.ensures.given) c.in-Ok-serve_stocked.ensures.given)
 
 pub returns-in-Err-clause-given : goal.returns-in-Err-clause-given
-returns-in-Err-clause-given g c = inr (ap (λ (s : Served). length s.transcripts) c.unbooted.ensures, c.stocked_boot.ensures.given)
+returns-in-Err-clause-given g c = inr (ap (λ (s : Served g.row.N.Denot). s.connections) c.unbooted.ensures, c.stocked_boot.ensures.given)
 
 pub returns-in-Err-serve_stocked-clause-given : goal.returns-in-Err-serve_stocked-clause-given
 returns-in-Err-serve_stocked-clause-given g c =
     let nobody = c.in-Err-serve_stocked.ensures.nobody in
-    inr (ap (λ (s : Served). length s.transcripts) c.stopped.ensures, nobody.3 ∙ c.stocked_boot.ensures.given)
+    inr (ap (λ (s : Served g.row.N.Denot). s.connections) c.stopped.ensures, nobody.1 ∙ c.stocked_boot.ensures.given)
