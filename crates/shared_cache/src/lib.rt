@@ -9,7 +9,6 @@
 
 mod errands;
 mod kept;
-mod measuring;
 mod sharing;
 
 pub use errands::Errand;
