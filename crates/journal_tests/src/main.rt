@@ -1,4 +1,5 @@
 //! Rows for the journal: each line of the input is `worked NUMBER => LINE`, a line of the worked journal (`worked.rt`), or
+//! `written NUMBER => LINE`, the same where it goes into a sink, or
 //! `shown NAME => WORDS`, what a line says of a reply (`replies.rt`), or `call NAME => WORDS` (`calls.rt`). The program
 //! prints the rows that go otherwise, and how many rows there are.
 #![tactic(auto)]
@@ -27,10 +28,23 @@ fn main(rt: HostRuntime) -> io::Result<()> {
     println!(rt; "{count} rows")
 }
 
+// A line of the journal that goes into a sink, by its number, and behind that the calls of the sink that fail.
+fn written(alloc: Global, rest: &str) -> Result<String, AllocError> {
+    let (number, failing) = rest.split_once(' ').unwrap_or((rest, ""));
+    let mut calls = Vec::new(alloc);
+    for call in failing.split(' ') {
+        if let Ok(call) = call.parse::<u64>() {
+            calls.push(call)?;
+        }
+    }
+    worked::written(alloc, number.parse::<usize>().unwrap_or(0), calls)
+}
+
 fn said(alloc: Global, row: &str) -> Result<String, AllocError> {
     let (kind, rest) = row.split_once(' ').unwrap_or((row, ""));
     match kind {
         "worked" => worked::line(alloc, rest.parse::<usize>().unwrap_or(0)),
+        "written" => written(alloc, rest),
         "shown" => replies::said(alloc, rest),
         "call" => calls::said(alloc, rest),
         _ => String::from_str(alloc, "no such row"),

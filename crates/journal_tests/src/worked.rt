@@ -3,8 +3,16 @@ use crate::made::{entry, object, query, text, texts, view};
 use cache_law::{Boot, Call, Entry, Params, Reply};
 use directors::{DirectorKind, Member, Target};
 use journal_text::{Line, push_entry, push_first, push_line};
+use journal_writer::{Closing, JournalError, write_first, write_segment};
 use std::alloc::{AllocError, Global};
 use units::{Sequence, Shared};
+use wire::FailingSink;
+
+const PARAMS: Params = Params {
+    room: 1_000_000,
+    history: 640,
+    segments: true,
+};
 
 /// A line of the journal, from 1 on.
 pub fn line(alloc: Global, number: usize) -> Result<String, AllocError> {
@@ -17,18 +25,43 @@ pub fn line(alloc: Global, number: usize) -> Result<String, AllocError> {
     String::from_str(alloc, line)
 }
 
-fn journal(alloc: Global) -> Result<Vec<u8>, AllocError> {
-    let mut out = Vec::new(alloc);
-    let params = Params {
-        room: 1_000_000,
-        history: 640,
-        segments: true,
-    };
-    let boot = Boot {
+/// The same of the journal that goes into a sink, which takes a hundred bytes at a time and fails at these calls; or why it wasn't
+/// written, and how much of it was.
+pub fn written(alloc: Global, number: usize, failing: Vec<u64>) -> Result<String, AllocError> {
+    let mut sink = FailingSink::new(alloc, failing, 100);
+    if let Err(error) = write(alloc, &mut sink) {
+        let taken = sink.bytes().len();
+        return format!(in alloc; "{error} behind {taken} bytes");
+    }
+    let journal = String::from_utf8_lossy(alloc, sink.bytes())?;
+    let line = journal
+        .lines()
+        .nth(number.saturating_sub(1))
+        .unwrap_or("none");
+    String::from_str(alloc, line)
+}
+
+fn write(alloc: Global, sink: &mut FailingSink) -> Result<(), JournalError> {
+    write_first(alloc, sink, &PARAMS, &boot(alloc)?)?;
+    write_segment(alloc, sink, first_segment(alloc)?.as_slice(), Closing::Cut)?;
+    write_segment(
+        alloc,
+        sink,
+        second_segment(alloc)?.as_slice(),
+        Closing::Close,
+    )
+}
+
+fn boot(alloc: Global) -> Result<Boot, AllocError> {
+    Ok(Boot {
         text: text(alloc, "vcl 4.1; backend default { .host = \"127.0.0.1\"; }")?,
         backends: texts(alloc, &["default"])?,
-    };
-    push_first(&mut out, alloc, &params, &boot)?;
+    })
+}
+
+fn journal(alloc: Global) -> Result<Vec<u8>, AllocError> {
+    let mut out = Vec::new(alloc);
+    push_first(&mut out, alloc, &PARAMS, &boot(alloc)?)?;
     for entry in first_segment(alloc)? {
         push_entry(&mut out, alloc, &entry)?;
     }
