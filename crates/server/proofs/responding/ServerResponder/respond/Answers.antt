@@ -28,6 +28,12 @@ returns-then-is_err-clause-told g c = (
   ),
 )
 
+pub returns-clause-ready : goal.returns-clause-ready
+returns-clause-ready g c = λ is. record {
+  sound = record { pass = c.lead-round.ensures.pass; idle = c.lead-round.ensures.idle; legal = c.lead-round.ensures.legal; room = first_of (search rules, grind (arith, common_steps)) };
+  room = first_of (search rules, grind (arith, common_steps));
+}
+
 pub returns-clause-told : goal.returns-clause-told
 returns-clause-told g c = (
   c.lead-round.result.0.sent.items,
