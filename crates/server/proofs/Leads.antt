@@ -1,6 +1,6 @@
 -- The rounds of a connection, one behind another.
-use Rattle.std.proofs.Common.{◌≡◌, ℕ, List, [], ◌∷◌, ◌++◌, map, Option, Some, refl, sym, ap, ◌∙◌, subst, inr}
-use Rattle.std.proofs.lemmas.List.{append-nil, append_assoc}
+use Rattle.std.proofs.Common.{◌≡◌, ℕ, List, [], ◌∷◌, ◌++◌, map, Option, Some, refl, sym, ◌∙◌, subst, inr}
+use Rattle.std.proofs.lemmas.List.{append-nil}
 use Rattle.wire.specs.Flow.{Flow}
 use Rattle.wire.specs.Tapes.{Tape}
 use Rattle.wire.proofs.Gaining.{gains_none, gains_then}

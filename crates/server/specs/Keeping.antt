@@ -1,10 +1,9 @@
 -- What keepers are told of connections, and what that counts.
-use Rattle.std.specs.Prelude.{ℕ, ◌||◌, Bool, true, false, List, [], ◌∷◌, ◌++◌, sum_by}
+use Rattle.std.specs.Prelude.{ℕ, ◌||◌, Bool, true, false, List, [], ◌++◌, sum_by}
 use Rattle.std.specs.List.{flat_map, list_any}
 use Rattle.wire.specs.Calls.{joined_count}
 use Rattle.connection.specs.declared.ended.Ended.{Ended}
 use Rattle.connection.specs.declared.ended.Ended.TheVariants as ended
-use Rattle.round_lead.specs.declared.keeping.Round.{Round}
 use Rattle.server.specs.declared.keeping.Event.{Event}
 use Rattle.server.specs.declared.keeping.Event.TheVariants.{Led, Over}
 use Rattle.server.specs.declared.tally.Tally.{Tally}

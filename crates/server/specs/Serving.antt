@@ -33,16 +33,16 @@ abbrev pub stand_of : {R C G D K Q M N L : Type 0} → (D → Option (List (Talk
 stand_of talks dial_faults readings words server = stands talks dial_faults readings words server.shift
 
 -- its pass is of the cache, its round isn't open, what it has seen is legal, and its keeper has room for the connection's end
-pub record IsSound {R C G D K Q M N : Type 0} (room : N → ℕ) (server : Server R C G D K Q M N) : Type 0 where
+pub record IsSound {R C G D K Q M N : Type 0} (room_of : N → ℕ) (server : Server R C G D K Q M N) : Type 0 where
   pub pass : IsPassOf server.site.shared.now server.shift.pass
   pub idle : has_open (known server.shift.pass) ≡ false
   pub legal : SeesLegal (known server.shift.pass)
-  pub room : 0 < room server.keeper
+  pub room : 0 < room_of server.keeper
 
 -- it may lead a round, for which its keeper has room too
-pub record IsReady {R C G D K Q M N : Type 0} (room : N → ℕ) (server : Server R C G D K Q M N) : Type 0 where
-  pub sound : IsSound room server
-  pub room : 2 ≤ room server.keeper
+pub record IsReady {R C G D K Q M N : Type 0} (room_of : N → ℕ) (server : Server R C G D K Q M N) : Type 0 where
+  pub sound : IsSound room_of server
+  pub room : 2 ≤ room_of server.keeper
 
 module _ {P L N K : Type 0} (language : Language P) (heard : L → LinkTold) (Told : N → List (Event K) → Type 0) where
   -- A round was led for this turn, and the keeper was told of it.

@@ -1,5 +1,8 @@
 // Connections, served.
-ghost use Rattle.std.specs.Prelude.{◌≡◌, ◌≤◌};
+ghost use Rattle.std.specs.Prelude.{◌≡◌, ◌≤◌, List};
+ghost use Rattle.entrance.specs.Arriving.{IsNew};
+ghost use Rattle.server.specs.declared.keeping.Event.{Event as Happening};
+ghost use Rattle.workers.specs.Serving.{IsTold};
 ghost use Rattle.wire.specs.Telling.{told_by};
 
 use cache_law::CacheCore;
@@ -89,7 +92,16 @@ where
         post: Post<Shift<D, K, P>, N>,
         link: L,
         address: [u8; 4],
-    ) -> Post<Shift<D, K, P>, N> {
+    ) -> Post<Shift<D, K, P>, N>
+        requires ready { IsReady site.now post.shift }
+        requires room { 2 ≤ N.room post.keeper }
+        requires new { IsNew (told_by L.flow L.read_faults L.write_faults L.peer L.is_open link) address }
+        ensures ready { IsReady site.now result.shift }
+        ensures serves { (events : List (Happening L)) × IsTold N.Told post.keeper result.keeper events
+            × Serves (language_of P.of_text M.turns M.targets M.default_of P.backends) (told_by D.Link.flow D.Link.read_faults D.Link.write_faults D.Link.peer D.Link.is_open)
+            (told_by L.flow L.read_faults L.write_faults L.peer L.is_open) D.talks D.dial_faults K.readings K.words post.shift result.shift
+            (told_by L.flow L.read_faults L.write_faults L.peer L.is_open link) events }
+    {
         let site = Site {
             rt,
             alloc: self.alloc,

@@ -11,7 +11,7 @@ returns-clause-served g c =
     let over = c.shut.new.self in
     let ended = c.serve_rounds-shift.result.2 in (
       map Led rounds.tells.rounds ++ Over over ended ∷ [],
-      told_then _ _ _ _ _ _ rounds.tells.told c.keep.ensures.told,
+      told_then g.N.Keeper.Told c.args.keeper c.serve_rounds-shift.result.1 c.keep.new.self (map Led rounds.tells.rounds) (Over over ended ∷ []) rounds.tells.told c.keep.ensures.told,
       record {
         rounds = rounds.tells.rounds;
         over = over;

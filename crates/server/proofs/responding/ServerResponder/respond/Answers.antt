@@ -1,8 +1,9 @@
 -- A round for a request, or none for want of memory.
-use Rattle.std.proofs.Common.{[], arith, rules, refl, ap}
+use Rattle.std.proofs.Common.{[], ◌∷◌, arith, rules, refl, ap}
 use Rattle.std.proofs.lemmas.Grind.{common_steps}
 use Rattle.wire.proofs.Flowing.{Moves-none}
 use Rattle.round_lead.proofs.Told.{Went-none}
+use Rattle.server.specs.declared.keeping.Event.TheVariants.{Led}
 use Rattle.server.proofs.Tallies.{told_then}
 use Rattle.server.proofs.Leads.{as_turn, unled}
 use Rattle.server.proofs.responding.ServerResponder.respond.Goals as goal
@@ -23,10 +24,16 @@ returns-then-is_err-clause-told g c = (
         read = Went-none _;
         drew = Went-none _;
       };
-      told = told_then _ _ _ _ _ _ c.reserve.ensures.told c.keep.ensures.told;
+      told = told_then g.N.Keeper.Told c.args.self.now.keeper c.reserve.new.self c.keep.new.self [] (Led c.unled.result ∷ []) c.reserve.ensures.told c.keep.ensures.told;
     },
   ),
 )
+
+pub returns-clause-ready : goal.returns-clause-ready
+returns-clause-ready g c = λ is. record {
+  sound = record { pass = c.lead-round.ensures.pass; idle = c.lead-round.ensures.idle; legal = c.lead-round.ensures.legal; room = first_of (search rules, grind (arith, common_steps)) };
+  room = first_of (search rules, grind (arith, common_steps));
+}
 
 pub returns-clause-told : goal.returns-clause-told
 returns-clause-told g c = (
@@ -44,7 +51,7 @@ returns-clause-told g c = (
         read = c.lead-round.ensures.clock.0;
         drew = c.lead-round.ensures.clock.1;
       };
-      told = told_then _ _ _ _ _ _ c.reserve.ensures.told c.keep-2.ensures.told;
+      told = told_then g.N.Keeper.Told c.args.self.now.keeper c.reserve.new.self c.keep-2.new.self [] (Led c.lead-round.result.0 ∷ []) c.reserve.ensures.told c.keep-2.ensures.told;
     },
   ),
 )

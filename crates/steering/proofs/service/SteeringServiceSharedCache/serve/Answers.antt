@@ -1,5 +1,5 @@
 -- What is told of the connection.
-use Rattle.steering.proofs.service.SteeringService.serve.Goals as goal
+use Rattle.steering.proofs.service.SteeringServiceSharedCache.serve.Goals as goal
 
 pub returns-clause-serves : goal.returns-clause-serves
 returns-clause-serves g c =
