@@ -46,7 +46,7 @@ others_numbered number m xs same others =
     all_weaken (λ (y : Member). nat_eq (number_of m) (number_of y) ≡ false) (λ (y : Member). nat_eq (number_of y) number ≡ false)
     (λ y apart. other_number (number_of m) number (number_of y) same apart) xs others
 
-unchanged : (number : ℕ) (f : Placed → Placed) (xs : List Member) → AllByRecursion (λ y. nat_eq (number_of y) number ≡ false) xs
+pub unchanged : (number : ℕ) (f : Placed → Placed) (xs : List Member) → AllByRecursion (λ y. nat_eq (number_of y) number ≡ false) xs
     → map placed_of xs ≡ map (λ p. cond (has_number number p) (f p) p) (map placed_of xs)
 unchanged number f [] others = refl
 unchanged number f (y ∷ xs) others = rw (others.0, ← unchanged number f xs others.1) refl

@@ -1,3 +1,4 @@
+pub mod Results
 pub mod Splits
 pub mod Found
 pub mod Waits
@@ -12,3 +13,6 @@ pub mod Fewer
 pub mod Rounds
 pub mod Settles
 pub mod Cuts
+pub mod Numbers
+pub mod Chored
+pub mod Again

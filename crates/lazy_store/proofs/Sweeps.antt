@@ -12,7 +12,7 @@ use Rattle.lazy_store.specs.Tied.{AreApart}
 use Rattle.lazy_store.specs.Changes.{moved, moving, without}
 use Rattle.lazy_store.proofs.Splits.{IsFound, all_here, all_more, all_weaken, apart_others, filter_all, filter_less, found, map_all, none_found}
 
-other_number : (own number other : ℕ) → nat_eq own number ≡ true → nat_eq own other ≡ false → nat_eq other number ≡ false
+pub other_number : (own number other : ℕ) → nat_eq own number ≡ true → nat_eq own other ≡ false → nat_eq other number ≡ false
 other_number own number other same apart = grind (arith, nat_tests)
 
 -- the others than the one of the number have others

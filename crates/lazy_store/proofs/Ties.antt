@@ -45,7 +45,7 @@ tagged_less before m behind tagged apart is =
     ∙ filter_of_map (λ (x : ℕ × List (List ℕ)). not (nat_eq (handle_of m) x.0)) tagged_of (before ++ m ∷ behind)
     ∙ ap (map tagged_of) (others_left handle_of before m behind apart)
 
-room_less : (before : List Member) (m : Member) (behind : List Member) (room : List Used) → AreApart use_of (before ++ m ∷ behind)
+pub room_less : (before : List Member) (m : Member) (behind : List Member) (room : List Used) → AreApart use_of (before ++ m ∷ behind)
     → AreAlike room (map used_of (before ++ m ∷ behind)) → AreAlike (rooms.without (use_of m) room) (map used_of (before ++ behind))
 room_less before m behind room apart alike =
     subst (λ (xs : List Used). AreAlike (rooms.without (use_of m) room) xs)

@@ -6,3 +6,7 @@ pub mod Testing
 pub mod Lurking
 pub mod Settling
 pub mod Cutting
+pub mod Numbered
+pub mod Purged
+pub mod Chores
+pub mod Uses

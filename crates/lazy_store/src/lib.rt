@@ -5,10 +5,16 @@
 #![tactic(auto)]
 
 mod ends;
+mod errands;
 mod finding;
+mod living;
+mod marking;
+mod numbering;
 mod placement;
+mod purging;
 mod store;
 mod testing;
 mod waiting;
 
+pub use placement::Placement;
 pub use store::Store;

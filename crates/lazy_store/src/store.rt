@@ -1,32 +1,39 @@
 // Objects and bans in their containers.
-ghost use Rattle.std.specs.Prelude.{◌≡◌, ◌≤◌, ◌<◌, ◌+◌, ◌-◌, ◌^◌, true, false, min, Some, find as seek, option_map, IfNone, IfOk, IfSome, OnErr, OnOk};
+ghost use Rattle.std.specs.Prelude.{◌≡◌, ◌↔◌, None, ◌≤◌, ◌<◌, ◌+◌, ◌-◌, ◌^◌, true, false, min, Some, find as seek, option_map, IsTrue, IfNone, IfOk, IfSome, OnErr, OnOk};
 ghost use Rattle.std.specs.List.{AllByRecursion, list_any};
 ghost use Rattle.std.specs.Option.{option_copied};
 ghost use Rattle.lazy_core.specs.Banning.{banned_late};
 ghost use Rattle.lazy_core.specs.Insertion.{has_number as is_numbered};
-ghost use Rattle.lazy_core.specs.Placed.{Placed, is_dead, is_unswept, kept_bans, marked_at, nothing_kept};
+ghost use Rattle.lazy_core.specs.Placed.{Placed, above, is_dead, is_met, is_unswept, kept_bans, marked_at, nothing_kept};
+ghost use Rattle.lazy_core.specs.Purging.{is_of_key, is_of_xkeys};
+ghost use Rattle.lazy_core.specs.Scan.{is_struck};
 ghost use Rattle.lazy_core.specs.Stands.{IsWithin as TestedUpTo};
 ghost use Rattle.lazy_core.specs.Sweeping.{count_unswept, judged_lazy, swept_lazy};
 ghost use Rattle.lazy_store.specs.Changes.{moved, without};
+ghost use Rattle.lazy_store.specs.Chores.{IsChoreIn};
 ghost use Rattle.lazy_store.specs.Cutting.{AreCut};
 ghost use Rattle.lazy_store.specs.Lurking.{AreSwept, is_waiting_as};
 ghost use Rattle.lazy_store.specs.Members.{number_in, placed_in};
+ghost use Rattle.lazy_store.specs.Numbered.{numbers_where};
 ghost use Rattle.lazy_store.specs.Settling.{is_open, is_settled, is_sound as is_sound_for, settled};
 ghost use Rattle.lazy_store.specs.Tied.{AreApart};
+ghost use Rattle.lazy_store.specs.Uses.{AreUsedBefore, used_at, with_hit};
 
-use crate::finding::{find, waiting_round};
+use crate::errands::bans_above;
+use crate::finding::{Waiting, find, waiting_round};
+use crate::numbering::numbers_at;
 use crate::placement::Placement;
 use crate::testing::is_matched;
 use crate::waiting::{fewer, is_waiting, with_mark};
 use ban_expr::object_only;
 use ban_list::{BanList, Stand};
-use ban_lurker::Verdict;
-use cache_law::Ban;
+use ban_lurker::{BanRun, Chore, Verdict};
+use cache_law::{Ban, BanLine, Query, RequestView};
 use object_heads::{Heads, Item};
 use room_lru::RoomLru;
 use std::alloc::{AllocError, Global};
 use std::marker::Model;
-use units::Shared;
+use units::{Sequence, Shared, Text};
 use xkey_index::XkeyIndex;
 
 /// The objects and bans of a lazy cache. Clauses see what it keeps as lists.
@@ -89,7 +96,7 @@ impl Store {
     }
 
     /// The object of the number, with what is kept of it. No two objects have one number. It takes no memory.
-    pub(crate) fn item(&self, number: u64) -> Option<&Item<Placement>>
+    pub fn item(&self, number: u64) -> Option<&Item<Placement>>
         ensures found { option_map placed_in (option_copied result) ≡ seek (is_numbered number) self.now.objects }
         ensures apart { AreApart number_in self.now.objects }
     {
@@ -97,6 +104,28 @@ impl Store {
             Some(handle) => self.heads.get(handle),
             None => None,
         }
+    }
+
+    /// The numbers of the objects of the key, the newest first. No two objects have one number.
+    pub fn numbers_of_key(&self, alloc: Global, key: &[Text]) -> Result<Vec<u64>, AllocError>
+        ensures found { IfOk result (λ numbers. numbers.items ≡ numbers_where (is_of_key key.now) self.now.objects) }
+        ensures apart { AreApart number_in self.now.objects }
+    {
+        let handles = self.heads.find(alloc, key)?;
+        numbers_at(&self.heads, alloc, &handles)
+    }
+
+    /// The numbers of the objects that have one of the xkeys, the newest first. No two objects have one number.
+    pub(crate) fn numbers_of_xkeys(
+        &self,
+        alloc: Global,
+        keys: &[Text],
+    ) -> Result<Vec<u64>, AllocError>
+        ensures found { IfOk result (λ numbers. numbers.items ≡ numbers_where (is_of_xkeys keys.now) self.now.objects) }
+        ensures apart { AreApart number_in self.now.objects }
+    {
+        let handles = self.tagged.find(alloc, keys)?;
+        numbers_at(&self.heads, alloc, &handles)
     }
 
     /// Takes the object of the number out, where there is one. It takes no memory.
@@ -115,8 +144,8 @@ impl Store {
         self.unswept = fewer(self.unswept, self.newest, stand.mark);
     }
 
-    // Whether a ban on objects alone that the object wasn't tested on matches it.
-    fn is_dead(&self, alloc: Global, item: &Item<Placement>) -> Result<bool, AllocError>
+    /// Whether a ban on objects alone that the object wasn't tested on matches it.
+    pub(crate) fn is_dead(&self, alloc: Global, item: &Item<Placement>) -> Result<bool, AllocError>
         ensures { IfOk result (λ dead. dead ≡ is_dead (kept_bans self.now) (placed_in item.now)) }
     {
         // that the numbers fall along the lines
@@ -128,6 +157,42 @@ impl Store {
             &item.view.object,
             None,
         )
+    }
+
+    // Whether a ban on requests that the object wasn't tested on matches it with the request.
+    fn is_met(
+        &self,
+        alloc: Global,
+        item: &Item<Placement>,
+        request: &RequestView,
+    ) -> Result<bool, AllocError>
+        ensures { IfOk result (λ met. met ≡ is_met (kept_bans self.now) request.now (placed_in item.now)) }
+    {
+        // that the numbers fall along the lines
+        let _issued = self.bans.issued();
+        is_matched(
+            &self.bans,
+            alloc,
+            item.payload.stand.place,
+            &item.view.object,
+            Some(request),
+        )
+    }
+
+    /// Whether a ban that the object wasn't tested on matches it, alone or with the query's request. An error means that
+    /// memory was wanting.
+    pub fn is_struck(
+        &self,
+        alloc: Global,
+        query: &Query,
+        item: &Item<Placement>,
+    ) -> Result<bool, AllocError>
+        ensures { IfOk result (λ struck. struck ≡ is_struck (kept_bans self.now) query.now (placed_in item.now)) }
+    {
+        if self.is_dead(alloc, item)? {
+            return Ok(true);
+        }
+        self.is_met(alloc, item, &query.request)
     }
 
     /// Tests the object of the number, where there is one, on all bans on objects alone: it goes where one matches it. Where
@@ -174,6 +239,42 @@ impl Store {
         self.unswept = with_mark(self.unswept, self.newest, old.stand.mark, stand.mark);
     }
 
+    /// Whether all objects were used before this place of the history. It takes no memory.
+    pub fn is_latest(&self, used: u64) -> bool
+        ensures { IsTrue result ↔ AreUsedBefore used self.now.objects }
+    {
+        self.room.is_latest(used)
+    }
+
+    /// The object of the number, where there is one, was used at this place of the history. Where memory is wanting all is as
+    /// before.
+    pub fn use_at(&mut self, number: u64, used: u64) -> Result<(), AllocError>
+        requires { AreUsedBefore used self.old.objects }
+        ensures ok { OnOk result (self.new ≡ used_at used number self.old) }
+        ensures err { OnErr result (self.new ≡ self.old) }
+    {
+        let Some(found) = find(&self.heads, number) else {
+            return Ok(());
+        };
+        let old = found.placement;
+        self.room.move_use(old.used, used)?;
+        let payload = Placement {
+            used,
+            stand: old.stand,
+        };
+        self.heads.set_payload(found.handle, payload);
+        Ok(())
+    }
+
+    /// The object of the number, where there is one, has one more hit. It takes no memory.
+    pub fn count_hit(&mut self, number: u64)
+        ensures { self.new ≡ with_hit number self.old }
+    {
+        if let Some(found) = find(&self.heads, number) {
+            self.heads.count_hit(found.handle);
+        }
+    }
+
     /// Issues the ban at the moment. No object is tested on it. Where memory is wanting all is as before.
     pub fn ban(&mut self, alloc: Global, moment: u64, ban: &Shared<Ban>) -> Result<(), AllocError>
         requires { self.old.issued + 1 < 2 ^ 64 }
@@ -190,12 +291,31 @@ impl Store {
         Ok(())
     }
 
+    /// The lines of the bans that are kept, as a reply shows them.
+    pub fn ban_lines(&self, alloc: Global) -> Result<Sequence<BanLine>, AllocError>
+        ensures { IfOk result (λ lines. lines ≡ self.now.lines) }
+    {
+        self.bans.shown(alloc)
+    }
+
     // The number of the newest ban: an object with this mark doesn't wait for the lurker.
     fn newest_mark(&self) -> u64
         ensures count { result ≡ self.now.issued }
         ensures swept { (placed : Placed) → is_unswept (kept_bans self.now) (marked_at self.now.issued placed) ≡ false }
     {
         self.bans.issued()
+    }
+
+    // An object that waits for the lurker, from where it goes on.
+    fn waiting(&self) -> Option<Waiting>
+        ensures apart { AreApart number_in self.now.objects }
+        ensures some { IfSome result (λ waiting. list_any (is_waiting_as waiting.number (kept_bans self.now)) self.now.objects ≡ true) }
+        ensures none { IfNone result (count_unswept self.now ≡ 0) }
+    {
+        if self.unswept == 0 {
+            return None;
+        }
+        waiting_round(&self.heads, self.cursor, self.newest)
     }
 
     // The number of an object that waits for the lurker. The next time it goes on from there.
@@ -205,16 +325,9 @@ impl Store {
         ensures some { IfSome result (λ number. list_any (is_waiting_as number (kept_bans self.old)) self.old.objects ≡ true) }
         ensures none { IfNone result (count_unswept self.old ≡ 0) }
     {
-        if self.unswept == 0 {
-            return None;
-        }
-        match waiting_round(&self.heads, self.cursor, self.newest) {
-            Some(waiting) => {
-                self.cursor = waiting.handle;
-                Some(waiting.number)
-            }
-            None => None,
-        }
+        let waiting = self.waiting()?;
+        self.cursor = waiting.handle;
+        Some(waiting.number)
     }
 
     /// Tests so many of the objects that wait for the lurker on all bans on objects alone, or all where they are fewer, and
@@ -232,6 +345,46 @@ impl Store {
             self.sweep(alloc, number)?;
         }
         Ok(count)
+    }
+
+    /// An object that waits for the lurker, with the bans on objects alone that it is to be tested on; none where no object
+    /// waits. An error means that memory was wanting.
+    pub fn chore(&self, alloc: Global) -> Result<Option<Chore>, AllocError>
+        ensures idle { IfOk result (λ chore. (chore ≡ None) ↔ (count_unswept self.now ≡ 0)) }
+        ensures work { IfOk result (λ chore. IfSome chore (IsChoreIn self.now)) }
+    {
+        match self.waiting() {
+            Some(waiting) => Ok(Some(self.chore_on(alloc, waiting.number)?)),
+            None => Ok(None),
+        }
+    }
+
+    // The chore of the object of the number, which waits.
+    fn chore_on(&self, alloc: Global, number: u64) -> Result<Chore, AllocError>
+        requires { list_any (is_waiting_as number (kept_bans self.now)) self.now.objects ≡ true }
+        ensures { IfOk result (IsChoreIn self.now) }
+    {
+        let Some(item) = self.item(number) else {
+            unreachable!()
+        };
+        let mark = item.payload.stand.mark;
+        let view = item.view.copy()?;
+        let upto = self.issued();
+        Ok(Chore {
+            object: view.number,
+            mark,
+            upto,
+            view,
+            bans: self.bans_above(alloc, mark)?,
+        })
+    }
+
+    fn bans_above(&self, alloc: Global, mark: u64) -> Result<BanRun, AllocError>
+        ensures { IfOk result (λ bans. bans ≡ above mark (kept_bans self.now)) }
+    {
+        // that the numbers fall along the lines
+        let _issued = self.bans.issued();
+        bans_above(&self.bans, alloc, mark)
     }
 
     /// Takes out the oldest lines, as far as no object waits for them. It takes no memory.
@@ -275,7 +428,17 @@ impl Store {
             None => return false,
         };
         self.close(verdict, place);
+        self.go_on_from(verdict.object);
         true
+    }
+
+    // The lurker goes on from the object of the number, where there is one.
+    fn go_on_from(&mut self, number: u64)
+        ensures { self.new ≡ self.old }
+    {
+        if let Some(handle) = self.heads.handle_of(number) {
+            self.cursor = handle;
+        }
     }
 
     // Settles the verdict on the object, which has the place.

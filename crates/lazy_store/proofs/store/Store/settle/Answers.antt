@@ -17,6 +17,6 @@ returns-clause-answer c =
 pub returns-clause-left : goal.returns-clause-left
 returns-clause-left c =
     let yes : c.is_sound.result ≡ true = cc in
-    c.close.ensures
+    c.go_on_from.ensures ∙ c.close.ensures
     ∙ settled_as c.args.verdict c.args.self.now
     (is_open_so c.args.verdict c.args.self.now c.in-Some.place (ap (λ (n : ℕ). is_sound n c.args.verdict) (sym c.issued.ensures.count) ∙ sym c.is_sound.ensures ∙ yes) c.in-Some.ensures)
