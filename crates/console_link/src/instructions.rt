@@ -1,6 +1,8 @@
 // What a line leads to.
 ghost use Rattle.std.specs.Prelude.{◌≡◌, ◌≤◌, IfOk, List, ℕ};
-ghost use Rattle.console_link.specs.Instructions.{IsFound, IsRefusedFor, LeadsTo, Loads};
+ghost use Rattle.console_link.specs.Instructions.{IsFound, LeadsTo};
+ghost use Rattle.cli_console.specs.Lines.{IsCommand};
+ghost use Rattle.cli_console.specs.declared.command.Command.TheVariants.{Load as LoadFile};
 
 use cache_law::Call;
 use cli_console::{CliAnswer, Command, loaded, read_command};
@@ -65,9 +67,6 @@ fn instruction_of_file<S: Shelf>(
         Err(answer) => answered(answer),
     }
 }
-
-ghost use Rattle.cli_console.specs.Lines.{IsCommand};
-ghost use Rattle.cli_console.specs.declared.command.Command.TheVariants.{Load as LoadFile};
 
 /// What a line leads to, where the file of `vcl.load` is found on the shelf.
 pub(crate) fn instruction_of<S: Shelf>(

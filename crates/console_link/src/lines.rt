@@ -4,7 +4,7 @@ ghost use Rattle.std.specs.Io.BufRead.{strip_last};
 ghost use Rattle.std.specs.List.{after_first, before_first};
 ghost use Rattle.wire.specs.Causes.{Rose};
 ghost use Rattle.message_reader.specs.Inputs.{Hears};
-ghost use Rattle.console_link.specs.Lines.{BeginsLine, LineTold, TryTold, is_lf, line_length};
+ghost use Rattle.console_link.specs.Lines.{LineTold, TryTold, is_lf, line_length, ending_of};
 
 use crate::ConsoleEnd;
 use message_reader::{Intake, Stop, fill};
@@ -91,8 +91,6 @@ fn ending(stop: Stop) -> ConsoleEnd
         _ => ConsoleEnd::NoMemory,
     }
 }
-
-ghost use Rattle.console_link.specs.Lines.{ending_of};
 
 /// Reads the next line. What stands behind it is held. `Closed` is the end of the input, where at most the beginning of a line
 /// stands; `TooLong` says that what stands there is over a line's limit.

@@ -1,5 +1,5 @@
 // A console's connection from its first line to its end.
-ghost use Rattle.std.specs.Prelude.{◌≡◌, ◌≢◌, ◌<◌, ◌≤◌, ◌++◌, List, length};
+ghost use Rattle.std.specs.Prelude.{◌≡◌, ◌≢◌, ◌<◌, ◌≤◌, length};
 ghost use Rattle.std.specs.Vec.{vec_capacity};
 ghost use Rattle.std.specs.declared.option.Option.TheVariants.{Some};
 ghost use Rattle.wire.specs.Causes.{Rose};
@@ -7,7 +7,7 @@ ghost use Rattle.turnstile.specs.Handles.{known};
 ghost use Rattle.turnstile.specs.Knowledge.{saw};
 ghost use Rattle.shared_cache.specs.Passes.{IsPassOf};
 ghost use Rattle.shared_cache.specs.Sharing.{SeesLegal};
-ghost use Rattle.console_link.specs.Answering.{NextTold, RefusedTold, SentTold};
+ghost use Rattle.console_link.specs.Answering.{NextTold, RefusedTold, SentTold, LineAnswered};
 ghost use Rattle.console_link.specs.Complete.{IsComplete, IsUnhindered};
 ghost use Rattle.console_link.specs.Talks.{Talked, stand_of};
 
@@ -88,8 +88,6 @@ fn answer_next<R: Wait, C: CacheCore, L: Link, S: Shelf, K: Clock>(
         Err(ended) => Some(ended),
     }
 }
-
-ghost use Rattle.console_link.specs.Answering.{LineAnswered};
 
 // Reads the next line, and has it answered. None where the talk goes on.
 fn serve_next<R: Wait, C: CacheCore, L: Link, S: Shelf, K: Clock>(

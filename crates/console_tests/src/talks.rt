@@ -2,7 +2,7 @@
 // `site.vcl`, between quotes, if there is one. The settings are `history` for the most bytes of the history, `most` and `taking` for
 // those of a read and of a write of the link, `reads`, `writes` and `failing` for those of the link's reads and writes and of the
 // shelf's reads that fail, `times` for what the clock tells, and `long` for so many bytes `a` and an LF before what is sent.
-ghost use Rattle.std.specs.Prelude.{◌≡◌, ◌<◌, [], IfOk, length};
+ghost use Rattle.std.specs.Prelude.{◌≡◌, ◌<◌, [], IfOk};
 ghost use Rattle.std.specs.Vec.{vec_len};
 ghost use Rattle.shared_cache.specs.Passes.{IsPassOf};
 ghost use Rattle.shared_cache.specs.Sharing.{IsKeptWhole};
