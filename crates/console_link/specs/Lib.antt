@@ -1,0 +1,5 @@
+pub mod Lines
+pub mod Instructions
+pub mod Talks
+pub mod Answering
+pub mod Complete
