@@ -1,8 +1,9 @@
-//! Rows for windows and boards of probes. A row's first word names what is made, and behind ` => ` stands what is to be said of the
+//! Rows for probes, their windows and their boards. A row's first word names what is made, and behind ` => ` stands what is to be said of the
 //! rest. The program prints the rows that go otherwise, and how many rows there are.
 #![tactic(auto)]
 
 mod boards;
+mod probes;
 mod windows;
 
 use std::alloc::{AllocError, Global};
@@ -28,6 +29,7 @@ fn said(alloc: Global, row: &str) -> Result<String, AllocError> {
     let (word, rest) = row.split_once(' ').unwrap_or((row, ""));
     match word {
         "window" => windows::healths_shown(alloc, rest),
+        "probe" => probes::probe_shown(alloc, rest),
         _ => boards::told_shown(alloc, rest),
     }
 }

@@ -1,0 +1,2 @@
+pub mod Dialers
+pub mod Hosts
