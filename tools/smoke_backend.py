@@ -13,6 +13,7 @@
 A POST is answered by its body. All pages may be stored for an hour, but for the answers to a POST.
 """
 import collections
+import contextlib
 import http.server
 import sys
 import threading
@@ -81,7 +82,10 @@ class Handler(http.server.BaseHTTPRequestHandler):
             self.stall()
         elif self.path.startswith("/late"):
             time.sleep(LATE_SECONDS)
-            self.answer(200, body, lasting)
+            # who asked has gone meanwhile
+            with contextlib.suppress(OSError):
+                self.answer(200, body, lasting)
+            self.close_connection = True
         elif self.path.startswith("/mute"):
             self.stall()
         elif self.path.startswith("/large"):
