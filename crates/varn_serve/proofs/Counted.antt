@@ -1,6 +1,6 @@
 -- What keepers counted together is what the connections of all workers count.
 use Rattle.std.proofs.Common.{◌≡◌, ℕ, List, [], ◌∷◌, ◌++◌, map, false, refl, sym, ap, ◌∙◌, subst}
-use Rattle.std.specs.List.{AllZip, flat_map}
+use Rattle.std.specs.List.{AllZip}
 use Rattle.std.proofs.lemmas.Grind.{flat_map-append}
 use Rattle.cache_law.specs.declared.call.Entry.{Entry}
 use Rattle.wire.specs.Telling.{LinkTold}

@@ -1,5 +1,5 @@
 -- How a run ends in which nothing was served.
-use Rattle.std.proofs.Common.{◌≡◌, ◌⊎◌, inl, inr, ℕ, Bool, true, false, List, [], Option, refl, sym, ◌∙◌, ap, subst}
+use Rattle.std.proofs.Common.{◌≡◌, ◌⊎◌, inl, inr, ℕ, Bool, true, false, List, Option, refl, sym, ◌∙◌, ap, subst}
 use Rattle.vmod_host.specs.declared.signature.Stored.{Stored}
 use Rattle.world.specs.declared.file.File.{File}
 use Rattle.command_line.specs.declared.order.ServeOptions.{ServeOptions}
