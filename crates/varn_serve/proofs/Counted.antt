@@ -1,6 +1,6 @@
 -- What keepers counted together is what the connections of all workers count.
-use Rattle.std.proofs.Common.{◌≡◌, ℕ, List, [], ◌∷◌, ◌++◌, map, refl, sym, ap, ◌∙◌, subst}
-use Rattle.std.specs.List.{AllZip, flat_map}
+use Rattle.std.proofs.Common.{◌≡◌, ℕ, List, [], ◌∷◌, ◌++◌, map, false, refl, sym, ap, ◌∙◌, subst}
+use Rattle.std.specs.List.{AllZip}
 use Rattle.std.proofs.lemmas.Grind.{flat_map-append}
 use Rattle.cache_law.specs.declared.call.Entry.{Entry}
 use Rattle.wire.specs.Telling.{LinkTold}
@@ -13,7 +13,7 @@ use Rattle.crew.specs.Leaving.{AllWhole}
 use Rattle.crew.specs.Parts.{Part, all_came, all_events}
 
 -- the events of the connections of each worker
-events_each : {K N E : Type 0} → List (Part K N E) → List (List E)
+abbrev events_each : {K N E : Type 0} → List (Part K N E) → List (List E)
 events_each parts = map (λ part. all_events part.came) parts
 
 events_joined : {K N E : Type 0} (parts : List (Part K N E)) → all_events (events_each parts) ≡ all_events (all_came parts)

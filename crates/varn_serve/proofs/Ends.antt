@@ -1,5 +1,5 @@
 -- How a run ends in which nothing was served.
-use Rattle.std.proofs.Common.{◌≡◌, ◌⊎◌, inl, inr, ℕ, Bool, true, false, List, [], Option, refl, sym, ◌∙◌, ap, subst}
+use Rattle.std.proofs.Common.{◌≡◌, ◌⊎◌, inl, inr, ℕ, Bool, true, false, List, Option, refl, sym, ◌∙◌, ap, subst}
 use Rattle.vmod_host.specs.declared.signature.Stored.{Stored}
 use Rattle.world.specs.declared.file.File.{File}
 use Rattle.command_line.specs.declared.order.ServeOptions.{ServeOptions}
@@ -12,10 +12,10 @@ use Rattle.varn_serve.specs.declared.ending.Status.{Status}
 use Rattle.varn_serve.specs.declared.ending.Status.TheVariants.{Done, ReadFault, WriteFault, NoMemory, ListenFault, Vcl, HistoryFull}
 use Rattle.varn_serve.specs.Run.{EndsAs, Halts, IsAccepted, IsComplete, IsIdle, Outside, is_full_status, is_unserved, unbooted_status, unbooted_note, unserved}
 
-module _ {N : Type 0} (read listen write : Type 0) (ended : Bool) (held : Option (List ℕ)) (files : Option (List File)) (stored : List Stored) (order : ServeOptions) where
+module _ (N : Type 0) (read listen write : Type 0) (ended : Bool) (held : Option (List ℕ)) (files : Option (List File)) (stored : List Stored) (order : ServeOptions) where
   pub unbooted_ends : (error : BootError) → Why files order.file stored read error
       → EndsAs (record { read_failed = read; listen_failed = listen; write_failed = write; ended = ended; held = held; holds = held }) files stored order
-      (unserved {N} (unbooted_status error) (unbooted_note error)) (unbooted_status error)
+      (unserved {N = N} (unbooted_status error) (unbooted_note error)) (unbooted_status error)
   unbooted_ends without.Missing why = (why, refl)
   unbooted_ends without.Unreadable why = (refl, why, refl)
   unbooted_ends (without.Refused _ _) why = (why, refl)
@@ -27,7 +27,7 @@ pub unbooted_so : {N : Type 0} (read listen write : Type 0) (ended : Bool) (held
     → EndsAs (record { read_failed = read; listen_failed = listen; write_failed = write; ended = ended; held = held; holds = held }) files stored order served served.status
 unbooted_so {N} read listen write ended held files stored order error served same why =
     subst (λ (s : Served N). EndsAs (record { read_failed = read; listen_failed = listen; write_failed = write; ended = ended; held = held; holds = held }) files stored order s s.status)
-    (sym same) (unbooted_ends read listen write ended held files stored order error why)
+    (sym same) (unbooted_ends N read listen write ended held files stored order error why)
 
 unbooted_unserved : (error : BootError) → is_unserved (unbooted_status error) ≡ true
 unbooted_unserved without.Missing = refl
