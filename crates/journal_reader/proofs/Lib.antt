@@ -1,1 +1,6 @@
 pub mod Counted
+pub mod Firsts
+pub mod Going
+pub mod Back
+pub mod Only
+pub mod Agreeing

@@ -1,5 +1,5 @@
 -- What the words of a line say, and where they say no more.
-use Rattle.std.specs.Prelude.{◌≡◌, ⊤, ℕ, ℤ, zero, suc, pos, negsuc, ◌-◌, ◌==◌, nat_lt, ◌^◌, Bool, true, false, List, [], ◌∷◌, ◌++◌, length, drop, Option, Some, None, Result, Ok, Err, codes, if◌then◌else◌}
+use Rattle.std.specs.Prelude.{◌≡◌, ⊤, ℕ, ℤ, zero, suc, pos, ◌-◌, ◌==◌, nat_lt, ◌^◌, Bool, true, false, List, [], ◌∷◌, length, drop, Option, Some, None, Result, Ok, Err, codes, if◌then◌else◌}
 use Rattle.std.specs.Str.{bytes_eq}
 use Rattle.directors.specs.declared.director.DirectorKind.{DirectorKind}
 use Rattle.directors.specs.declared.director.DirectorKind.TheVariants.{One, RoundRobin, Fallback, Random, Hash}
@@ -7,17 +7,14 @@ use Rattle.directors.specs.declared.target.Member.{Member}
 use Rattle.directors.specs.declared.target.Target.{Target}
 use Rattle.freshness.specs.declared.times.Timing.{Timing}
 use Rattle.http_heads.specs.declared.fields.Field.{Field}
-use Rattle.cache_law.specs.declared.ban.Ban.{Ban as BanWords}
 use Rattle.cache_law.specs.declared.call.Call.{Call}
 use Rattle.cache_law.specs.declared.call.Call.TheVariants.{Begin, Draw, Lookup, Pick, Insert, Ban, BanList, Purge, Xkey, SetHealth, Load, Switch, Discard, VclList, Drop, End}
 use Rattle.cache_law.specs.declared.call.Options.{Options}
 use Rattle.cache_law.specs.declared.call.Query.{Query}
 use Rattle.cache_law.specs.declared.object.Content.{Content}
-use Rattle.cache_law.specs.declared.object.Marker.{Marker}
 use Rattle.cache_law.specs.declared.object.Object.{Object}
 use Rattle.cache_law.specs.declared.object.Object.TheVariants.{Ordinary, HitForMiss, HitForPass}
 use Rattle.cache_law.specs.declared.object.VaryItem.{VaryItem}
-use Rattle.cache_law.specs.declared.setting.Boot.{Boot}
 use Rattle.cache_law.specs.declared.vcl.Health.{Health}
 use Rattle.cache_law.specs.declared.vcl.Health.TheVariants.{Auto, Healthy, Sick}
 use Rattle.cache_law.specs.declared.vcl.VclLine.{VclLine}
@@ -32,9 +29,8 @@ use Rattle.journal_text.specs.declared.shown.Shown.{Shown}
 use Rattle.journal_text.specs.declared.shown.Shown.TheVariants as shown
 use Rattle.journal_text.specs.declared.shown.ShownBan.{ShownBan}
 use Rattle.journal_text.specs.declared.word.Word.{Word}
-use Rattle.journal_text.specs.declared.word.Word.TheVariants.{Key, Short, Middle, Long, Signed, Quoted}
-use Rattle.journal_text.specs.Grammar.{kind_key, health_key, state_key}
-use Rattle.journal_text.specs.Reader.{ban_of, marker_of}
+use Rattle.journal_text.specs.declared.word.Word.TheVariants.{Key, Long, Signed, Quoted}
+use Rattle.journal_text.specs.Reader.{marker_of}
 use Rattle.journal_reader.specs.declared.fault.Halt.{Halt}
 use Rattle.journal_reader.specs.declared.fault.Halt.TheVariants as halt
 use Rattle.journal_reader.specs.declared.fault.Stop.{Stop}

@@ -1,5 +1,3 @@
-use Rattle.std.proofs.Common.{rules, ◌≡◌, ◌∷◌, [], ◌++◌}
-use Rattle.std.specs.Prelude.{Ok}
 use Rattle.journal_reader.proofs.Counted.{half_goes_on}
 use Rattle.journal_reader.proofs.items.items.Goals as goal
 

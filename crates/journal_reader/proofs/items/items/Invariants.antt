@@ -1,4 +1,3 @@
-use Rattle.std.proofs.Common.{ℕ}
 use Rattle.journal_reader.proofs.Counted.{IsHalf}
 use Rattle.journal_reader.proofs.items.items.Given as goal
 
