@@ -4,3 +4,4 @@ pub mod Going
 pub mod Back
 pub mod Only
 pub mod Agreeing
+pub mod Feeds

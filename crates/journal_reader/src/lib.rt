@@ -15,5 +15,5 @@ mod replies;
 mod word;
 
 pub use fault::{Fault, ReadError, Refusal, Wanted};
-pub use laws::one_text;
+pub use laws::{one_history, one_text};
 pub use reading::read_line;
