@@ -1,4 +1,8 @@
 //! A line of a journal, read back.
+//!
+//! Contract for the layer above: `read_line` gives a line exactly where the text is that line's by the definition in
+//! `journal_text` (`IsLine`), and else tells the one fault that `specs/Refusals.antt` gives the text, with its column; want
+//! of memory alone is free.
 #![tactic(auto)]
 
 mod calls;

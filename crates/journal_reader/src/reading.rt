@@ -168,7 +168,7 @@ fn compare(alloc: Global, text: &[u8], line: &Line) -> Result<(), ReadError>
     }
 }
 
-// The line is let go, which this error is told of.
+// The error, behind a line that is let go.
 fn let_go<V: Drop>(_held: V, error: ReadError) -> ReadError
     ensures { result ≡ error }
 {
