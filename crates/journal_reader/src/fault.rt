@@ -80,7 +80,7 @@ impl<T: Drop> From<AllocFailed<T>> for Halt {
 /// What is wrong at a place of a line.
 #[derive(Clone, Copy, Debug, PartialEq, Eq)]
 pub enum Fault {
-    /// The words before are the beginning of a line, and what stands here isn't what has to follow.
+    /// The words before are read, and what stands here isn't what has to follow.
     Expected(Wanted),
     /// The words of the ban, whose number stands here, are no ban.
     NoBan(BanError),
