@@ -1,10 +1,12 @@
 //! Rows for the journal: each line of the input is `worked NUMBER => LINE`, a line of the worked journal (`worked.rt`), or
 //! `written NUMBER => LINE`, the same where it goes into a sink, or
-//! `shown NAME => WORDS`, what a line says of a reply (`replies.rt`), or `call NAME => WORDS` (`calls.rt`). The program
-//! prints the rows that go otherwise, and how many rows there are.
+//! `shown NAME => WORDS`, what a line says of a reply (`replies.rt`), or `call NAME => WORDS` (`calls.rt`), or
+//! `read TEXT => KIND`, the kind of line that a text is read as, or its column and fault (`lines.rt`). The program prints the rows
+//! that go otherwise, and how many rows there are.
 #![tactic(auto)]
 
 mod calls;
+mod lines;
 mod made;
 mod replies;
 mod worked;
@@ -47,6 +49,7 @@ fn said(alloc: Global, row: &str) -> Result<String, AllocError> {
         "written" => written(alloc, rest),
         "shown" => replies::said(alloc, rest),
         "call" => calls::said(alloc, rest),
+        "read" => lines::said(alloc, rest),
         _ => String::from_str(alloc, "no such row"),
     }
 }

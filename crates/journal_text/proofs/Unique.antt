@@ -105,7 +105,7 @@ said_same some other p q r s =
     ∙ (ap (λ x. said_of_parts other.caller x some.call some.reply) q
     ∙ (ap (λ x. said_of_parts other.caller other.moment x some.reply) r ∙ ap (λ x. said_of_parts other.caller other.moment other.call x) s))
 
-whole_same : (some other : Line) → bare some ≡ bare other → HasReadBan some → HasReadBan other → some ≡ other
+pub whole_same : (some other : Line) → bare some ≡ bare other → HasReadBan some → HasReadBan other → some ≡ other
 whole_same (line.Entry some) (line.Entry other) e h k =
     let said : record some { call = bare_call some.call } ≡ record other { call = bare_call other.call } = cc in
     let call = call_same some.call other.call (ap (λ x. x.call) said) h k in

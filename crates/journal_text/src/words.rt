@@ -1,7 +1,7 @@
 // Words as they are put together.
 ghost use Rattle.std.specs.Prelude.{◌≡◌, ◌++◌, ◌∷◌, ◌<◌, [], ℕ, slice_index, true, OnOk};
 ghost use Rattle.journal_text.specs.declared.word.Word.TheVariants.{Key, Short, Middle, Long, Signed, Quoted};
-ghost use Rattle.journal_text.specs.Words.{IsWord, is_key};
+ghost use Rattle.journal_text.specs.Words.{AreWords, IsWord, is_key};
 ghost use Rattle.journal_text.specs.Grammar.{truth_word, number_or_absent, time_or_absent, text_or_absent};
 
 use crate::Word;
@@ -42,7 +42,8 @@ impl Words {
     }
 
     pub fn as_slice(&self) -> &[Word]
-        ensures { result.now ≡ self.now }
+        ensures items { result.now ≡ self.now }
+        ensures within { AreWords self.now }
     {
         self.items.as_slice()
     }

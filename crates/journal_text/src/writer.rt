@@ -1,9 +1,9 @@
 // Writing the lines of a journal.
-ghost use Rattle.std.specs.Prelude.{◌≡◌, ◌++◌, ◌∷◌, [], is_ok, if◌then◌else◌, IfOk};
+ghost use Rattle.std.specs.Prelude.{◌≡◌, ◌++◌, ◌∷◌, [], is_ok, if◌then◌else◌, IfOk, OnOk};
 ghost use Rattle.journal_text.specs.declared.line.Line.TheVariants as lines;
 ghost use Rattle.journal_text.specs.Journals.{first_line as line_of_first, entry_line as line_of_entry, first_of, ended};
-ghost use Rattle.journal_text.specs.Grammar.{said_of};
-ghost use Rattle.journal_text.specs.Words.{line_text as text_of_words};
+ghost use Rattle.journal_text.specs.Grammar.{said_of, line_words as words_in_line};
+ghost use Rattle.journal_text.specs.Words.{AreWords, line_text as text_of_words};
 
 use crate::putting::{words_of, words_of_entry, words_of_first};
 use crate::texts::line_text;
@@ -58,9 +58,11 @@ pub fn push_entry(out: &mut Vec<u8>, alloc: Global, entry: &Entry) -> Result<(),
     push_words(out, alloc, words.as_slice())
 }
 
-/// Puts a line at the end. Where memory is wanting, the bytes are as before.
+/// Puts a line at the end. Where memory is wanting, the bytes are as before. What is written has numbers within the range of
+/// their types.
 pub fn push_line(out: &mut Vec<u8>, alloc: Global, line: &Line) -> Result<(), AllocError>
-    ensures { out.new.items ≡ (if is_ok result then out.old.items ++ ended line.now else out.old.items) }
+    ensures within { OnOk result (AreWords (words_in_line line.now)) }
+    ensures put { out.new.items ≡ (if is_ok result then out.old.items ++ ended line.now else out.old.items) }
 {
     let words = words_of(alloc, line)?;
     push_words(out, alloc, words.as_slice())

@@ -1,0 +1,7 @@
+pub mod Counted
+pub mod Firsts
+pub mod Going
+pub mod Back
+pub mod Only
+pub mod Agreeing
+pub mod Feeds
