@@ -1,5 +1,7 @@
 // A service that writes the number of each connection on it.
-ghost use Rattle.std.specs.Prelude.{◌≡◌, ◌<◌, vec_len, vec_capacity};
+ghost use Rattle.std.specs.Prelude.{◌≡◌, ◌<◌, List, vec_len, vec_capacity};
+ghost use Rattle.outside_tests.specs.declared.numbering.Numbered.{Numbered as One};
+ghost use Rattle.workers.specs.Serving.{IsTold};
 
 use std::alloc::AllocError;
 use std::sync::Wait;
@@ -51,7 +53,10 @@ impl<L: Link + Send> Service<L, ()> for Numbering {
         post: Post<u64, Vec<Numbered<L>>>,
         link: L,
         address: [u8; 4],
-    ) -> Post<u64, Vec<Numbered<L>>> {
+    ) -> Post<u64, Vec<Numbered<L>>>
+        requires room { vec_len post.keeper < vec_capacity post.keeper }
+        ensures serves { (events : List (One L)) × IsTold (λ kept told. kept.items ≡ told) post.keeper result.keeper events × Unit {0} }
+    {
         let Post { shift, mut keeper } = post;
         let (mut link, number) = (link, address[3]);
         let _ = link.write(&[number]);
