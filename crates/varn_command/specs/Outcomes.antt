@@ -1,5 +1,5 @@
 -- The one form in which each command's outcome is handed out.
-use Rattle.std.specs.Prelude.{ℕ, List, [], Option, Some, None, option_map}
+use Rattle.std.specs.Prelude.{ℕ, false, List, [], Option, Some, None, option_map}
 use Rattle.cache_law.specs.declared.call.Entry.{Entry}
 use Rattle.command_line.specs.declared.fault.OrderError.{OrderError}
 use Rattle.command_line.specs.declared.fault.OrderError.TheVariants.{Refused, NoMemory}
