@@ -12,6 +12,7 @@ from pathlib import Path
 
 ROOT = Path(__file__).resolve().parent.parent
 COMMENT = re.compile(r"^\s*(//|--).*$", re.MULTILINE)
+NAME = re.compile(r"\b(\w+)::|\bRattle\.(\w+)\.", re.ASCII)
 
 
 def listed():
@@ -22,14 +23,11 @@ def listed():
             yield head.split()[0], names.split()
 
 
-def text_of(crate):
-    """What the crate's files say outside of comments."""
+def names_in(crate):
+    """What the crate's files name outside of comments."""
     files = [path for part in ("src", "specs", "proofs") for path in (ROOT / "crates" / crate / part).rglob("*.*t*")]
-    return "\n".join(COMMENT.sub("", path.read_text(encoding="utf-8")) for path in files if path.is_file())
-
-
-def is_named(name, text):
-    return re.search(rf"\b{name}::|\bRattle\.{name}\.", text) is not None
+    texts = (COMMENT.sub("", path.read_text(encoding="utf-8")) for path in files if path.is_file())
+    return {found[1] or found[2] for text in texts for found in NAME.finditer(text)}
 
 
 def modules_of(crate):
@@ -41,10 +39,10 @@ def main():
     crates, wrong = list(listed()), []
     every = {crate for crate, _ in crates}
     for crate, names in crates:
-        text = text_of(crate)
-        wrong += [f"{crate} doesn't name {name}" for name in names if not is_named(name, text)]
+        named = names_in(crate)
+        wrong += [f"{crate} doesn't name {name}" for name in names if name not in named]
         others = sorted(every - {crate, *names, *modules_of(crate)})
-        wrong += [f"{crate} names {name}, and it isn't listed there" for name in others if is_named(name, text)]
+        wrong += [f"{crate} names {name}, and it isn't listed there" for name in others if name in named]
     for line in wrong:
         print(f"crates.txt: {line}")
     return 1 if wrong else 0
