@@ -1,11 +1,12 @@
-//! Rows for messages: heads of `http_heads`, `freshness`, `seen_request` and `delivery`. Each line of the input has a call's name
-//! with what it gets and, behind ` => `, what is to be said of it. The program prints the rows that go otherwise, and how many rows
-//! there are.
+//! Rows for messages: heads of `http_heads`, `freshness`, `seen_request` and `delivery`, and lines of `access_log`. Each line of the
+//! input has a call's name with what it gets and, behind ` => `, what is to be said of it. The program prints the rows that go
+//! otherwise, and how many rows there are.
 #![tactic(auto)]
 
 mod changes;
 mod delivering;
 mod heads;
+mod logging;
 mod seeing;
 mod serving;
 
@@ -45,6 +46,7 @@ fn said(alloc: Global, row: &str) -> Result<String, AllocError> {
         "failure_page" => delivering::failure_page_shown(alloc),
         "age" => delivering::age_shown(alloc, rest),
         "reason" => delivering::reason_shown(alloc, rest),
+        "logged" => logging::logged_shown(alloc, rest),
         _ => format!(in alloc; "no such row"),
     }
 }
