@@ -166,7 +166,9 @@ pub(crate) fn answer<S: Shelf>(
             token,
             object,
             stale,
-        } => Ok(insert(desk, shelf, room, caller, moment, *token, object, *stale)),
+        } => Ok(insert(
+            alloc, desk, shelf, room, caller, moment, *token, object, *stale,
+        )),
         Call::Ban(ban) => issue(alloc, desk, shelf, moment, ban),
         Call::BanList => list_bans(alloc, desk, shelf, moment),
         Call::Purge { key } => purge(alloc, desk, shelf, moment, key),
@@ -300,6 +302,7 @@ fn take<S: Shelf>(
 
 /// Where memory is wanting, the insertion is refused.
 fn insert<S: Shelf>(
+    alloc: Global,
     desk: &mut Desk,
     shelf: &mut S,
     room: u64,
@@ -325,7 +328,7 @@ fn insert<S: Shelf>(
             kept: Reply::StaleGone,
         };
     }
-    let placing = shelf.insert(room, desk.entries(), moment, token, object, stale);
+    let placing = shelf.insert(alloc, room, desk.entries(), moment, token, object, stale);
     desk.close_fetch(moment, token);
     Answer {
         told: placed_reply(token, placing),

@@ -64,7 +64,10 @@ impl<S: Shelf> CacheCore for Framed<S> {
             Err(_) => return Err(out_of_memory(boot)),
         };
         drop(boot);
-        Ok(over(alloc, *params, desk, S::empty(alloc)))
+        match S::empty(alloc) {
+            Ok(shelf) => Ok(over(alloc, *params, desk, shelf)),
+            Err(_) => Err(out_of_memory(desk)),
+        }
     }
 
     fn step(

@@ -37,9 +37,9 @@ pub trait Shelf: Sized + Drop {
     ghost unswept: { Self → ℕ };
 
     /// An empty shelf.
-    fn empty(alloc: Global) -> Self
-        ensures stock { stock result ≡ no_stock }
-        ensures stands { (beginning : Beginning) → stock_of beginning.base ≡ no_stock → Stands result beginning [] };
+    fn empty(alloc: Global) -> Result<Self, AllocError>
+        ensures stock { IfOk result (λ shelf. stock shelf ≡ no_stock) }
+        ensures stands { IfOk result (λ shelf. (beginning : Beginning) → stock_of beginning.base ≡ no_stock → Stands shelf beginning []) };
 
     /// What a lookup sees at the moment.
     fn look(
@@ -64,7 +64,8 @@ pub trait Shelf: Sized + Drop {
         ensures ok { OnOk result (LooksOver Stands self.old self.new used moment query.now used_as) }
         ensures err { OnErr result (StandsOn Stands self.old self.new) };
 
-    /// Whether a stale object is named that isn't in time, or isn't there.
+    /// Whether a stale object is named that isn't in time, or isn't there. It takes no memory: whether an insertion fits the history
+    /// hangs on it, and one of an open fetch is answered in any case.
     fn is_gone(&self, moment: u64, stale: Option<u64>) -> bool
         ensures { Tells Stands self.now moment (λ state. result ≡ gone stale state.objects) };
 
@@ -72,6 +73,7 @@ pub trait Shelf: Sized + Drop {
     /// place of the history.
     fn insert(
         &mut self,
+        alloc: Global,
         room: u64,
         used: u64,
         moment: u64,

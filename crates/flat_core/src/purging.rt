@@ -1,13 +1,13 @@
 // Purges of a key and by xkeys.
-ghost use Rattle.std.specs.Prelude.{◌≡◌, ◌-ℤ◌, ◌≤ℤ◌, ◌-◌, ◌^◌, neg_ℤ, pos, filter, length, map, IfOk, if◌then◌else◌};
+ghost use Rattle.std.specs.Prelude.{◌≡◌, filter, length, map, IfOk, if◌then◌else◌};
 ghost use Rattle.std.specs.List.{list_any};
 ghost use Rattle.std.specs.Str.{bytes_eq};
-ghost use Rattle.cache_law.specs.Purges.{ended_by, softened as softened_by};
+ghost use Rattle.cache_law.specs.Purges.{softened as softened_by};
 ghost use Rattle.flat_core.specs.Purging.{has_key as is_of_key, has_xkey as has_one, is_purged, is_spared, softening as softening_by};
 
 use crate::stored_object::StoredObject;
-use cache_law::{Object, ObjectView, Response, is_in_time};
-use freshness::Timing;
+use cache_law::{Object, ObjectView, is_in_time};
+use softening::softened;
 use std::alloc::{AllocError, Global};
 use std::collections::VecDeque;
 use units::{Shared, Text};
@@ -86,58 +86,6 @@ pub(crate) fn drop_xkeys(objects: &mut VecDeque<StoredObject>, moment: u64, keys
     ensures { objects.new.items ≡ filter (is_spared moment (has_one keys.now)) objects.old.items }
 {
     objects.retain(|kept| !is_purged_by_xkeys(moment, keys, kept));
-}
-
-/// How long something lives that ends at the moment.
-fn lived_by(moment: u64, origin: i64) -> i128
-    ensures value { result ≡ pos moment -ℤ origin }
-    ensures low { neg_ℤ (pos (2 ^ 63)) ≤ℤ result }
-{
-    i128::from(moment) - i128::from(origin)
-}
-
-/// A number that 64 bits hold.
-fn narrowed(number: i128) -> i64
-    requires low { neg_ℤ (pos (2 ^ 63)) ≤ℤ number }
-    requires high { number ≤ℤ pos (2 ^ 63 - 1) }
-    ensures { result ≡ number }
-{
-    number as i64
-}
-
-/// The timing of a lifetime that ends at the moment, where it doesn't end before.
-fn ended(moment: u64, timing: Timing) -> Timing
-    ensures { result ≡ ended_by moment timing }
-{
-    let lived = lived_by(moment, timing.origin);
-    if lived < i128::from(timing.ttl) {
-        Timing {
-            ttl: narrowed(lived),
-            ..timing
-        }
-    } else {
-        timing
-    }
-}
-
-fn softened(
-    alloc: Global,
-    moment: u64,
-    object: &Shared<Object>,
-) -> Result<Shared<Object>, AllocError>
-    ensures { IfOk result (λ soft. soft ≡ softened_by moment object.now) }
-{
-    match &**object {
-        Object::Ordinary(response) => {
-            let response = Response {
-                timing: ended(moment, response.timing),
-                content: response.content.copy()?,
-            };
-            Shared::new(alloc, Object::Ordinary(response))
-        }
-        Object::HitForMiss(_) => object.copy(),
-        Object::HitForPass(_) => object.copy(),
-    }
 }
 
 fn softened_if(

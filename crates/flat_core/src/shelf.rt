@@ -50,12 +50,12 @@ impl Shelf for FlatShelf {
 
     ghost unswept = { λ shelf. 0 };
 
-    fn empty(alloc: Global) -> FlatShelf {
-        FlatShelf {
+    fn empty(alloc: Global) -> Result<FlatShelf, AllocError> {
+        Ok(FlatShelf {
             issued: 0,
             bans: VecDeque::new(alloc),
             objects: VecDeque::new(alloc),
-        }
+        })
     }
 
     fn look(
@@ -93,6 +93,7 @@ impl Shelf for FlatShelf {
 
     fn insert(
         &mut self,
+        _alloc: Global,
         room: u64,
         used: u64,
         moment: u64,

@@ -16,3 +16,6 @@ pub mod Cuts
 pub mod Numbers
 pub mod Chored
 pub mod Again
+pub mod Softens
+pub mod SoftPurges
+pub mod Plans

@@ -124,7 +124,7 @@ pub none_gone : (objects : List Placed) → objects ≡ filter (λ (p : Placed).
 none_gone [] = refl
 none_gone (p ∷ objects) = ap (λ (rest : List Placed). p ∷ rest) (none_gone objects)
 
-one_of_those : (test : Placed → Bool) (objects : List Placed) → AreApart number_in objects → AllByRecursion (λ (p : Placed). is_one_of (numbers_where test objects) p ≡ test p) objects
+pub one_of_those : (test : Placed → Bool) (objects : List Placed) → AreApart number_in objects → AllByRecursion (λ (p : Placed). is_one_of (numbers_where test objects) p ≡ test p) objects
 one_of_those test objects apart =
     all_weaken (λ (p : Placed). list_any (λ (q : Placed). test q && nat_eq (number_in p) (number_in q)) objects ≡ test p) (λ (p : Placed). is_one_of (numbers_where test objects) p ≡ test p)
     (λ p is. any_of_map (λ (n : ℕ). has_number n p) number_in (filter test objects) ∙ any_of_filter (λ (q : Placed). has_number (number_in q) p) test objects ∙ is) objects

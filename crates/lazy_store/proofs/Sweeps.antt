@@ -36,7 +36,7 @@ alive_case true false e = refl
 alive_case false false e = refl
 alive_case b true e = cc
 
-unswept_others : (number issued : ℕ) (xs : List Placed) → AllByRecursion (λ y. has_number number y ≡ false) xs → map (sweeping (has_number number) issued) xs ≡ xs
+pub unswept_others : (number issued : ℕ) (xs : List Placed) → AllByRecursion (λ y. has_number number y ≡ false) xs → map (sweeping (has_number number) issued) xs ≡ xs
 unswept_others number issued xs others =
     map_all (sweeping (has_number number) issued) xs
     (all_weaken (λ (y : Placed). has_number number y ≡ false) (λ (y : Placed). sweeping (has_number number) issued y ≡ y) (λ y e. rw e refl) xs others)
@@ -66,7 +66,7 @@ moving_step : (number : ℕ) (p y : Placed) (b : Bool) (issued : ℕ) → (b ≡
 moving_step number p y true issued same = rw (same refl) refl
 moving_step number p y false issued same = refl
 
-moved_all : (number issued : ℕ) (p : Placed) (xs : List Placed) → AllByRecursion (λ y. has_number number y ≡ true → y ≡ p) xs
+pub moved_all : (number issued : ℕ) (p : Placed) (xs : List Placed) → AllByRecursion (λ y. has_number number y ≡ true → y ≡ p) xs
     → map (sweeping (has_number number) issued) xs ≡ map (moving number (record { place = p.place; mark = issued })) xs
 moved_all number issued p [] only = refl
 moved_all number issued p (y ∷ xs) only =

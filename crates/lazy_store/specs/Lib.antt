@@ -5,6 +5,7 @@ pub mod Changes
 pub mod Testing
 pub mod Lurking
 pub mod Settling
+pub mod Softening
 pub mod Cutting
 pub mod Numbered
 pub mod Purged

@@ -16,6 +16,7 @@ ghost use Rattle.lazy_store.specs.Lurking.{AreSwept, is_waiting_as};
 ghost use Rattle.lazy_store.specs.Members.{number_in, placed_in};
 ghost use Rattle.lazy_store.specs.Numbered.{numbers_where};
 ghost use Rattle.lazy_store.specs.Settling.{is_open, is_settled, is_sound as is_sound_for, settled};
+ghost use Rattle.lazy_store.specs.Softening.{softened_all};
 ghost use Rattle.lazy_store.specs.Tied.{AreApart};
 ghost use Rattle.lazy_store.specs.Uses.{AreUsedBefore, used_at, with_hit};
 
@@ -23,6 +24,7 @@ use crate::errands::bans_above;
 use crate::finding::{Waiting, find, waiting_round};
 use crate::numbering::numbers_at;
 use crate::placement::Placement;
+use crate::plan::{Plan, plan_for, set_objects};
 use crate::testing::is_matched;
 use crate::waiting::{fewer, is_waiting, with_mark};
 use ban_expr::object_only;
@@ -157,6 +159,26 @@ impl Store {
             &item.view.object,
             None,
         )
+    }
+
+    /// Ends the lifetime of the objects of these numbers at the moment, of which no two are the same. Where memory is wanting all is
+    /// as before.
+    pub(crate) fn soften_all(
+        &mut self,
+        alloc: Global,
+        moment: u64,
+        numbers: &[u64],
+    ) -> Result<(), AllocError>
+        requires { AreApart (λ number. number) numbers.now }
+        ensures ok { OnOk result (self.new ≡ softened_all moment numbers.now self.old) }
+        ensures err { OnErr result (self.new ≡ self.old) }
+    {
+        let plan = plan_for(&self.heads, alloc, moment, numbers)?;
+        self.room.move_ends(&plan.endings)?;
+        let Plan { endings, objects } = plan;
+        drop(endings);
+        set_objects(&mut self.heads, objects);
+        Ok(())
     }
 
     // Whether a ban on requests that the object wasn't tested on matches it with the request.

@@ -76,7 +76,7 @@ not_found_step true p test member m ms e rest none found =
     subst (λ x. p x ≡ false) same none
 not_found_step false p test member m ms e rest none found = rest (rw e at found)
 
-not_found : (p : Member → Bool) (test : ℕ → Bool) (member : Member) (members : List Used) → lookup test members ≡ Some member
+pub not_found : (p : Member → Bool) (test : ℕ → Bool) (member : Member) (members : List Used) → lookup test members ≡ Some member
     → list_any (λ m. p m.1) members ≡ false → p member ≡ false
 not_found p test member [] found none = cc
 not_found p test member (m ∷ ms) found none =

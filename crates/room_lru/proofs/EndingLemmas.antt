@@ -74,7 +74,7 @@ stands_step false test used member changed end m ms e rest found =
       swap true false there = refl
       swap false b there = refl
 
-stands_set : (test : ℕ → Bool) (used : ℕ) (member changed : Member) (end : End) (members : List Used) → lookup test members ≡ Some member
+pub stands_set : (test : ℕ → Bool) (used : ℕ) (member changed : Member) (end : End) (members : List Used) → lookup test members ≡ Some member
     → list_any (has_end end) (set_value test members changed) ≡ (has_end end (used, changed) || list_any (has_end end) (remove_entry test members))
 stands_set test used member changed end [] found = cc
 stands_set test used member changed end (m ∷ ms) found =
@@ -98,7 +98,7 @@ apart_step false test used member changed m ms e rest apart found free =
       rest behind parts.1,
     )
 
-apart_set : (test : ℕ → Bool) (used : ℕ) (member changed : Member) (members : List Used) → AreApart members → lookup test members ≡ Some member
+pub apart_set : (test : ℕ → Bool) (used : ℕ) (member changed : Member) (members : List Used) → AreApart members → lookup test members ≡ Some member
     → IsFree (end_of (used, changed)) (remove_entry test members) → AreApart (set_value test members changed)
 apart_set test used member changed [] apart found free = cc
 apart_set test used member changed (m ∷ ms) apart found free =
@@ -128,7 +128,7 @@ indexed_set test used end member members ends between less apart found moves ind
       moved false true there away = refl
       moved false false there away = refl
 
-total_set : (test : ℕ → Bool) (end : ℤ) (member : Member) (members : List Used) → lookup test members ≡ Some member
+pub total_set : (test : ℕ → Bool) (end : ℤ) (member : Member) (members : List Used) → lookup test members ≡ Some member
     → total_of (set_value test members (to_end end member)) ≡ total_of members
 total_set test end member members found =
     let old = total_is members in

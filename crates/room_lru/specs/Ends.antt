@@ -13,6 +13,10 @@ End = ℤ × ℕ
 abbrev pub by_end : End → End → Ordering
 by_end one other = ordering_then (int_cmp one.0 other.0) (nat_cmp one.1 other.1)
 
+-- this end with this handle is the one
+abbrev pub is_end_at : ℤ → ℕ → End → Bool
+is_end_at end handle one = int_eq end one.0 && nat_eq handle one.1
+
 abbrev pub has_end : End → Used → Bool
 has_end end member = int_eq member.1.end end.0 && nat_eq member.1.handle end.1
 

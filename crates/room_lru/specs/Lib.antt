@@ -1,4 +1,5 @@
 pub mod Members
 pub mod Ends
+pub mod Endings
 pub mod Kept
 pub mod Room

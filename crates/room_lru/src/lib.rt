@@ -6,11 +6,13 @@
 //! for a new one; `expired` finds one that is over without a walk.
 #![tactic(auto)]
 
+mod ending;
 mod front;
 mod laws;
 mod member;
 mod room;
 
+pub use ending::Ending;
 pub use laws::one_count_makes_room;
 pub use member::Member;
 pub use room::RoomLru;

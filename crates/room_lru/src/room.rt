@@ -4,9 +4,11 @@ ghost use Rattle.std.specs.List.{AllByRecursion};
 ghost use Rattle.std.specs.Map.{lookup};
 ghost use Rattle.std.specs.Option.{ForSome};
 ghost use Rattle.room_lru.specs.Ends.{IsFree, EndsFirst};
+ghost use Rattle.room_lru.specs.Endings.{AreEndings, with_ends};
 ghost use Rattle.room_lru.specs.Members.{AreInOrder, IsLatest, total_of, used_again, with_end, without, without_all};
 ghost use Rattle.room_lru.specs.Room.{AreOut, LackRoom, others};
 
+use crate::ending::{Ending, enter_new, leave_old, set_ends};
 use crate::front::first_out;
 use crate::member::Member;
 use std::alloc::{AllocError, Global};
@@ -149,6 +151,19 @@ impl RoomLru {
             self.ends.remove(&(member.end, member.handle));
             member.end = end;
         }
+        Ok(())
+    }
+
+    /// Gives several members other ends, of which no member has one with the same handle. Where memory is wanting all stay as
+    /// they were.
+    pub fn move_ends(&mut self, endings: &[Ending]) -> Result<(), AllocError>
+        requires { AreEndings self.old endings.now }
+        ensures ok { OnOk result (self.new ≡ with_ends endings.now self.old) }
+        ensures err { OnErr result (self.new ≡ self.old) }
+    {
+        enter_new(&mut self.ends, endings)?;
+        leave_old(&mut self.ends, endings);
+        set_ends(&mut self.members, endings);
         Ok(())
     }
 
