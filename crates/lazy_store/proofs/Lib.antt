@@ -16,3 +16,6 @@ pub mod Cuts
 pub mod Numbers
 pub mod Chored
 pub mod Again
+pub mod Puttings
+pub mod Tidyings
+pub mod Displacing

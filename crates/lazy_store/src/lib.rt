@@ -12,8 +12,10 @@ mod marking;
 mod numbering;
 mod placement;
 mod purging;
+mod putting;
 mod store;
 mod testing;
+mod tidying;
 mod waiting;
 
 pub use placement::Placement;
