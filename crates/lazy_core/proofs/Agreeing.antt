@@ -11,12 +11,13 @@ use Rattle.cache_law.specs.Lookup.{Scan, passing}
 use Rattle.cache_law.proofs.BanLemmas.{equal_bans_alike}
 use Rattle.cache_law.proofs.Held.{all-weaken}
 use Rattle.ban_lurker.specs.Looks.{is_above}
-use Rattle.lazy_core.specs.Placed.{Placed, above, is_alive, is_dead, is_met, is_unswept, those_alive}
+use Rattle.lazy_core.specs.Placed.{Placed, above, is_alive, is_dead, is_met, is_unswept, marked_at, those_alive}
+use Rattle.lazy_core.specs.Insertion.{tended}
 use Rattle.lazy_core.specs.Scan.{scanned_late, tested_late}
 use Rattle.lazy_core.specs.Purging.{is_softened, softened_late, softening_late}
 use Rattle.lazy_core.specs.Sweeping.{swept, sweeping}
 use Rattle.lazy_core.specs.Stands.{Agrees, PassesAlike}
-use Rattle.lazy_core.proofs.Filters.{any_of_filter, any_on, each, filter_on}
+use Rattle.lazy_core.proofs.Filters.{any_of_filter, any_on, each, filter_on, passes_on}
 
 pub matches_alike : (object : Object) → PassesAlike (matches object)
 matches_alike object ban later e = equal_bans_alike later.ban ban.ban later.moment ban.moment object None e
@@ -52,6 +53,15 @@ pub same_alive : (moment : ℕ) (kept bans : List Issued) (objects : List Placed
 same_alive moment kept bans objects all =
     filter_on (is_alive moment kept) (is_alive moment bans) objects
     (all-weaken (Agrees kept bans) (λ p. is_alive moment kept p ≡ is_alive moment bans p) (λ p agrees. ap (λ (b : Bool). in_time moment p.view.object && not b) (same_dead kept bans p agrees)) objects all)
+
+pub same_tended : (moment : ℕ) (kept bans : List Issued) (issued : ℕ) (objects : List Placed) → AllAgree kept bans objects → tended moment kept issued objects ≡ tended moment bans issued objects
+same_tended moment kept bans issued objects all =
+    passes_on (is_alive moment kept) (is_alive moment bans) (sweeping (is_unswept kept) issued) (sweeping (is_unswept bans) issued) objects
+    (all-weaken (Agrees kept bans) (λ p. (is_alive moment kept p ≡ is_alive moment bans p) × (sweeping (is_unswept kept) issued p ≡ sweeping (is_unswept bans) issued p))
+    (λ p agrees. (
+      ap (λ (b : Bool). in_time moment p.view.object && not b) (same_dead kept bans p agrees),
+      ap (λ (b : Bool). cond b (marked_at issued p) p) (same_unswept kept bans p agrees),
+    )) objects all)
 
 same_swept_step : (kept bans : List Issued) (chosen : Placed → Bool) (p : Placed) → Agrees kept bans p → not (chosen p && is_dead kept p) ≡ not (chosen p && is_dead bans p)
 same_swept_step kept bans chosen p agrees = ap (λ (b : Bool). not (chosen p && b)) (same_dead kept bans p agrees)

@@ -8,10 +8,10 @@ use Rattle.cache_law.specs.declared.call.Query.{Query}
 use Rattle.cache_law.specs.Object.{in_time, is_marker, key_of, same_texts}
 use Rattle.cache_law.specs.Lookup.{Scan, ending, is_chosen_by, is_fresh, passing, raised, seeing}
 use Rattle.cache_law.proofs.Held.{all-filter, all-map}
-use Rattle.lazy_core.specs.Placed.{Placed, is_alive, is_dead, marked_at, tested_at, those_alive, tidied}
+use Rattle.lazy_core.specs.Placed.{Placed, is_alive, is_dead, is_unswept, marked_at, tested_at, those_alive, tidied}
 use Rattle.lazy_core.specs.Scan.{counted_late, counting_late, is_struck, scanned_late, touched_late, touching_late, used_by}
 use Rattle.lazy_core.specs.Purging.{is_softened, soft_of, softened_late, softening_late}
-use Rattle.lazy_core.specs.Insertion.{fits_late, has_number, made_room, others_late, outweighs_late, staying_late}
+use Rattle.lazy_core.specs.Insertion.{fits_late, has_number, made_room, others_late, outweighs_late, staying_late, tended}
 use Rattle.lazy_core.specs.Sweeping.{swept, sweeping}
 
 -- It stays so as the object is used, and once it was tested on all bans, of which so many were issued.
@@ -74,11 +74,16 @@ module _ (issued : ℕ) (P : Placed → Type 0) (stays : Stays issued P) where
   pub keep_tidied : (moment : ℕ) (bans : List Issued) (objects : List Placed) → AllByRecursion P objects → AllByRecursion P (tidied moment bans issued objects)
   keep_tidied moment bans objects all = all-map P P (marked_at issued) stays.marks (those_alive moment bans objects) (all-filter P (is_alive moment bans) objects all)
 
+  keep_tended : (moment : ℕ) (bans : List Issued) (objects : List Placed) → AllByRecursion P objects → AllByRecursion P (tended moment bans issued objects)
+  keep_tended moment bans objects all =
+      all-map P P (sweeping (is_unswept bans) issued) (λ p here. chosen P (is_unswept bans p) (marked_at issued p) p (stays.marks p here) here) (those_alive moment bans objects)
+      (all-filter P (is_alive moment bans) objects all)
+
   pub keep_made : (room size moment : ℕ) (bans : List Issued) (others : List Placed) → AllByRecursion P others → AllByRecursion P (made_room room size moment bans issued others)
   keep_made room size moment bans others all =
-      let tidy : List Placed = tidied moment bans issued others in
+      let tidy : List Placed = tended moment bans issued others in
       chosen_all P (fits_late room size others) others (staying_late room size tidy) all
-      (all-filter P (λ p. not (outweighs_late room size tidy p)) tidy (keep_tidied moment bans others all))
+      (all-filter P (λ p. not (outweighs_late room size tidy p)) tidy (keep_tended moment bans others all))
 
   pub keep_swept : (chosen_ : Placed → Bool) (bans : List Issued) (objects : List Placed) → AllByRecursion P objects → AllByRecursion P (swept chosen_ bans issued objects)
   keep_swept chosen_ bans objects all =

@@ -7,9 +7,10 @@ use Rattle.cache_law.specs.Object.{in_time, size_of}
 use Rattle.cache_law.specs.Room.{displaced, has_no_room, is_used_from, most_displaced, outweighs, staying}
 use Rattle.cache_law.specs.State.{Held, sizes_of}
 use Rattle.cache_law.proofs.Held.{all-filter, all-map}
-use Rattle.lazy_core.specs.Placed.{Placed, above, held_of, is_alive, is_dead, marked_at, seen, those_alive, tidied}
-use Rattle.lazy_core.specs.Insertion.{displaced_late, fits_late, has_no_room_late, is_used_from_late, lacks_room, made_room, outweighs_late, sizes_late, staying_late}
-use Rattle.lazy_core.proofs.Filters.{all_pass, each, filter_all, filter_none, filter_of_map, filter_on, length_of_map, map_of_map, sum_of_filter, sum_of_map}
+use Rattle.lazy_core.specs.Placed.{Placed, above, held_of, is_alive, is_dead, is_unswept, marked_at, seen, those_alive, tidied}
+use Rattle.lazy_core.specs.Insertion.{displaced_late, fits_late, has_no_room_late, is_used_from_late, lacks_room, made_room, outweighs_late, sizes_late, staying_late, tended}
+use Rattle.lazy_core.specs.Sweeping.{sweeping}
+use Rattle.lazy_core.proofs.Filters.{all_pass, each, filter_all, filter_none, filter_of_map, filter_on, length_of_map, map_of_map, passes_on, sum_of_filter, sum_of_map}
 
 -- ---- among objects that are all seen
 
@@ -46,13 +47,34 @@ pub all_alive : (moment : ℕ) (bans : List Issued) (issued : ℕ) (objects : Li
 all_alive moment bans issued objects none_ =
     all-map (λ p. is_alive moment bans p ≡ true) (λ p. is_alive moment bans p ≡ true) (marked_at issued) (λ p. still_alive moment bans issued p none_) (those_alive moment bans objects) (all_pass (is_alive moment bans) objects)
 
+-- ---- and so are those that were tested where they waited
+
+held_case : (bans : List Issued) (issued : ℕ) (p : Placed) (b : Bool) → held_of bans (cond b (marked_at issued p) p) ≡ held_of bans p
+held_case bans issued p true = refl
+held_case bans issued p false = refl
+
+tended_seen : (moment : ℕ) (bans : List Issued) (issued : ℕ) (objects : List Placed) → seen moment bans objects ≡ map (held_of bans) (tended moment bans issued objects)
+tended_seen moment bans issued objects =
+    sym (map_of_map (held_of bans) (sweeping (is_unswept bans) issued) (those_alive moment bans objects)
+    ∙ passes_on (is_alive moment bans) (is_alive moment bans) (λ p. held_of bans (sweeping (is_unswept bans) issued p)) (held_of bans) objects
+    (each _ (λ p. (refl, held_case bans issued p (is_unswept bans p))) objects))
+
+tend_case : (moment : ℕ) (bans : List Issued) (issued : ℕ) (p : Placed) (b : Bool) → above issued bans ≡ [] → is_alive moment bans p ≡ true → is_alive moment bans (cond b (marked_at issued p) p) ≡ true
+tend_case moment bans issued p true none_ alive = still_alive moment bans issued p none_ alive
+tend_case moment bans issued p false none_ alive = alive
+
+all_tended : (moment : ℕ) (bans : List Issued) (issued : ℕ) (objects : List Placed) → above issued bans ≡ [] → AllByRecursion (λ p. is_alive moment bans p ≡ true) (tended moment bans issued objects)
+all_tended moment bans issued objects none_ =
+    all-map (λ p. is_alive moment bans p ≡ true) (λ p. is_alive moment bans p ≡ true) (sweeping (is_unswept bans) issued) (λ p. tend_case moment bans issued p (is_unswept bans p) none_)
+    (those_alive moment bans objects) (all_pass (is_alive moment bans) objects)
+
 staying_seen : (room size moment : ℕ) (bans : List Issued) (issued : ℕ) (others : List Placed) → above issued bans ≡ []
-    → staying room size (seen moment bans others) ≡ seen moment bans (staying_late room size (tidied moment bans issued others))
+    → staying room size (seen moment bans others) ≡ seen moment bans (staying_late room size (tended moment bans issued others))
 staying_seen room size moment bans issued others none_ =
-    let tidy : List Placed = tidied moment bans issued others in
-    ap (staying room size) (tidied_seen moment bans issued others) ∙ staying_same room size bans tidy
+    let tidy : List Placed = tended moment bans issued others in
+    ap (staying room size) (tended_seen moment bans issued others) ∙ staying_same room size bans tidy
     ∙ ap (map (held_of bans)) (sym (filter_all (is_alive moment bans) (staying_late room size tidy)
-    (all-filter (λ p. is_alive moment bans p ≡ true) (λ p. not (outweighs_late room size tidy p)) tidy (all_alive moment bans issued others none_))))
+    (all-filter (λ p. is_alive moment bans p ≡ true) (λ p. not (outweighs_late room size tidy p)) tidy (all_tended moment bans issued others none_))))
 
 -- ---- where all that is stored leaves room
 
@@ -79,15 +101,15 @@ fits_seen : (room size moment : ℕ) (bans : List Issued) (others : List Placed)
 fits_seen room size moment bans others e = let all = leb-true (sizes_late others + size) room e in let part = seen_light moment bans others in omega (arith, all, part)
 
 no_room_case : (room size moment : ℕ) (bans : List Issued) (issued : ℕ) (others : List Placed) (b : Bool) → fits_late room size others ≡ b
-    → has_no_room room size (seen moment bans others) ≡ cond b false (lacks_room room size (tidied moment bans issued others))
+    → has_no_room room size (seen moment bans others) ≡ cond b false (lacks_room room size (tended moment bans issued others))
 no_room_case room size moment bans issued others true e = room_there room size (seen moment bans others) (fits_seen room size moment bans others e)
-no_room_case room size moment bans issued others false e = ap (has_no_room room size) (tidied_seen moment bans issued others) ∙ no_room_same room size bans (tidied moment bans issued others)
+no_room_case room size moment bans issued others false e = ap (has_no_room room size) (tended_seen moment bans issued others) ∙ no_room_same room size bans (tended moment bans issued others)
 
 pub seen_no_room : (room size moment : ℕ) (bans : List Issued) (issued : ℕ) (others : List Placed) → has_no_room room size (seen moment bans others) ≡ has_no_room_late room size moment bans issued others
 seen_no_room room size moment bans issued others = no_room_case room size moment bans issued others (fits_late room size others) refl
 
 made_case : (room size moment : ℕ) (bans : List Issued) (issued : ℕ) (others : List Placed) (b : Bool) → fits_late room size others ≡ b → above issued bans ≡ []
-    → staying room size (seen moment bans others) ≡ seen moment bans (cond b others (staying_late room size (tidied moment bans issued others)))
+    → staying room size (seen moment bans others) ≡ seen moment bans (cond b others (staying_late room size (tended moment bans issued others)))
 made_case room size moment bans issued others true e none_ = all_stay room size (seen moment bans others) (fits_seen room size moment bans others e)
 made_case room size moment bans issued others false e none_ = staying_seen room size moment bans issued others none_
 

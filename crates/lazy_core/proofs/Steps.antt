@@ -19,14 +19,14 @@ use Rattle.cache_law.specs.State.{Held, State, has_fetch, has_round, is_gone, th
 use Rattle.cache_law.specs.Law.{Step, closing, found_by, inserted, leaving, looked_up, missed, placed, purged, purged_by, remembered, sought, stored}
 use Rattle.cache_law.proofs.Held.{all-filter, all-weaken}
 use Rattle.cache_law.proofs.Moments.{those_in_time-later}
-use Rattle.lazy_core.specs.Placed.{Lazy, Placed, above, kept_bans, marked_at, seen, since}
+use Rattle.lazy_core.specs.Placed.{Lazy, Placed, above, kept_bans, seen, since}
 use Rattle.lazy_core.specs.Scan.{scanned_late, used_by}
 use Rattle.lazy_core.specs.Purging.{count_alive, is_of_key, is_of_xkeys, softened_late, without_late, xkey_late}
 use Rattle.lazy_core.specs.Insertion.{fits_late, has_no_room_late, has_number, is_gone_late, lacks_room, made_room, new_placed, others_late, place_for, stored_late, staying_late}
 use Rattle.lazy_core.specs.Banning.{banned_late, with_line}
 use Rattle.lazy_core.specs.Stands.{Agrees, IsKept, IsWithin, StandsFor}
 use Rattle.lazy_core.specs.Late.{LateStep, desk_of, found_late, inserted_late, leaving_late, looked_up_late, placed_late, purged_by_late, purged_late, sought_late, stored_step}
-use Rattle.lazy_core.proofs.Agreeing.{same_alive, same_scanned, same_softened}
+use Rattle.lazy_core.proofs.Agreeing.{same_alive, same_scanned, same_softened, same_tended}
 use Rattle.lazy_core.proofs.Keeping.{keep_left, keep_made, keep_scanned, keep_softened, keep_used}
 use Rattle.lazy_core.proofs.Lines.{banned_agrees, banned_lines, bans_of, lines_up_to}
 use Rattle.lazy_core.proofs.Making.{seen_made, seen_no_room}
@@ -130,12 +130,12 @@ gone_same moment own bans (Some stale) objects all = ap (λ (alive : List Placed
 
 made_same : (room size moment : ℕ) (own bans : List Issued) (issued : ℕ) (others : List Placed) → AllByRecursion (Agrees own bans) others → made_room room size moment own issued others ≡ made_room room size moment bans issued others
 made_same room size moment own bans issued others all =
-    ap (λ (alive : List Placed). cond (fits_late room size others) others (staying_late room size (map (marked_at issued) alive))) (same_alive moment own bans others all)
+    ap (λ (tidy : List Placed). cond (fits_late room size others) others (staying_late room size tidy)) (same_tended moment own bans issued others all)
 
 no_room_same : (room size moment : ℕ) (own bans : List Issued) (issued : ℕ) (others : List Placed) → AllByRecursion (Agrees own bans) others
     → has_no_room_late room size moment own issued others ≡ has_no_room_late room size moment bans issued others
 no_room_same room size moment own bans issued others all =
-    ap (λ (alive : List Placed). cond (fits_late room size others) false (lacks_room room size (map (marked_at issued) alive))) (same_alive moment own bans others all)
+    ap (λ (tidy : List Placed). cond (fits_late room size others) false (lacks_room room size tidy)) (same_tended moment own bans issued others all)
 
 -- what an insertion leaves
 stored_seen : (room moment place : ℕ) (bans : List Issued) (issued token : ℕ) (object : Object) (stale : Option ℕ) (objects : List Placed) → in_time moment object ≡ true → above issued bans ≡ [] → since issued bans ≡ []

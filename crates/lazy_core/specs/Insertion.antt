@@ -1,13 +1,14 @@
 -- An insertion into a cache that tests its objects on bans later. Where the sizes of all that is stored leave room, nothing is
--- tested; else the objects are tidied first, since the law's sum leaves out those that bans match.
-use Rattle.std.specs.Prelude.{ℕ, Bool, false, not, List, ◌∷◌, ◌+◌, ◌==◌, ◌||◌, nat_le, nat_lt, Option, Some, None, filter, find, length, sum_by, if◌then◌else◌}
+-- tested; else those that wait are tested first, since the law's sum leaves out those that bans match.
+use Rattle.std.specs.Prelude.{ℕ, Bool, false, not, List, ◌∷◌, ◌+◌, ◌==◌, ◌||◌, nat_le, nat_lt, Option, Some, None, filter, find, length, map, sum_by, if◌then◌else◌}
 use Rattle.std.specs.List.{list_any}
 use Rattle.std.specs.Option.{option_map_or}
 use Rattle.cache_law.specs.declared.ban.Issued.{Issued}
 use Rattle.cache_law.specs.declared.object.Object.{Object}
 use Rattle.cache_law.specs.Object.{size_of}
 use Rattle.cache_law.specs.Room.{most_displaced}
-use Rattle.lazy_core.specs.Placed.{Placed, those_alive, tidied}
+use Rattle.lazy_core.specs.Placed.{Placed, is_unswept, those_alive}
+use Rattle.lazy_core.specs.Sweeping.{sweeping}
 
 abbrev pub has_number : ℕ → Placed → Bool
 has_number number placed = placed.view.number == number
@@ -43,6 +44,10 @@ displaced_late room size others = filter (outweighs_late room size others) other
 abbrev pub staying_late : ℕ → ℕ → List Placed → List Placed
 staying_late room size others = filter (λ placed. not (outweighs_late room size others placed)) others
 
+-- those that are alive; those of them that waited for the lurker count as tested on all bans on objects alone
+abbrev pub tended : ℕ → List Issued → ℕ → List Placed → List Placed
+tended moment bans issued objects = map (sweeping (is_unswept bans) issued) (those_alive moment bans objects)
+
 -- one of the size finds room beside all that is stored
 abbrev pub fits_late : ℕ → ℕ → List Placed → Bool
 fits_late room size others = nat_le (sizes_late others + size) room
@@ -52,11 +57,11 @@ lacks_room room size others = nat_lt room size || nat_lt most_displaced (length 
 
 abbrev pub has_no_room_late : ℕ → ℕ → ℕ → List Issued → ℕ → List Placed → Bool
 has_no_room_late room size moment bans issued others =
-    if fits_late room size others then false else lacks_room room size (tidied moment bans issued others)
+    if fits_late room size others then false else lacks_room room size (tended moment bans issued others)
 
 abbrev pub made_room : ℕ → ℕ → ℕ → List Issued → ℕ → List Placed → List Placed
 made_room room size moment bans issued others =
-    if fits_late room size others then others else staying_late room size (tidied moment bans issued others)
+    if fits_late room size others then others else staying_late room size (tended moment bans issued others)
 
 -- the object under the number of its fetch, used at the place of this entry, where so many bans were issued
 abbrev pub new_placed : ℕ → ℕ → Object → ℕ → ℕ → Placed

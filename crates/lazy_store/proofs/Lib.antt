@@ -19,3 +19,6 @@ pub mod Again
 pub mod Softens
 pub mod SoftPurges
 pub mod Plans
+pub mod Puttings
+pub mod Tidyings
+pub mod Displacing

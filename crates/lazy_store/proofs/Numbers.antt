@@ -78,7 +78,7 @@ module _ {X : Type 0} where
   look_step x y found other is = rw (eq_turned y.0 x.0 ∙ other) is
 
   -- each is looked up by its handle
-  looked_own : (members : List (ℕ × X)) → AreApart (λ (m : ℕ × X). m.0) members → AllByRecursion (λ (m : ℕ × X). lookup (nat_eq m.0) members ≡ Some m.1) members
+  pub looked_own : (members : List (ℕ × X)) → AreApart (λ (m : ℕ × X). m.0) members → AllByRecursion (λ (m : ℕ × X). lookup (nat_eq m.0) members ≡ Some m.1) members
   looked_own [] apart = tt
   looked_own (m ∷ ms) apart = (
     rw (own_eq m.0) refl,

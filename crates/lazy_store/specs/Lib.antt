@@ -11,3 +11,5 @@ pub mod Numbered
 pub mod Purged
 pub mod Chores
 pub mod Uses
+pub mod Tidying
+pub mod Displaced

@@ -2,7 +2,7 @@
 ghost use Rattle.std.specs.Prelude.{◌≡◌, ◌≤◌, nat_eq, true, option_map, IfNone, IfSome};
 ghost use Rattle.std.specs.List.{AllByRecursion, list_any};
 ghost use Rattle.lazy_store.specs.Members.{at_number, handle_of, stand_of};
-ghost use Rattle.lazy_store.specs.Found.{found_in, is_marked_below};
+ghost use Rattle.lazy_store.specs.Found.{found_in, is_marked_below, last_use};
 ghost use Rattle.lazy_store.specs.Tied.{AreApart, IsAhead};
 
 use crate::placement::Placement;
@@ -26,6 +26,20 @@ pub(crate) fn find(heads: &Heads<Placement>, number: u64) -> Option<Found>
                 handle,
                 placement: item.payload,
             }),
+            None => None,
+        },
+        None => None,
+    }
+}
+
+/// The place at which the object of the number, if one is given, was used last.
+pub(crate) fn last_use(heads: &Heads<Placement>, number: Option<u64>) -> Option<u64>
+    requires { AreApart handle_of heads.now }
+    ensures { result ≡ last_use number heads.now }
+{
+    match number {
+        Some(number) => match find(heads, number) {
+            Some(found) => Some(found.placement.used),
             None => None,
         },
         None => None,

@@ -13,9 +13,11 @@ mod numbering;
 mod placement;
 mod plan;
 mod purging;
+mod putting;
 mod soft_purging;
 mod store;
 mod testing;
+mod tidying;
 mod waiting;
 
 pub use placement::Placement;

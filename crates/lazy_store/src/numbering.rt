@@ -6,7 +6,8 @@ use crate::placement::Placement;
 use object_heads::Heads;
 use std::alloc::{AllocError, Global};
 
-fn number_at(heads: &Heads<Placement>, handle: u64) -> Option<u64>
+/// The number of the object of the handle.
+pub(crate) fn number_at(heads: &Heads<Placement>, handle: u64) -> Option<u64>
     ensures { result ≡ number_at heads.now handle }
 {
     match heads.get(handle) {

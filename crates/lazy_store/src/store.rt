@@ -1,9 +1,11 @@
 // Objects and bans in their containers.
-ghost use Rattle.std.specs.Prelude.{◌≡◌, ◌↔◌, None, ◌≤◌, ◌<◌, ◌+◌, ◌-◌, ◌^◌, true, false, min, Some, find as seek, option_map, IsTrue, IfNone, IfOk, IfSome, OnErr, OnOk};
+ghost use Rattle.std.specs.Prelude.{◌≡◌, ◌↔◌, None, ◌≤◌, ◌<◌, ◌+◌, ◌-◌, ◌^◌, true, false, min, Some, find as seek, option_map, IsTrue, IfNone, IfOk, IfSome, MatchOption, OnErr, OnOk};
 ghost use Rattle.std.specs.List.{AllByRecursion, list_any};
 ghost use Rattle.std.specs.Option.{option_copied};
 ghost use Rattle.lazy_core.specs.Banning.{banned_late};
-ghost use Rattle.lazy_core.specs.Insertion.{has_number as is_numbered};
+ghost use Rattle.cache_law.specs.Object.{in_time, size_of};
+ghost use Rattle.cache_law.specs.Purges.{xkeys_of};
+ghost use Rattle.lazy_core.specs.Insertion.{has_number as is_numbered, lacks_room, others_late, sizes_late};
 ghost use Rattle.lazy_core.specs.Placed.{Placed, above, is_dead, is_met, is_unswept, kept_bans, marked_at, nothing_kept};
 ghost use Rattle.lazy_core.specs.Purging.{is_of_key, is_of_xkeys};
 ghost use Rattle.lazy_core.specs.Scan.{is_struck};
@@ -12,17 +14,20 @@ ghost use Rattle.lazy_core.specs.Sweeping.{count_unswept, judged_lazy, swept_laz
 ghost use Rattle.lazy_store.specs.Changes.{moved, without};
 ghost use Rattle.lazy_store.specs.Chores.{IsChoreIn};
 ghost use Rattle.lazy_store.specs.Cutting.{AreCut};
+ghost use Rattle.lazy_store.specs.Displaced.{AreDisplaced, with_first};
 ghost use Rattle.lazy_store.specs.Lurking.{AreSwept, is_waiting_as};
 ghost use Rattle.lazy_store.specs.Members.{number_in, placed_in};
 ghost use Rattle.lazy_store.specs.Numbered.{numbers_where};
 ghost use Rattle.lazy_store.specs.Settling.{is_open, is_settled, is_sound as is_sound_for, settled};
 ghost use Rattle.lazy_store.specs.Softening.{softened_all};
 ghost use Rattle.lazy_store.specs.Tied.{AreApart};
+ghost use Rattle.lazy_store.specs.Tidying.{is_ended_as};
 ghost use Rattle.lazy_store.specs.Uses.{AreUsedBefore, used_at, with_hit};
 
+use crate::ends::end_of;
 use crate::errands::bans_above;
-use crate::finding::{Waiting, find, waiting_round};
-use crate::numbering::numbers_at;
+use crate::finding::{Waiting, find, last_use, waiting_round};
+use crate::numbering::{number_at, numbers_at};
 use crate::placement::Placement;
 use crate::plan::{Plan, plan_for, set_objects};
 use crate::testing::is_matched;
@@ -32,7 +37,7 @@ use ban_list::{BanList, Stand};
 use ban_lurker::{BanRun, Chore, Verdict};
 use cache_law::{Ban, BanLine, Query, RequestView};
 use object_heads::{Heads, Item};
-use room_lru::RoomLru;
+use room_lru::{Member, RoomLru};
 use std::alloc::{AllocError, Global};
 use std::marker::Model;
 use units::{Sequence, Shared, Text};
@@ -131,7 +136,7 @@ impl Store {
     }
 
     /// Takes the object of the number out, where there is one. It takes no memory.
-    pub(crate) fn remove(&mut self, number: u64)
+    pub fn remove(&mut self, number: u64)
         ensures { self.new ≡ without number self.old }
     {
         let found = match find(&self.heads, number) {
@@ -320,8 +325,89 @@ impl Store {
         self.bans.shown(alloc)
     }
 
+    /// What all objects take of the room together, in bytes. It takes no memory.
+    pub fn total(&self) -> u64
+        ensures { result ≡ sizes_late self.now.objects }
+    {
+        self.room.total()
+    }
+
+    /// Puts one more object first, of these xkeys and this size, which was used later than all others and was tested on all bans
+    /// on objects alone. Where memory is wanting all is as before.
+    pub(crate) fn put_item(
+        &mut self,
+        alloc: Global,
+        item: Item<Placement>,
+        keys: Sequence<Text>,
+        size: u64,
+    ) -> Result<(), AllocError>
+        requires later { AreUsedBefore item.payload.used self.old.objects }
+        requires own { list_any (is_numbered item.view.number) self.old.objects ≡ false }
+        requires place { item.payload.stand.place ≤ self.old.issued }
+        requires mark { item.payload.stand.mark ≡ self.old.issued }
+        requires keys { keys ≡ xkeys_of item.view.object }
+        requires size { size ≡ size_of item.view.object }
+        requires fits { sizes_late self.old.objects + size < 2 ^ 64 }
+        ensures ok { OnOk result (self.new ≡ with_first (placed_in item) self.old) }
+        ensures err { OnErr result (self.new ≡ self.old) }
+    {
+        // that the numbers fall along the lines
+        let _issued = self.bans.issued();
+        let used = item.payload.used;
+        let stand = item.payload.stand;
+        let handle = u64::MAX - used;
+        let end = end_of(&item.view.object);
+        self.room.put_last(used, Member { handle, size, end })?;
+        if self.tagged.put_first(alloc, handle, keys).is_err() {
+            self.room.take(used);
+            return Err(AllocError);
+        }
+        if self.heads.put_first(alloc, handle, item).is_err() {
+            self.tagged.take(handle);
+            self.room.take(used);
+            return Err(AllocError);
+        }
+        self.bans.enter(stand);
+        Ok(())
+    }
+
+    /// The number of an object that isn't in time at the moment. It takes no memory.
+    pub(crate) fn ended(&self, moment: u64) -> Option<u64>
+        ensures apart { AreApart number_in self.now.objects }
+        ensures some { IfSome result (λ number. list_any (is_ended_as moment number) self.now.objects ≡ true) }
+        ensures none { IfNone result (AllByRecursion (λ placed. in_time moment placed.view.object ≡ true) self.now.objects) }
+    {
+        match self.room.expired(moment) {
+            Some(handle) => number_at(&self.heads, handle),
+            None => None,
+        }
+    }
+
+    /// The numbers of the objects that have to go so that a new one of this size finds room in the stale one's place: the least
+    /// recently used, as many as are needed. None where more than 50 would have to go, or the new one is larger than the room. An
+    /// error means that memory was wanting.
+    pub fn least_out(
+        &self,
+        alloc: Global,
+        stale: Option<u64>,
+        room: u64,
+        size: u64,
+    ) -> Result<Option<Vec<u64>>, AllocError>
+        ensures { IfOk result (λ out. MatchOption out
+            (lacks_room room size (others_late stale self.now.objects) ≡ true)
+            (λ numbers. AreDisplaced room size stale self.now.objects numbers.items)) }
+    {
+        // that each use is later than those before it
+        let _total = self.room.total();
+        let but = last_use(&self.heads, stale);
+        match self.room.least_out(alloc, but, room, size)? {
+            Some(handles) => Ok(Some(numbers_at(&self.heads, alloc, &handles)?)),
+            None => Ok(None),
+        }
+    }
+
     // The number of the newest ban: an object with this mark doesn't wait for the lurker.
-    fn newest_mark(&self) -> u64
+    pub(crate) fn newest_mark(&self) -> u64
         ensures count { result ≡ self.now.issued }
         ensures swept { (placed : Placed) → is_unswept (kept_bans self.now) (marked_at self.now.issued placed) ≡ false }
     {
@@ -341,7 +427,7 @@ impl Store {
     }
 
     // The number of an object that waits for the lurker. The next time it goes on from there.
-    fn next_waiting(&mut self) -> Option<u64>
+    pub(crate) fn next_waiting(&mut self) -> Option<u64>
         ensures same { self.new ≡ self.old }
         ensures apart { AreApart number_in self.old.objects }
         ensures some { IfSome result (λ number. list_any (is_waiting_as number (kept_bans self.old)) self.old.objects ≡ true) }
