@@ -133,6 +133,20 @@ some_bytes (byte ∷ front) rest e = cc
 ended_first : (one : Line) (lines : List Line) → lines_text (one ∷ lines) ≡ text_of one ++ 10 ∷ lines_text lines
 ended_first one lines = append_assoc (text_of one) (10 ∷ []) (lines_text lines)
 
+-- a line that is written within the range of its numbers holds no LF
+pub no_feed_in : (one : Line) → AreWords (line_words one) → AllByRecursion (λ (byte : ℕ). byte ≢ 10) (text_of one)
+unfolding HasNoFeed
+no_feed_in one h = line_free (line_words one) h
+
+-- texts without LF, each with its LF and a rest
+pub feeds_same : (v w x y : List ℕ) → AllByRecursion (λ (byte : ℕ). byte ≢ 10) v → AllByRecursion (λ (byte : ℕ). byte ≢ 10) w → v ++ 10 ∷ x ≡ w ++ 10 ∷ y → (v ≡ w) × (x ≡ y)
+unfolding HasNoFeed
+feeds_same v w x y h k e = fronts v w x y h k e
+
+-- the text of one line more
+pub ended-first : (one : Line) (lines : List Line) → lines_text (one ∷ lines) ≡ text_of one ++ 10 ∷ lines_text lines
+ended-first one lines = ended_first one lines
+
 pub lines_same : (some others : List Line) → AreLines some → AreLines others → lines_text some ≡ lines_text others → some ≡ others
 lines_same [] [] h k e = refl
 lines_same [] (b ∷ others) h k e = absurd (some_bytes (text_of b) (lines_text others) (e ∙ ended_first b others))

@@ -1,0 +1,4 @@
+pub mod Agreeing
+pub mod Wholes
+pub mod Fronts
+pub mod Singles

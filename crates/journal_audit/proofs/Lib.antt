@@ -1,0 +1,5 @@
+pub mod Pushing
+pub mod Lining
+pub mod GoneOn
+pub mod Finishing
+pub mod Pieces

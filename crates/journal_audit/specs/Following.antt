@@ -1,0 +1,69 @@
+-- What becomes of a journal that is followed, with an entry, with the end of a segment, and with a line.
+use Rattle.std.specs.Prelude.{◌≡◌, ◌⊎◌, ◌+◌, ℕ, Bool, true, false, Result, Ok, Err}
+use Rattle.cache_law.specs.declared.call.Entry.{Entry}
+use Rattle.cache_law.specs.declared.setting.Params.{Params}
+use Rattle.cache_law.specs.Bases.{IsClosed}
+use Rattle.cache_law.specs.History.{Fits, Follows, bytes_of, next_state}
+use Rattle.cache_law.specs.State.{State}
+use Rattle.journal_text.specs.declared.line.Line.{Line}
+use Rattle.journal_text.specs.declared.line.Said.{Said}
+use Rattle.journal_text.specs.Grammar.{said_of}
+use Rattle.audit_laws.specs.declared.kind.Kind.{Kind}
+use Rattle.audit_laws.specs.declared.kind.Kind.TheVariants as kinds
+use Rattle.audit_laws.specs.Steps.{Place, Before, Within, Closed, Step, MayStep, line_for, place_after}
+use Rattle.audit_laws.specs.Faults.{EntryFault, HasPlace, IsLeast, LineFault}
+use Rattle.journal_audit.specs.declared.phase.Phase.{Phase}
+use Rattle.journal_audit.specs.declared.phase.Phase.TheVariants as phases
+
+-- an entry says so, follows and fits, and this stands behind it
+pub record HasEntered {F : Type 0} (stands : F → Params → State → ℕ → Type 0) (params : Params) (state : State) (used : ℕ) (said : Said) (next : F) : Type 0 where
+  pub entry : Entry
+  pub says : said_of entry ≡ said
+  pub follows : Follows params state entry
+  pub fits : Fits params state used entry.caller entry.moment entry.call
+  pub behind : stands next params (next_state params state entry) (used + bytes_of entry.call)
+
+-- what is said is entered, or this is the least kind of what is wrong with it
+abbrev pub EndsEntry : {F : Type 0} → (F → Params → State → ℕ → Type 0) → Params → State → ℕ → Said → Result F Kind → Type 0
+EndsEntry stands params state used said (Ok next) = HasEntered stands params state used said next
+EndsEntry stands params state used said (Err kind) = IsLeast (EntryFault params state used said) kind
+
+-- the segment has ended, or something is open
+abbrev pub EndsCut : {F : Type 0} → (F → Params → State → ℕ → Type 0) → Params → State → Result F Kind → Type 0
+EndsCut stands params state (Ok next) = IsClosed state × stands next params state 0
+EndsCut stands params state (Err kind) = (IsClosed state → ⊥) × (kind ≡ kinds.Cut)
+
+-- within, some follower stands where the journal does
+pub record IsWithin {F : Type 0} (stands : F → Params → State → ℕ → Type 0) (follower : F) (place : Place) : Type 0 where
+  pub params : Params
+  pub state : State
+  pub used : ℕ
+  pub is : place ≡ Within params state used
+  pub there : stands follower params state used
+
+-- the place of a journal that is followed so far
+abbrev pub IsAt : {F : Type 0} → (F → Params → State → ℕ → Type 0) → Phase F → Place → Type 0
+IsAt stands phases.Before place = place ≡ Before
+IsAt stands (phases.Within follower) place = IsWithin stands follower place
+IsAt stands phases.Closed place = place ≡ Closed
+
+-- it is behind the end
+abbrev pub is_closed : {F : Type 0} → Phase F → Bool
+is_closed phases.Closed = true
+is_closed phase = false
+
+-- what is wrong with a line: it has no place here, or a fault
+abbrev pub ReadFault : Place → Line → Kind → Type 0
+ReadFault place one kind = ((kind ≡ kinds.Text) × (HasPlace place one → ⊥)) ⊎ LineFault place one kind
+
+-- a step is written so and may come next, and this stands behind it
+pub record HasStepped {F : Type 0} (stands : F → Params → State → ℕ → Type 0) (place : Place) (one : Line) (next : Phase F) : Type 0 where
+  pub step : Step
+  pub written : line_for step ≡ one
+  pub may : MayStep place step
+  pub behind : IsAt stands next (place_after place step)
+
+-- what becomes of a place with a line
+abbrev pub EndsLine : {F : Type 0} → (F → Params → State → ℕ → Type 0) → Place → Line → Result (Phase F) Kind → Type 0
+EndsLine stands place one (Ok next) = HasStepped stands place one next
+EndsLine stands place one (Err kind) = IsLeast (ReadFault place one) kind
