@@ -1,0 +1,4 @@
+pub mod Placing
+pub mod Roomy
+pub mod Inserts
+pub mod Unseen
