@@ -1,8 +1,11 @@
 // Steps on members by their last use: `put USED HANDLE SIZE END`, `take USED`, `drop USES`, `get USED`, `use USED LATER`,
-// `end USED END`, `total`, `expired MOMENT` and `out ROOM SIZE` or `out ROOM SIZE BUT`.
+// `end USED END`, `ends USED END USED END`, `total`, `expired MOMENT` and `out ROOM SIZE` or `out ROOM SIZE BUT`.
+ghost use Rattle.std.specs.Prelude.{IfSome};
+ghost use Rattle.room_lru.specs.Endings.{IsEnding};
+
 use crate::steps::Container;
 use crate::words::{first_word, number, numbers, say_numbers};
-use room_lru::{Member, RoomLru};
+use room_lru::{Ending, Member, RoomLru};
 use std::alloc::{AllocError, Global};
 
 impl Container for RoomLru {
@@ -18,6 +21,7 @@ impl Container for RoomLru {
             }
             "use" => move_use(self, rest, out),
             "end" => move_end(self, rest, out),
+            "ends" => move_ends(self, rest, out),
             "total" => write!(out, "{}", self.total()),
             "expired" => match self.expired(number(rest)) {
                 Some(handle) => write!(out, "{handle}"),
@@ -81,6 +85,42 @@ fn move_end(room: &mut RoomLru, rest: &str, out: &mut String) -> Result<(), Allo
     }
     room.move_end(used, end)?;
     out.push_str("ends")
+}
+
+fn move_ends(room: &mut RoomLru, rest: &str, out: &mut String) -> Result<(), AllocError> {
+    let (used, rest) = first_word(rest);
+    let (end, rest) = first_word(rest);
+    let (other, other_end) = first_word(rest);
+    let Some(one) = ending(room, number(used), signed(end)) else {
+        return out.push_str("none or not free");
+    };
+    let Some(two) = ending(room, number(other), signed(other_end)) else {
+        return out.push_str("none or not free");
+    };
+    if one.used == two.used {
+        return out.push_str("one member");
+    }
+    if one.handle == two.handle {
+        return out.push_str("one handle");
+    }
+    room.move_ends(&[one, two])?;
+    out.push_str("end")
+}
+
+// The member of the last use, with an end that none of its handle has.
+fn ending(room: &RoomLru, used: u64, end: i128) -> Option<Ending>
+    ensures { IfSome result (IsEnding room.now) }
+{
+    let member = room.get(used)?;
+    if !room.is_free(end, member.handle) {
+        return None;
+    }
+    Some(Ending {
+        used,
+        handle: member.handle,
+        end: member.end,
+        new_end: end,
+    })
 }
 
 fn say_least_out(
