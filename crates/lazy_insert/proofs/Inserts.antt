@@ -6,10 +6,10 @@ use Rattle.cache_law.specs.declared.object.Object.{Object}
 use Rattle.cache_law.specs.declared.call.Reply.TheVariants as replies
 use Rattle.cache_law.specs.Object.{in_time, size_of}
 use Rattle.cache_law.specs.State.{State}
-use Rattle.lazy_core.specs.Placed.{Lazy, Placed, kept_bans}
-use Rattle.lazy_core.specs.Insertion.{has_number, made_room, new_placed, others_late, place_for, stored_late}
-use Rattle.lazy_core.specs.Late.{LateStep, leaving_late}
-use Rattle.lazy_core.proofs.Filters.{filters_swap}
+use Rattle.lazy_law.specs.Placed.{Lazy, Placed, kept_bans}
+use Rattle.lazy_law.specs.Insertion.{has_number, made_room, new_placed, others_late, place_for, stored_late}
+use Rattle.lazy_law.specs.Late.{LateStep, leaving_late}
+use Rattle.lazy_law.proofs.Filters.{filters_swap}
 use Rattle.lazy_store.specs.Changes.{without}
 use Rattle.lazy_store.specs.Displaced.{with_first}
 use Rattle.lazy_store.specs.Numbered.{is_one_of, without_all}

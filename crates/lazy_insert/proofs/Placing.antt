@@ -3,9 +3,9 @@ use Rattle.std.proofs.Common.{◌≡◌, ℕ, Bool, true, false, not, cond, List
 use Rattle.std.specs.List.{list_any, AllByRecursion}
 use Rattle.std.specs.Option.{option_map_or}
 use Rattle.std.proofs.lemmas.Bool.{false≢true}
-use Rattle.lazy_core.specs.Placed.{Lazy, Placed, is_alive, kept_bans, those_alive}
-use Rattle.lazy_core.specs.Insertion.{has_number, is_gone_late, place_for}
-use Rattle.lazy_core.proofs.Filters.{any_none}
+use Rattle.lazy_law.specs.Placed.{Lazy, Placed, is_alive, kept_bans, those_alive}
+use Rattle.lazy_law.specs.Insertion.{has_number, is_gone_late, place_for}
+use Rattle.lazy_law.proofs.Filters.{any_none}
 use Rattle.lazy_store.specs.Members.{number_in}
 use Rattle.lazy_store.specs.Tied.{AreApart}
 use Rattle.lazy_store.proofs.Numbers.{all_left}

@@ -10,10 +10,10 @@ use Rattle.cache_law.specs.Object.{size_of}
 use Rattle.cache_law.specs.Room.{most_displaced}
 use Rattle.cache_law.proofs.Held.{all-filter, all-map}
 use Rattle.ban_lurker.specs.Looks.{is_above}
-use Rattle.lazy_core.specs.Placed.{Lazy, Placed, above, is_alive, is_dead, is_unswept, kept_bans, marked_at, those_alive}
-use Rattle.lazy_core.specs.Insertion.{displaced_late, fits_late, has_number, lacks_room, made_room, others_late, outweighs_late, sizes_late, staying_late, tended}
-use Rattle.lazy_core.specs.Sweeping.{swept, sweeping}
-use Rattle.lazy_core.proofs.Filters.{any_more, any_of_filter, each, filter_both, filter_of_map, filter_on, filters_swap}
+use Rattle.lazy_law.specs.Placed.{Lazy, Placed, above, is_alive, is_dead, is_unswept, kept_bans, marked_at, those_alive}
+use Rattle.lazy_law.specs.Insertion.{displaced_late, fits_late, has_number, lacks_room, made_room, others_late, outweighs_late, sizes_late, staying_late, tended}
+use Rattle.lazy_law.specs.Sweeping.{swept, sweeping}
+use Rattle.lazy_law.proofs.Filters.{any_more, any_of_filter, each, filter_both, filter_of_map, filter_on, filters_swap}
 use Rattle.lazy_store.specs.Displaced.{AreDisplaced}
 use Rattle.lazy_store.specs.Lurking.{AreSwept, swept_each}
 use Rattle.lazy_store.specs.Members.{number_in}

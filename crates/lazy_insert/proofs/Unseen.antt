@@ -7,13 +7,13 @@ use Rattle.cache_law.specs.History.{reached}
 use Rattle.cache_law.specs.State.{State}
 use Rattle.cache_law.proofs.Held.{all-filter}
 use Rattle.ban_lurker.specs.Looks.{look_of}
-use Rattle.lazy_core.specs.Placed.{Lazy, Placed, held_of, is_alive, is_dead, kept_bans, seen}
-use Rattle.lazy_core.specs.Insertion.{has_number}
-use Rattle.lazy_core.specs.Standing.{IsKnownBy, StandsAt}
-use Rattle.lazy_core.specs.Stands.{Agrees, IsWithin}
-use Rattle.lazy_core.proofs.Filters.{each, filter_both, filter_on}
-use Rattle.lazy_core.proofs.Lurking.{swept_at}
-use Rattle.lazy_core.proofs.Staying.{kept_with}
+use Rattle.lazy_law.specs.Placed.{Lazy, Placed, held_of, is_alive, is_dead, kept_bans, seen}
+use Rattle.lazy_law.specs.Insertion.{has_number}
+use Rattle.lazy_law.specs.Standing.{IsKnownBy, StandsAt}
+use Rattle.lazy_law.specs.Stands.{Agrees, IsWithin}
+use Rattle.lazy_law.proofs.Filters.{each, filter_both, filter_on}
+use Rattle.lazy_law.proofs.Lurking.{swept_at}
+use Rattle.lazy_law.proofs.Staying.{kept_with}
 use Rattle.lazy_store.specs.Lurking.{swept_each}
 use Rattle.lazy_store.specs.Tidying.{is_timely, with_timely}
 use Rattle.lazy_insert.specs.Inserted.{IsTidied}

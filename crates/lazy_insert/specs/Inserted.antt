@@ -6,9 +6,9 @@ use Rattle.cache_law.specs.declared.call.Reply.TheVariants as replies
 use Rattle.cache_law.specs.State.{State}
 use Rattle.cache_frame.specs.declared.seen.Placing.{Placing}
 use Rattle.cache_frame.specs.declared.seen.Placing.TheVariants.{Stored, NotInTime, NoRoom, Refused}
-use Rattle.lazy_core.specs.Placed.{Lazy, kept_bans}
-use Rattle.lazy_core.specs.Insertion.{has_no_room_late, has_number, made_room, others_late, stored_late}
-use Rattle.lazy_core.specs.Late.{LateStep, leaving_late, placed_late}
+use Rattle.lazy_law.specs.Placed.{Lazy, kept_bans}
+use Rattle.lazy_law.specs.Insertion.{has_no_room_late, has_number, made_room, others_late, stored_late}
+use Rattle.lazy_law.specs.Late.{LateStep, leaving_late, placed_late}
 use Rattle.lazy_store.specs.Lurking.{AreSwept}
 use Rattle.lazy_store.specs.Numbered.{is_one_of}
 use Rattle.lazy_store.specs.Tidying.{with_timely}

@@ -1,8 +1,8 @@
 -- The place of a new object among the bans, and the object in whose place it comes.
 use Rattle.std.specs.Prelude.{ℕ, ◌==◌, Option, None, Some, find, if◌then◌else◌}
 use Rattle.std.specs.Option.{option_map_or}
-use Rattle.lazy_core.specs.Placed.{Lazy}
-use Rattle.lazy_core.specs.Insertion.{has_number}
+use Rattle.lazy_law.specs.Placed.{Lazy}
+use Rattle.lazy_law.specs.Insertion.{has_number}
 use Rattle.lazy_store.specs.Changes.{without}
 
 -- the place of the object of the number, or of one that was tested on all bans

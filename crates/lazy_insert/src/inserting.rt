@@ -2,7 +2,7 @@
 ghost use Rattle.std.specs.Prelude.{◌≡◌, ◌<◌, true, false, IfNone, IfOk, IfSome, OnErr};
 ghost use Rattle.std.specs.List.{list_any};
 ghost use Rattle.cache_law.specs.Object.{size_of};
-ghost use Rattle.lazy_core.specs.Insertion.{has_number};
+ghost use Rattle.lazy_law.specs.Insertion.{has_number};
 ghost use Rattle.lazy_insert.specs.Inserted.{IsPlaced, IsTidied, is_full, stored_in};
 ghost use Rattle.lazy_store.specs.Uses.{AreUsedBefore};
 

@@ -3,8 +3,8 @@ ghost use Rattle.std.specs.Prelude.{List};
 ghost use Rattle.cache_law.specs.declared.call.Entry.{Entry as HistoryEntry};
 ghost use Rattle.cache_law.specs.Beginning.{Beginning};
 ghost use Rattle.cache_law.specs.History.{reached};
-ghost use Rattle.lazy_core.specs.Placed.{Lazy};
-ghost use Rattle.lazy_core.specs.Standing.{StandsAt};
+ghost use Rattle.lazy_law.specs.Placed.{Lazy};
+ghost use Rattle.lazy_law.specs.Standing.{StandsAt};
 ghost use Rattle.lazy_insert.specs.Inserted.{IsTidied};
 
 /// What is left by an insertion that stored nothing stands for the same history, whose last moment is the insertion's.

@@ -1,6 +1,6 @@
 //! Insertions over the store of the lazy cache.
 //!
-//! Contract for the layer above: `insert` answers as `lazy_core` says of the call, and leaves what that says where the object was
+//! Contract for the layer above: `insert` answers as `lazy_law` says of the call, and leaves what that says where the object was
 //! stored. Where it wasn't, what was kept stays, or what stands for the same.
 #![tactic(auto)]
 

@@ -1,6 +1,6 @@
 // How room is made.
 ghost use Rattle.std.specs.Prelude.{◌≡◌, ◌<◌, ◌^◌, true, IfOk, MatchOption};
-ghost use Rattle.lazy_core.specs.Insertion.{fits_late, others_late, sizes_late};
+ghost use Rattle.lazy_law.specs.Insertion.{fits_late, others_late, sizes_late};
 ghost use Rattle.lazy_insert.specs.Inserted.{IsRoomy, IsTidied, is_full};
 
 use cache_law::object_size;

@@ -1,7 +1,7 @@
 // The place of a new object among the bans.
 ghost use Rattle.std.specs.Prelude.{◌≡◌, ◌≤◌, IfOk};
-ghost use Rattle.lazy_core.specs.Insertion.{place_for};
-ghost use Rattle.lazy_core.specs.Placed.{kept_bans};
+ghost use Rattle.lazy_law.specs.Insertion.{place_for};
+ghost use Rattle.lazy_law.specs.Placed.{kept_bans};
 ghost use Rattle.lazy_store.specs.Members.{number_in};
 ghost use Rattle.lazy_store.specs.Tied.{AreApart};
 ghost use Rattle.lazy_insert.specs.Putting.{place_at};

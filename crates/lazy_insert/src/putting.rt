@@ -2,7 +2,7 @@
 ghost use Rattle.std.specs.Prelude.{◌≡◌, ◌≤◌, ◌∷◌, false, nat_eq, not, filter, OnErr, OnOk};
 ghost use Rattle.std.specs.List.{list_any};
 ghost use Rattle.cache_law.specs.Object.{size_of};
-ghost use Rattle.lazy_core.specs.Insertion.{has_number, new_placed, others_late};
+ghost use Rattle.lazy_law.specs.Insertion.{has_number, new_placed, others_late};
 ghost use Rattle.lazy_insert.specs.Putting.{replaced};
 ghost use Rattle.lazy_store.specs.Numbered.{is_one_of};
 ghost use Rattle.lazy_store.specs.Uses.{AreUsedBefore};

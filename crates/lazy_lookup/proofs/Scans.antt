@@ -5,11 +5,11 @@ use Rattle.cache_law.specs.declared.call.Query.{Query}
 use Rattle.cache_law.specs.Object.{can_confirm, in_time, key_of, same_texts}
 use Rattle.cache_law.specs.Lookup.{Scan, ending, first_of, is_chosen_by, is_fresh, is_in_grace, passing, seeing as going_on}
 use Rattle.cache_frame.specs.declared.seen.Seen.{Seen}
-use Rattle.lazy_core.specs.Placed.{Lazy, Placed, kept_bans, tested_at}
-use Rattle.lazy_core.specs.Insertion.{has_number}
-use Rattle.lazy_core.specs.Purging.{is_of_key}
-use Rattle.lazy_core.specs.Scan.{is_struck, scanned_late}
-use Rattle.lazy_core.proofs.Filters.{passes_on}
+use Rattle.lazy_law.specs.Placed.{Lazy, Placed, kept_bans, tested_at}
+use Rattle.lazy_law.specs.Insertion.{has_number}
+use Rattle.lazy_law.specs.Purging.{is_of_key}
+use Rattle.lazy_law.specs.Scan.{is_struck, scanned_late}
+use Rattle.lazy_law.proofs.Filters.{passes_on}
 use Rattle.lazy_store.specs.Members.{number_in}
 use Rattle.lazy_store.specs.Numbered.{is_one_of, numbers_where}
 use Rattle.lazy_store.specs.Tied.{AreApart}

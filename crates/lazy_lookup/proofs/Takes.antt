@@ -4,10 +4,10 @@ use Rattle.std.specs.List.{list_any}
 use Rattle.cache_law.specs.Lookup.{raised}
 use Rattle.cache_frame.specs.declared.seen.Use.{Use}
 use Rattle.cache_frame.specs.declared.seen.Use.TheVariants.{Nothing, Hit, Marker}
-use Rattle.lazy_core.specs.Placed.{Lazy, Placed, tested_at}
-use Rattle.lazy_core.specs.Insertion.{has_number}
-use Rattle.lazy_core.specs.Scan.{counted_late, counting_late, touched_late, touching_late}
-use Rattle.lazy_core.proofs.Filters.{each, filter_of_map, map_of_map, passes_on}
+use Rattle.lazy_law.specs.Placed.{Lazy, Placed, tested_at}
+use Rattle.lazy_law.specs.Insertion.{has_number}
+use Rattle.lazy_law.specs.Scan.{counted_late, counting_late, touched_late, touching_late}
+use Rattle.lazy_law.proofs.Filters.{each, filter_of_map, map_of_map, passes_on}
 use Rattle.lazy_store.specs.Members.{number_in}
 use Rattle.lazy_store.specs.Numbered.{is_one_of}
 use Rattle.lazy_store.specs.Uses.{hitting, used_at, with_hit}

@@ -7,7 +7,7 @@ use Rattle.cache_law.specs.declared.call.Query.{Query}
 use Rattle.cache_law.specs.Object.{can_confirm}
 use Rattle.cache_law.specs.Lookup.{is_in_grace}
 use Rattle.cache_frame.specs.declared.seen.Seen.{Seen}
-use Rattle.lazy_core.specs.Placed.{Lazy, Placed}
+use Rattle.lazy_law.specs.Placed.{Lazy, Placed}
 use Rattle.lazy_lookup.specs.declared.marks.Marks.{Marks}
 use Rattle.lazy_lookup.specs.declared.sight.Sight.{Sight}
 use Rattle.lazy_lookup.specs.declared.sight.Sight.TheVariants.{Past, Struck, Unfit, Aged, Fresh}

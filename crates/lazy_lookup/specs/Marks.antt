@@ -4,9 +4,9 @@ use Rattle.cache_law.specs.declared.call.Query.{Query}
 use Rattle.cache_law.specs.Lookup.{Scan}
 use Rattle.cache_frame.specs.declared.seen.Use.{Use}
 use Rattle.cache_frame.specs.declared.seen.Use.TheVariants.{Nothing, Hit, Marker}
-use Rattle.lazy_core.specs.Beside.{counted_for_late, touched_for_late}
-use Rattle.lazy_core.specs.Placed.{Lazy, Placed, kept_bans, tested_at}
-use Rattle.lazy_core.specs.Scan.{scanned_late}
+use Rattle.lazy_law.specs.Beside.{counted_for_late, touched_for_late}
+use Rattle.lazy_law.specs.Placed.{Lazy, Placed, kept_bans, tested_at}
+use Rattle.lazy_law.specs.Scan.{scanned_late}
 use Rattle.lazy_store.specs.Numbered.{is_one_of}
 use Rattle.lazy_lookup.specs.declared.marks.Marks.{Marks}
 

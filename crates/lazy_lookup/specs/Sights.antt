@@ -7,9 +7,9 @@ use Rattle.cache_law.specs.declared.call.Query.{Query}
 use Rattle.cache_law.specs.Object.{can_confirm, in_time}
 use Rattle.cache_law.specs.Lookup.{first_of, is_chosen_by, is_fresh, is_in_grace}
 use Rattle.cache_frame.specs.declared.seen.Seen.{Seen}
-use Rattle.lazy_core.specs.Placed.{Lazy, Placed, kept_bans}
-use Rattle.lazy_core.specs.Insertion.{has_number}
-use Rattle.lazy_core.specs.Scan.{is_struck}
+use Rattle.lazy_law.specs.Placed.{Lazy, Placed, kept_bans}
+use Rattle.lazy_law.specs.Insertion.{has_number}
+use Rattle.lazy_law.specs.Scan.{is_struck}
 use Rattle.lazy_lookup.specs.declared.marks.Marks.{Marks}
 use Rattle.lazy_lookup.specs.declared.sight.Sight.{Sight}
 use Rattle.lazy_lookup.specs.declared.sight.Sight.TheVariants.{Past, Struck, Unfit, Aged, Fresh}

@@ -1,7 +1,7 @@
 // What a lookup leaves.
 ghost use Rattle.std.specs.Prelude.{◌≡◌, ℕ, OnErr, OnOk};
 ghost use Rattle.cache_law.specs.declared.call.Query.{Query as Wanted};
-ghost use Rattle.lazy_core.specs.Beside.{looked_late};
+ghost use Rattle.lazy_law.specs.Beside.{looked_late};
 ghost use Rattle.lazy_store.specs.Uses.{AreUsedBefore};
 ghost use Rattle.lazy_lookup.specs.Marks.{AreMarksOf, hit_in, marked_by, marker_in, taken, used_in};
 

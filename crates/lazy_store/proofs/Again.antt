@@ -18,10 +18,10 @@ use Rattle.room_lru.specs.Members.{Used}
 use Rattle.ban_list.specs.declared.list.Stand.{Stand}
 use Rattle.ban_list.specs.Bans.{Bans}
 use Rattle.ban_list.specs.Stands.{AreAt}
-use Rattle.lazy_core.specs.Placed.{Placed, is_unswept}
-use Rattle.lazy_core.specs.Scan.{touched_late}
-use Rattle.lazy_core.specs.Sweeping.{count_unswept}
-use Rattle.lazy_core.proofs.Filters.{any_none, sum_of_map}
+use Rattle.lazy_law.specs.Placed.{Placed, is_unswept}
+use Rattle.lazy_law.specs.Scan.{touched_late}
+use Rattle.lazy_law.specs.Sweeping.{count_unswept}
+use Rattle.lazy_law.proofs.Filters.{any_none, sum_of_map}
 use Rattle.lazy_store.specs.declared.placement.Placement.{Placement}
 use Rattle.lazy_store.specs.declared.finding.Found.{Found}
 use Rattle.lazy_store.specs.Found.{found_in}

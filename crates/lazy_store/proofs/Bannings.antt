@@ -13,9 +13,9 @@ use Rattle.ban_lurker.specs.Looks.{is_above}
 use Rattle.ban_list.specs.Bans.{Bans, completed_by, with_ban}
 use Rattle.ban_list.specs.Kept.{AreFalling, number_of}
 use Rattle.ban_list.proofs.StandLemmas.{at_issued}
-use Rattle.lazy_core.specs.Placed.{Placed, is_unswept}
-use Rattle.lazy_core.specs.Sweeping.{count_unswept}
-use Rattle.lazy_core.proofs.Filters.{filter_all, filter_on, length_of_map}
+use Rattle.lazy_law.specs.Placed.{Placed, is_unswept}
+use Rattle.lazy_law.specs.Sweeping.{count_unswept}
+use Rattle.lazy_law.proofs.Filters.{filter_all, filter_on, length_of_map}
 use Rattle.lazy_store.specs.Members.{Member, lazy_of, placed_of, stand_of}
 use Rattle.lazy_store.specs.Tied.{AreTied, IsNewestAlone, IsWithin}
 use Rattle.lazy_store.proofs.Splits.{all_weaken}

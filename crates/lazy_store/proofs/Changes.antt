@@ -9,9 +9,9 @@ use Rattle.room_lru.specs.Members as rooms
 use Rattle.room_lru.specs.Members.{Used}
 use Rattle.ban_list.specs.declared.list.Stand.{Stand}
 use Rattle.ban_list.specs.Bans.{Bans, departed, entered, standing}
-use Rattle.lazy_core.specs.Placed.{Placed}
-use Rattle.lazy_core.specs.Insertion.{has_number}
-use Rattle.lazy_core.proofs.Filters.{filter_of_map}
+use Rattle.lazy_law.specs.Placed.{Placed}
+use Rattle.lazy_law.specs.Insertion.{has_number}
+use Rattle.lazy_law.proofs.Filters.{filter_of_map}
 use Rattle.lazy_store.specs.declared.placement.Placement.{Placement}
 use Rattle.lazy_store.specs.Members.{Member, at_number, handle_of, lazy_of, number_of, placed_of, stand_of, use_of}
 use Rattle.lazy_store.specs.Tied.{AreTied}

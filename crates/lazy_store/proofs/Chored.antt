@@ -12,9 +12,9 @@ use Rattle.ban_lurker.specs.declared.chore.Chore.{Chore}
 use Rattle.ban_lurker.specs.Looks.{is_alone}
 use Rattle.ban_list.specs.Bans.{is_newer, newer}
 use Rattle.ban_list.specs.Kept.{AreFalling}
-use Rattle.lazy_core.specs.Placed.{Lazy, Placed, above, is_unswept, kept_bans}
-use Rattle.lazy_core.specs.Insertion.{has_number}
-use Rattle.lazy_core.specs.Sweeping.{chore_of, count_unswept}
+use Rattle.lazy_law.specs.Placed.{Lazy, Placed, above, is_unswept, kept_bans}
+use Rattle.lazy_law.specs.Insertion.{has_number}
+use Rattle.lazy_law.specs.Sweeping.{chore_of, count_unswept}
 use Rattle.lazy_store.specs.Chores.{IsChoreIn, alone_in}
 use Rattle.lazy_store.specs.Lurking.{is_waiting_as}
 use Rattle.lazy_store.specs.Members.{number_in}

@@ -18,10 +18,10 @@ use Rattle.ban_list.specs.Stands.{AreAt, counts_of, marks_of, no_counts, places_
 use Rattle.ban_list.proofs.CountLemmas.{at_line, sum_more}
 use Rattle.ban_list.proofs.LineLemmas.{falling_weaker, none_newer}
 use Rattle.ban_list.proofs.StandLemmas.{at_cut}
-use Rattle.lazy_core.specs.Banning.{MayBeCut, is_awaited_by, is_needed}
-use Rattle.lazy_core.specs.Placed.{Placed, is_unswept}
-use Rattle.lazy_core.specs.Sweeping.{count_unswept}
-use Rattle.lazy_core.proofs.Filters.{any_none, filter_on}
+use Rattle.lazy_law.specs.Banning.{MayBeCut, is_awaited_by, is_needed}
+use Rattle.lazy_law.specs.Placed.{Placed, is_unswept}
+use Rattle.lazy_law.specs.Sweeping.{count_unswept}
+use Rattle.lazy_law.proofs.Filters.{any_none, filter_on}
 use Rattle.lazy_store.specs.Members.{Member, lazy_of, placed_of, stand_of}
 use Rattle.lazy_store.specs.Tied.{AreTied, IsNewestAlone}
 use Rattle.lazy_store.proofs.Splits.{IsThere, all_weaken, there}

@@ -19,9 +19,9 @@ use Rattle.room_lru.specs.Members as rooms
 use Rattle.room_lru.specs.Members.{Used}
 use Rattle.room_lru.specs.Room.{AreOut, LackRoom, MakesRoom, others}
 use Rattle.room_lru.proofs.RoomLemmas.{some_count}
-use Rattle.lazy_core.specs.Placed.{Placed}
-use Rattle.lazy_core.specs.Insertion.{displaced_late, has_number, is_used_from_late, lacks_room, others_late, outweighs_late, sizes_late}
-use Rattle.lazy_core.proofs.Filters.{any_of_filter, any_of_map, each, filter_all, filter_of_map, filter_on, length_of_map, sum_of_map}
+use Rattle.lazy_law.specs.Placed.{Placed}
+use Rattle.lazy_law.specs.Insertion.{displaced_late, has_number, is_used_from_late, lacks_room, others_late, outweighs_late, sizes_late}
+use Rattle.lazy_law.proofs.Filters.{any_of_filter, any_of_map, each, filter_all, filter_of_map, filter_on, length_of_map, sum_of_map}
 use Rattle.lazy_store.specs.declared.placement.Placement.{Placement}
 use Rattle.lazy_store.specs.Displaced.{AreDisplaced}
 use Rattle.lazy_store.specs.Found.{last_use}

@@ -9,10 +9,10 @@ use Rattle.cache_law.specs.ShownBans.{those_open}
 use Rattle.ban_lurker.specs.Looks.{is_above}
 use Rattle.ban_list.specs.Bans.{Bans}
 use Rattle.ban_list.specs.Kept.{AreFalling, number_of}
-use Rattle.lazy_core.specs.Placed.{Lazy, Placed, is_dead, is_unswept, kept_bans, marked_at}
-use Rattle.lazy_core.specs.Insertion.{has_number}
-use Rattle.lazy_core.specs.Sweeping.{count_unswept, swept, swept_lazy, sweeping}
-use Rattle.lazy_core.proofs.Filters.{any_of_map, any_on, each, filter_none}
+use Rattle.lazy_law.specs.Placed.{Lazy, Placed, is_dead, is_unswept, kept_bans, marked_at}
+use Rattle.lazy_law.specs.Insertion.{has_number}
+use Rattle.lazy_law.specs.Sweeping.{count_unswept, swept, swept_lazy, sweeping}
+use Rattle.lazy_law.proofs.Filters.{any_of_map, any_on, each, filter_none}
 use Rattle.lazy_store.specs.Found.{is_marked_below}
 use Rattle.lazy_store.specs.Lurking.{AreSwept, is_waiting_as}
 use Rattle.lazy_store.specs.Members.{Member, lazy_of, number_in, placed_of, stand_of}

@@ -10,10 +10,10 @@ use Rattle.room_lru.specs.Members as rooms
 use Rattle.room_lru.specs.Members.{Used}
 use Rattle.ban_list.specs.declared.list.Stand.{Stand}
 use Rattle.ban_list.specs.Bans.{Bans, departed, entered, standing}
-use Rattle.lazy_core.specs.Placed.{Placed}
-use Rattle.lazy_core.specs.Insertion.{has_number}
-use Rattle.lazy_core.specs.Stands.{IsWithin as TestedUpTo}
-use Rattle.lazy_core.proofs.Filters.{find_of_map}
+use Rattle.lazy_law.specs.Placed.{Placed}
+use Rattle.lazy_law.specs.Insertion.{has_number}
+use Rattle.lazy_law.specs.Stands.{IsWithin as TestedUpTo}
+use Rattle.lazy_law.proofs.Filters.{find_of_map}
 use Rattle.lazy_store.specs.declared.placement.Placement.{Placement}
 use Rattle.lazy_store.specs.declared.finding.Found.{Found}
 use Rattle.lazy_store.specs.Found.{found_in}

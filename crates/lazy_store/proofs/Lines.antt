@@ -12,7 +12,7 @@ use Rattle.cache_law.specs.ShownBans.{those_open}
 use Rattle.ban_list.specs.Bans.{is_newer, newer}
 use Rattle.ban_list.specs.Kept.{AreFalling, number_of}
 use Rattle.ban_list.proofs.LineLemmas.{falling_weaker, none_newer}
-use Rattle.lazy_core.proofs.Filters.{any_of_filter, any_of_map, any_on, each}
+use Rattle.lazy_law.proofs.Filters.{any_of_filter, any_of_map, any_on, each}
 use Rattle.lazy_store.specs.Testing.{is_for, is_hit, is_matched, strikes}
 
 first_case : (number : ℕ) (line : BanLine) (lines : List BanLine) (b : Bool) → is_newer number line ≡ b

@@ -7,10 +7,10 @@ use Rattle.std.proofs.lemmas.List.Folds.{list_any_more}
 use Rattle.cache_law.specs.declared.ban.Issued.{Issued}
 use Rattle.object_heads.specs.Members as heads
 use Rattle.xkey_index.specs.Members as xkeys
-use Rattle.lazy_core.specs.Placed.{Lazy, Placed, is_alive, kept_bans, tested_at, those_alive}
-use Rattle.lazy_core.specs.Insertion.{has_number, others_late}
-use Rattle.lazy_core.specs.Purging.{count_alive, is_of_key, is_of_xkeys}
-use Rattle.lazy_core.proofs.Filters.{any_none, any_of_filter, any_of_map, filter_of_map, filter_on, filters_swap, length_of_map, map_of_map}
+use Rattle.lazy_law.specs.Placed.{Lazy, Placed, is_alive, kept_bans, tested_at, those_alive}
+use Rattle.lazy_law.specs.Insertion.{has_number, others_late}
+use Rattle.lazy_law.specs.Purging.{count_alive, is_of_key, is_of_xkeys}
+use Rattle.lazy_law.proofs.Filters.{any_none, any_of_filter, any_of_map, filter_of_map, filter_on, filters_swap, length_of_map, map_of_map}
 use Rattle.lazy_store.specs.Changes.{moving}
 use Rattle.lazy_store.specs.Members.{Member, handle_of, number_in, number_of, placed_of, tagged_of}
 use Rattle.lazy_store.specs.Numbered.{is_alive_at, is_one_of, numbers_at, numbers_where, testing_all, without_all}

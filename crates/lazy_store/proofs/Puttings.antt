@@ -22,10 +22,10 @@ use Rattle.room_lru.specs.Members.{Used}
 use Rattle.ban_list.specs.Bans.{Bans, entered}
 use Rattle.ban_list.specs.Kept.{AreFalling}
 use Rattle.ban_list.proofs.StandLemmas.{at_entered}
-use Rattle.lazy_core.specs.Placed.{Placed, is_unswept}
-use Rattle.lazy_core.specs.Insertion.{has_number, sizes_late}
-use Rattle.lazy_core.specs.Sweeping.{count_unswept}
-use Rattle.lazy_core.proofs.Filters.{any_none, filter_none, sum_of_map}
+use Rattle.lazy_law.specs.Placed.{Placed, is_unswept}
+use Rattle.lazy_law.specs.Insertion.{has_number, sizes_late}
+use Rattle.lazy_law.specs.Sweeping.{count_unswept}
+use Rattle.lazy_law.proofs.Filters.{any_none, filter_none, sum_of_map}
 use Rattle.lazy_store.specs.declared.placement.Placement.{Placement}
 use Rattle.lazy_store.specs.Members.{Member, end_of, handle_of, lazy_of, number_of, placed_of, stand_of, tagged_of, use_of, used_of}
 use Rattle.lazy_store.specs.Tied.{AreAlike, AreTied, IsAhead, IsWithin}

@@ -6,7 +6,7 @@ use Rattle.std.specs.Map.{lookup}
 use Rattle.std.proofs.lemmas.Bool.{and_from, cases_lt, eq-eqb, lt-ltb}
 use Rattle.object_heads.specs.declared.item.Item.{Item}
 use Rattle.object_heads.specs.Members as heads
-use Rattle.lazy_core.proofs.Filters.{each}
+use Rattle.lazy_law.proofs.Filters.{each}
 use Rattle.lazy_store.specs.declared.placement.Placement.{Placement}
 use Rattle.lazy_store.specs.Found.{is_marked_below}
 use Rattle.lazy_store.specs.Members.{Member, handle_of, stand_of}

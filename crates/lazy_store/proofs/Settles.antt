@@ -11,10 +11,10 @@ use Rattle.room_lru.specs.Members.{Used}
 use Rattle.ban_list.specs.Bans.{Bans}
 use Rattle.ban_list.specs.declared.list.Stand.{Stand}
 use Rattle.object_heads.specs.Members as heads
-use Rattle.lazy_core.specs.Placed.{Lazy, Placed, is_unswept, kept_bans, marked_at}
-use Rattle.lazy_core.specs.Insertion.{has_number, others_late}
-use Rattle.lazy_core.specs.Stands.{IsWithin as TestedUpTo}
-use Rattle.lazy_core.specs.Sweeping.{is_asked, judged_late, judged_lazy, judging}
+use Rattle.lazy_law.specs.Placed.{Lazy, Placed, is_unswept, kept_bans, marked_at}
+use Rattle.lazy_law.specs.Insertion.{has_number, others_late}
+use Rattle.lazy_law.specs.Stands.{IsWithin as TestedUpTo}
+use Rattle.lazy_law.specs.Sweeping.{is_asked, judged_late, judged_lazy, judging}
 use Rattle.lazy_store.specs.declared.finding.Found.{Found}
 use Rattle.lazy_store.specs.Found.{found_in}
 use Rattle.lazy_store.specs.Changes.{is_waiting, moved, moving, without}

@@ -6,11 +6,11 @@ use Rattle.std.specs.Option.{option_map_or}
 use Rattle.std.proofs.lemmas.List.Folds.{list_any_more}
 use Rattle.cache_law.specs.declared.ban.Issued.{Issued}
 use Rattle.cache_law.specs.Object.{in_time}
-use Rattle.lazy_core.specs.Placed.{Lazy, Placed, is_alive, is_dead, kept_bans, marked_at}
-use Rattle.lazy_core.specs.Insertion.{has_number}
-use Rattle.lazy_core.specs.Purging.{is_of_xkeys, soft_of, softened_late}
-use Rattle.lazy_core.specs.Sweeping.{sweeping}
-use Rattle.lazy_core.proofs.Filters.{each, filter_both, filter_of_map, filter_on, map_of_map}
+use Rattle.lazy_law.specs.Placed.{Lazy, Placed, is_alive, is_dead, kept_bans, marked_at}
+use Rattle.lazy_law.specs.Insertion.{has_number}
+use Rattle.lazy_law.specs.Purging.{is_of_xkeys, soft_of, softened_late}
+use Rattle.lazy_law.specs.Sweeping.{sweeping}
+use Rattle.lazy_law.proofs.Filters.{each, filter_both, filter_of_map, filter_on, map_of_map}
 use Rattle.lazy_store.specs.Members.{number_in}
 use Rattle.lazy_store.specs.Numbered.{is_alive_at, is_one_of, numbers_where, without_all}
 use Rattle.lazy_store.specs.Softening.{is_dead_at, marked_all, softened_all, softened_in, softening_all, softly_purged}

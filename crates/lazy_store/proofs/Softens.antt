@@ -23,9 +23,9 @@ use Rattle.room_lru.specs.Endings.{AreEndings, AreTwo, IsEnding, is_of, with_end
 use Rattle.ban_list.specs.declared.list.Stand.{Stand}
 use Rattle.ban_list.specs.Bans.{Bans}
 use Rattle.ban_list.specs.Stands.{AreAt}
-use Rattle.lazy_core.specs.Placed.{Placed, is_unswept}
-use Rattle.lazy_core.specs.Sweeping.{count_unswept}
-use Rattle.lazy_core.proofs.Filters.{any_none, any_of_map, each, filter_of_map, filter_on, length_of_map, map_of_map, sum_of_map}
+use Rattle.lazy_law.specs.Placed.{Placed, is_unswept}
+use Rattle.lazy_law.specs.Sweeping.{count_unswept}
+use Rattle.lazy_law.proofs.Filters.{any_none, any_of_map, each, filter_of_map, filter_on, length_of_map, map_of_map, sum_of_map}
 use Rattle.lazy_store.specs.declared.placement.Placement.{Placement}
 use Rattle.lazy_store.specs.Members.{Member, at_number, end_of, handle_of, lazy_of, number_of, placed_of, stand_of, tagged_of, use_of, used_of}
 use Rattle.lazy_store.specs.Numbered.{is_one_of}

@@ -3,10 +3,10 @@ use Rattle.std.proofs.Common.{◌≡◌, ◌≤◌, ℕ, Bool, true, false, not,
 use Rattle.std.specs.List.{AllByRecursion}
 use Rattle.std.proofs.lemmas.Bool.Decides.{nat_tests}
 use Rattle.cache_law.specs.declared.ban.Issued.{Issued}
-use Rattle.lazy_core.specs.Placed.{Lazy, Placed, is_dead, kept_bans, marked_at}
-use Rattle.lazy_core.specs.Insertion.{has_number, others_late}
-use Rattle.lazy_core.specs.Stands.{IsWithin as TestedUpTo}
-use Rattle.lazy_core.specs.Sweeping.{swept, swept_lazy, sweeping}
+use Rattle.lazy_law.specs.Placed.{Lazy, Placed, is_dead, kept_bans, marked_at}
+use Rattle.lazy_law.specs.Insertion.{has_number, others_late}
+use Rattle.lazy_law.specs.Stands.{IsWithin as TestedUpTo}
+use Rattle.lazy_law.specs.Sweeping.{swept, swept_lazy, sweeping}
 use Rattle.lazy_store.specs.Members.{number_in}
 use Rattle.lazy_store.specs.Tied.{AreApart}
 use Rattle.lazy_store.specs.Changes.{moved, moving, without}

@@ -11,10 +11,10 @@ use Rattle.std.proofs.lemmas.Int.{ints}
 use Rattle.object_heads.specs.declared.item.Item.{Item}
 use Rattle.room_lru.specs.Ends.{EndsFirst, has_end}
 use Rattle.room_lru.specs.Members.{Used}
-use Rattle.lazy_core.specs.Placed.{Lazy, Placed, is_dead, is_unswept, kept_bans, marked_at}
-use Rattle.lazy_core.specs.Insertion.{has_number, others_late}
-use Rattle.lazy_core.specs.Sweeping.{count_unswept, swept_lazy}
-use Rattle.lazy_core.proofs.Filters.{any_none, any_of_map, each, filter_both, filter_on}
+use Rattle.lazy_law.specs.Placed.{Lazy, Placed, is_dead, is_unswept, kept_bans, marked_at}
+use Rattle.lazy_law.specs.Insertion.{has_number, others_late}
+use Rattle.lazy_law.specs.Sweeping.{count_unswept, swept_lazy}
+use Rattle.lazy_law.proofs.Filters.{any_none, any_of_map, each, filter_both, filter_on}
 use Rattle.lazy_store.specs.declared.placement.Placement.{Placement}
 use Rattle.lazy_store.specs.Lurking.{is_waiting_as}
 use Rattle.lazy_store.specs.Members.{Member, end_of, handle_of, number_in, number_of, placed_of, used_of}

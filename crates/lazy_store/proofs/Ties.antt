@@ -16,9 +16,9 @@ use Rattle.ban_list.specs.declared.list.Stand.{Stand}
 use Rattle.ban_list.specs.Bans.{Bans, departed, entered, newer, one_more, standing}
 use Rattle.ban_list.specs.Stands.{AreAt, counts_of}
 use Rattle.ban_list.proofs.StandLemmas.{at_departed, at_entered, may_depart}
-use Rattle.lazy_core.specs.Placed.{is_unswept}
-use Rattle.lazy_core.specs.Sweeping.{count_unswept}
-use Rattle.lazy_core.proofs.Filters.{any_more, filter_of_map, length_of_map}
+use Rattle.lazy_law.specs.Placed.{is_unswept}
+use Rattle.lazy_law.specs.Sweeping.{count_unswept}
+use Rattle.lazy_law.proofs.Filters.{any_more, filter_of_map, length_of_map}
 use Rattle.lazy_store.specs.declared.placement.Placement.{Placement}
 use Rattle.lazy_store.specs.Members.{Member, handle_of, lazy_of, number_of, placed_of, stand_of, tagged_of, use_of, used_of}
 use Rattle.lazy_store.specs.Tied.{AreAlike, AreApart, AreTied, IsAhead, IsNewestAlone, IsWithin}

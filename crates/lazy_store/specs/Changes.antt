@@ -1,8 +1,8 @@
 -- What the changes of single objects leave.
 use Rattle.std.specs.Prelude.{ℕ, ◌-◌, Bool, not, ◌&&◌, nat_lt, Some, map, if◌then◌else◌}
 use Rattle.ban_list.specs.declared.list.Stand.{Stand}
-use Rattle.lazy_core.specs.Placed.{Lazy, Placed}
-use Rattle.lazy_core.specs.Insertion.{has_number, others_late}
+use Rattle.lazy_law.specs.Placed.{Lazy, Placed}
+use Rattle.lazy_law.specs.Insertion.{has_number, others_late}
 
 -- the object of the number is gone
 abbrev pub without : ℕ → Lazy → Lazy

@@ -4,8 +4,8 @@ use Rattle.cache_law.specs.declared.ban.BanLine.{BanLine}
 use Rattle.cache_law.specs.declared.ban.Issued.{Issued}
 use Rattle.ban_lurker.specs.Looks.{is_alone}
 use Rattle.ban_lurker.specs.declared.chore.Chore.{Chore}
-use Rattle.lazy_core.specs.Placed.{Lazy, Placed, is_unswept, kept_bans}
-use Rattle.lazy_core.specs.Sweeping.{chore_of}
+use Rattle.lazy_law.specs.Placed.{Lazy, Placed, is_unswept, kept_bans}
+use Rattle.lazy_law.specs.Sweeping.{chore_of}
 
 -- the line's ban, where it is on objects alone and isn't completed
 abbrev pub alone_in : BanLine → Option Issued

@@ -1,7 +1,7 @@
 -- A cut of the oldest lines.
 use Rattle.std.specs.Prelude.{◌≡◌, ℕ}
-use Rattle.lazy_core.specs.Banning.{MayBeCut, cut_to}
-use Rattle.lazy_core.specs.Placed.{Lazy}
+use Rattle.lazy_law.specs.Banning.{MayBeCut, cut_to}
+use Rattle.lazy_law.specs.Placed.{Lazy}
 
 -- the oldest lines are gone, of which no object needs one
 pub record AreCut (old new : Lazy) : Type 0 where

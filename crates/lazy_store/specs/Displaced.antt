@@ -1,8 +1,8 @@
 -- Which objects have to go for a new one.
 use Rattle.std.specs.Prelude.{◌≡◌, ℕ, true, false, nat_eq, List, ◌∷◌, Option}
 use Rattle.std.specs.List.{list_any, AllByRecursion}
-use Rattle.lazy_core.specs.Placed.{Lazy, Placed}
-use Rattle.lazy_core.specs.Insertion.{has_number, lacks_room, others_late, outweighs_late}
+use Rattle.lazy_law.specs.Placed.{Lazy, Placed}
+use Rattle.lazy_law.specs.Insertion.{has_number, lacks_room, others_late, outweighs_late}
 use Rattle.lazy_store.specs.Numbered.{is_one_of}
 
 -- The objects of these numbers have to go so that one of the size finds room in the stale one's place; all of them are stored.

@@ -1,9 +1,9 @@
 -- What the lurker does, one object after another.
 use Rattle.std.specs.Prelude.{◌≡◌, ℕ, Bool, ◌&&◌, List, [], ◌∷◌}
 use Rattle.cache_law.specs.declared.ban.Issued.{Issued}
-use Rattle.lazy_core.specs.Placed.{Lazy, Placed, is_unswept}
-use Rattle.lazy_core.specs.Insertion.{has_number}
-use Rattle.lazy_core.specs.Sweeping.{swept_lazy}
+use Rattle.lazy_law.specs.Placed.{Lazy, Placed, is_unswept}
+use Rattle.lazy_law.specs.Insertion.{has_number}
+use Rattle.lazy_law.specs.Sweeping.{swept_lazy}
 
 -- the object has this number, and waits for the lurker
 abbrev pub is_waiting_as : ℕ → List Issued → Placed → Bool

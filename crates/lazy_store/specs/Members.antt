@@ -8,7 +8,7 @@ use Rattle.object_heads.specs.Members.{has_number}
 use Rattle.room_lru.specs.Members.{Used}
 use Rattle.ban_list.specs.declared.list.Stand.{Stand}
 use Rattle.ban_list.specs.Bans.{Bans}
-use Rattle.lazy_core.specs.Placed.{Lazy, Placed}
+use Rattle.lazy_law.specs.Placed.{Lazy, Placed}
 use Rattle.lazy_store.specs.declared.placement.Placement.{Placement}
 
 -- a handle, and the object with what is kept of it

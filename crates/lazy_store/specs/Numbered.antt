@@ -3,8 +3,8 @@ use Rattle.std.specs.Prelude.{ℕ, Bool, false, not, nat_eq, List, Option, filte
 use Rattle.std.specs.List.{list_any}
 use Rattle.std.specs.Map.{lookup}
 use Rattle.std.specs.Option.{option_map_or}
-use Rattle.lazy_core.specs.Placed.{Lazy, Placed, is_alive, kept_bans, tested_at}
-use Rattle.lazy_core.specs.Insertion.{has_number}
+use Rattle.lazy_law.specs.Placed.{Lazy, Placed, is_alive, kept_bans, tested_at}
+use Rattle.lazy_law.specs.Insertion.{has_number}
 use Rattle.lazy_store.specs.Members.{Member, number_in}
 
 -- the numbers of the objects that pass a test

@@ -3,8 +3,8 @@ use Rattle.std.specs.Prelude.{ℕ, Bool, ◌&&◌, ◌||◌, nat_le, List, if◌
 use Rattle.std.specs.List.{list_any}
 use Rattle.cache_law.specs.declared.ban.Issued.{Issued}
 use Rattle.ban_lurker.specs.declared.chore.Verdict.{Verdict}
-use Rattle.lazy_core.specs.Placed.{Lazy, Placed, is_unswept, kept_bans}
-use Rattle.lazy_core.specs.Sweeping.{is_asked, judged_lazy}
+use Rattle.lazy_law.specs.Placed.{Lazy, Placed, is_unswept, kept_bans}
+use Rattle.lazy_law.specs.Sweeping.{is_asked, judged_lazy}
 
 -- the object is as the verdict has it, and waits for the lurker
 abbrev pub is_open : List Issued → Verdict → Placed → Bool

@@ -9,10 +9,10 @@ use Rattle.cache_law.specs.Purges.{softened}
 use Rattle.object_heads.specs.declared.item.Item.{Item}
 use Rattle.object_heads.specs.Members.{changed, with_object}
 use Rattle.room_lru.specs.declared.ending.Ending.{Ending}
-use Rattle.lazy_core.specs.Placed.{Lazy, Placed, is_dead, kept_bans}
-use Rattle.lazy_core.specs.Insertion.{has_number}
-use Rattle.lazy_core.specs.Purging.{softened_late}
-use Rattle.lazy_core.specs.Sweeping.{sweeping}
+use Rattle.lazy_law.specs.Placed.{Lazy, Placed, is_dead, kept_bans}
+use Rattle.lazy_law.specs.Insertion.{has_number}
+use Rattle.lazy_law.specs.Purging.{softened_late}
+use Rattle.lazy_law.specs.Sweeping.{sweeping}
 use Rattle.lazy_store.specs.declared.placement.Placement.{Placement}
 use Rattle.lazy_store.specs.Members.{Member, at_number, end_of}
 use Rattle.lazy_store.specs.Numbered.{is_one_of}

@@ -1,9 +1,9 @@
 -- What is done where room is wanting: objects that aren't in time go, and those that wait for the lurker are tested.
 use Rattle.std.specs.Prelude.{ℕ, Bool, not, ◌&&◌, filter}
 use Rattle.cache_law.specs.Object.{in_time}
-use Rattle.lazy_core.specs.Placed.{Lazy, Placed, is_unswept, kept_bans}
-use Rattle.lazy_core.specs.Insertion.{has_number}
-use Rattle.lazy_core.specs.Sweeping.{swept_lazy}
+use Rattle.lazy_law.specs.Placed.{Lazy, Placed, is_unswept, kept_bans}
+use Rattle.lazy_law.specs.Insertion.{has_number}
+use Rattle.lazy_law.specs.Sweeping.{swept_lazy}
 
 abbrev pub is_timely : ℕ → Placed → Bool
 is_timely moment placed = in_time moment placed.view.object

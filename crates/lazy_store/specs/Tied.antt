@@ -6,7 +6,7 @@ use Rattle.ban_lurker.specs.Looks.{is_above}
 use Rattle.room_lru.specs.Members.{Used}
 use Rattle.ban_list.specs.Bans.{Bans}
 use Rattle.ban_list.specs.Stands.{AreAt}
-use Rattle.lazy_core.specs.Sweeping.{count_unswept}
+use Rattle.lazy_law.specs.Sweeping.{count_unswept}
 use Rattle.lazy_store.specs.Members.{Member, handle_of, lazy_of, number_of, stand_of, tagged_of, use_of, used_of}
 
 module _ {X : Type 0} where

@@ -2,9 +2,9 @@
 use Rattle.std.specs.Prelude.{◌<◌, ℕ, List, map, if◌then◌else◌}
 use Rattle.std.specs.List.{AllByRecursion}
 use Rattle.cache_law.specs.Lookup.{raised}
-use Rattle.lazy_core.specs.Placed.{Lazy, Placed}
-use Rattle.lazy_core.specs.Insertion.{has_number}
-use Rattle.lazy_core.specs.Scan.{touched_late}
+use Rattle.lazy_law.specs.Placed.{Lazy, Placed}
+use Rattle.lazy_law.specs.Insertion.{has_number}
+use Rattle.lazy_law.specs.Scan.{touched_late}
 
 -- all objects were used before this place of the history
 abbrev pub AreUsedBefore : ℕ → List Placed → Type 0

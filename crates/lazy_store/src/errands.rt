@@ -2,7 +2,7 @@
 ghost use Rattle.std.specs.Prelude.{◌≡◌, ◌++◌, ℕ, slice_get, option_and_then, option_to_list, IfOk, OnOk};
 ghost use Rattle.cache_law.specs.ShownBans.{those_open};
 ghost use Rattle.ban_list.specs.Kept.{AreFalling};
-ghost use Rattle.lazy_core.specs.Placed.{above};
+ghost use Rattle.lazy_law.specs.Placed.{above};
 ghost use Rattle.lazy_store.specs.Chores.{alone_in};
 
 use ban_list::{BanList, Line};

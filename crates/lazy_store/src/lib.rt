@@ -1,7 +1,7 @@
 //! The store of the lazy cache: objects and bans in containers that are found by key, by xkey, by use and by end.
 //!
-//! Contract for the layer above: a `Store` is seen as what a lazy cache keeps (`Lazy` of `lazy_core`), and each of its methods
-//! is said in the words that `lazy_core` has of these lists.
+//! Contract for the layer above: a `Store` is seen as what a lazy cache keeps (`Lazy` of `lazy_law`), and each of its methods
+//! is said in the words that `lazy_law` has of these lists.
 #![tactic(auto)]
 
 mod ends;

@@ -1,7 +1,7 @@
 // Which objects are in time and not dead.
 ghost use Rattle.std.specs.Prelude.{◌≡◌, IfOk};
-ghost use Rattle.lazy_core.specs.Insertion.{is_gone_late};
-ghost use Rattle.lazy_core.specs.Placed.{is_alive, kept_bans};
+ghost use Rattle.lazy_law.specs.Insertion.{is_gone_late};
+ghost use Rattle.lazy_law.specs.Placed.{is_alive, kept_bans};
 ghost use Rattle.lazy_store.specs.Members.{number_in, placed_in};
 ghost use Rattle.lazy_store.specs.Numbered.{is_alive_at};
 ghost use Rattle.lazy_store.specs.Tied.{AreApart};

@@ -1,7 +1,7 @@
 // Purges of objects by key and by xkeys.
 ghost use Rattle.std.specs.Prelude.{◌≡◌, filter, length, IfOk, OnErr, OnOk};
-ghost use Rattle.lazy_core.specs.Placed.{kept_bans};
-ghost use Rattle.lazy_core.specs.Purging.{count_alive, is_of_key, is_of_xkeys};
+ghost use Rattle.lazy_law.specs.Placed.{kept_bans};
+ghost use Rattle.lazy_law.specs.Purging.{count_alive, is_of_key, is_of_xkeys};
 ghost use Rattle.lazy_store.specs.Numbered.{is_alive_at, without_all};
 ghost use Rattle.lazy_store.specs.Purged.{purged};
 

@@ -3,7 +3,7 @@ ghost use Rattle.std.specs.Prelude.{◌≡◌, ◌≤◌, ◌<◌, ◌+◌, ◌^
 ghost use Rattle.std.specs.List.{list_any};
 ghost use Rattle.cache_law.specs.Object.{size_of};
 ghost use Rattle.cache_law.specs.Purges.{xkeys_of};
-ghost use Rattle.lazy_core.specs.Insertion.{has_number, new_placed, sizes_late};
+ghost use Rattle.lazy_law.specs.Insertion.{has_number, new_placed, sizes_late};
 ghost use Rattle.lazy_store.specs.Displaced.{with_first};
 ghost use Rattle.lazy_store.specs.Uses.{AreUsedBefore};
 

@@ -1,7 +1,7 @@
 // Soft purges of objects by xkeys.
 ghost use Rattle.std.specs.Prelude.{◌≡◌, ◌++◌, ◌∷◌, [], filter, IfOk, OnErr, OnOk, if◌then◌else◌};
-ghost use Rattle.lazy_core.specs.Placed.{kept_bans};
-ghost use Rattle.lazy_core.specs.Purging.{count_alive, is_of_xkeys};
+ghost use Rattle.lazy_law.specs.Placed.{kept_bans};
+ghost use Rattle.lazy_law.specs.Purging.{count_alive, is_of_xkeys};
 ghost use Rattle.lazy_store.specs.Numbered.{is_alive_at};
 ghost use Rattle.lazy_store.specs.Softening.{is_dead_at, marked, marked_all, softly_purged};
 

@@ -2,15 +2,15 @@
 ghost use Rattle.std.specs.Prelude.{◌≡◌, ◌↔◌, None, ◌≤◌, ◌<◌, ◌+◌, ◌-◌, ◌^◌, true, false, min, Some, find as seek, option_map, IsTrue, IfNone, IfOk, IfSome, MatchOption, OnErr, OnOk};
 ghost use Rattle.std.specs.List.{AllByRecursion, list_any};
 ghost use Rattle.std.specs.Option.{option_copied};
-ghost use Rattle.lazy_core.specs.Banning.{banned_late};
+ghost use Rattle.lazy_law.specs.Banning.{banned_late};
 ghost use Rattle.cache_law.specs.Object.{in_time, size_of};
 ghost use Rattle.cache_law.specs.Purges.{xkeys_of};
-ghost use Rattle.lazy_core.specs.Insertion.{has_number as is_numbered, lacks_room, others_late, sizes_late};
-ghost use Rattle.lazy_core.specs.Placed.{Placed, above, is_dead, is_met, is_unswept, kept_bans, marked_at, nothing_kept};
-ghost use Rattle.lazy_core.specs.Purging.{is_of_key, is_of_xkeys};
-ghost use Rattle.lazy_core.specs.Scan.{is_struck};
-ghost use Rattle.lazy_core.specs.Stands.{IsWithin as TestedUpTo};
-ghost use Rattle.lazy_core.specs.Sweeping.{count_unswept, judged_lazy, swept_lazy};
+ghost use Rattle.lazy_law.specs.Insertion.{has_number as is_numbered, lacks_room, others_late, sizes_late};
+ghost use Rattle.lazy_law.specs.Placed.{Placed, above, is_dead, is_met, is_unswept, kept_bans, marked_at, nothing_kept};
+ghost use Rattle.lazy_law.specs.Purging.{is_of_key, is_of_xkeys};
+ghost use Rattle.lazy_law.specs.Scan.{is_struck};
+ghost use Rattle.lazy_law.specs.Stands.{IsWithin as TestedUpTo};
+ghost use Rattle.lazy_law.specs.Sweeping.{count_unswept, judged_lazy, swept_lazy};
 ghost use Rattle.lazy_store.specs.Changes.{moved, without};
 ghost use Rattle.lazy_store.specs.Chores.{IsChoreIn};
 ghost use Rattle.lazy_store.specs.Cutting.{AreCut};
@@ -59,7 +59,7 @@ pub struct Store {
 }
 
 impl Model for Store {
-    ghost use Rattle.lazy_core.specs.Placed.{Lazy};
+    ghost use Rattle.lazy_law.specs.Placed.{Lazy};
     ghost use Rattle.lazy_store.specs.Members.{lazy_of};
     ghost use Rattle.lazy_store.specs.Tied.{AreTied};
 

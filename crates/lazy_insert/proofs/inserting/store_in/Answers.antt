@@ -1,7 +1,7 @@
 use Rattle.std.proofs.Common.{◌≡◌, ℕ, false, List, [], nat_eq, arith, ap, sym, subst}
 use Rattle.std.specs.List.{list_any}
-use Rattle.lazy_core.specs.Placed.{Lazy}
-use Rattle.lazy_core.specs.Insertion.{has_number}
+use Rattle.lazy_law.specs.Placed.{Lazy}
+use Rattle.lazy_law.specs.Insertion.{has_number}
 use Rattle.lazy_insert.specs.Inserted.{IsRoomy}
 use Rattle.lazy_insert.proofs.Inserts.{still_before, still_own, stored_so}
 use Rattle.lazy_insert.proofs.Roomy.{tidied_frame}

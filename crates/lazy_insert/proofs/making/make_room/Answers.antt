@@ -1,6 +1,6 @@
 use Rattle.std.proofs.Common.{◌≡◌, ℕ, true, false, List, Option, Some, None, ap, sym, ◌∙◌, subst}
 use Rattle.std.specs.Prelude.{MatchOption}
-use Rattle.lazy_core.specs.Insertion.{fits_late, lacks_room, others_late}
+use Rattle.lazy_law.specs.Insertion.{fits_late, lacks_room, others_late}
 use Rattle.lazy_store.specs.Displaced.{AreDisplaced}
 use Rattle.lazy_store.specs.Tidying.{swept_whole, with_timely}
 use Rattle.lazy_store.proofs.Results.{ok_on}

@@ -1,6 +1,6 @@
 use Rattle.std.proofs.Common.{◌≡◌, ◌+◌, ◌-◌, ◌<◌, ◌^◌, ℕ, Option, Some, arith, ap, rules, sym, ◌∙◌, subst}
 use Rattle.cache_law.specs.Object.{size_of}
-use Rattle.lazy_core.specs.Insertion.{others_late, sizes_late}
+use Rattle.lazy_law.specs.Insertion.{others_late, sizes_late}
 use Rattle.lazy_store.specs.Members.{placed_in}
 use Rattle.lazy_insert.proofs.Roomy.{sizes_all, sizes_without}
 use Rattle.lazy_insert.proofs.making.taken_beside.Goals as goal

@@ -1,6 +1,6 @@
 use Rattle.std.proofs.Common.{◌≡◌, ℕ, false, Option, sym, ◌∙◌, subst}
-use Rattle.lazy_core.specs.Placed.{kept_bans}
-use Rattle.lazy_core.specs.Insertion.{is_gone_late, place_for}
+use Rattle.lazy_law.specs.Placed.{kept_bans}
+use Rattle.lazy_law.specs.Insertion.{is_gone_late, place_for}
 use Rattle.lazy_insert.proofs.Placing.{place_gone, place_there}
 use Rattle.lazy_insert.proofs.place.place_for.Goals as goal
 

@@ -1,5 +1,5 @@
 use Rattle.std.proofs.Common.{ap, ◌∙◌}
-use Rattle.lazy_core.specs.Insertion.{new_placed}
+use Rattle.lazy_law.specs.Insertion.{new_placed}
 use Rattle.lazy_store.specs.Numbered.{without_all}
 use Rattle.lazy_insert.specs.Putting.{replaced}
 use Rattle.lazy_insert.proofs.Inserts.{put_first}

@@ -1,5 +1,5 @@
 use Rattle.std.proofs.Common.{◌≡◌, ℕ, List, ap, ◌∙◌}
-use Rattle.lazy_core.specs.Purging.{is_of_key}
+use Rattle.lazy_law.specs.Purging.{is_of_key}
 use Rattle.lazy_store.specs.Numbered.{numbers_where}
 use Rattle.lazy_store.proofs.Results.{ok_on}
 use Rattle.lazy_lookup.specs.Marks.{AreMarksOf, scan_of}

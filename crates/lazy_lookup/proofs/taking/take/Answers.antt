@@ -1,5 +1,5 @@
 use Rattle.std.proofs.Common.{◌≡◌, List, ap, ◌∙◌}
-use Rattle.lazy_core.specs.Placed.{Lazy, Placed}
+use Rattle.lazy_law.specs.Placed.{Lazy, Placed}
 use Rattle.lazy_lookup.specs.Marks.{marked_by, taken, used_in}
 use Rattle.lazy_lookup.proofs.Takes.{marked_used}
 use Rattle.lazy_lookup.proofs.taking.take.Goals as goal

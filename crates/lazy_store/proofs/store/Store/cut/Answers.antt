@@ -1,7 +1,7 @@
 use Rattle.std.proofs.Common.{◌+◌, ap, ◌∙◌, subst, sym}
 use Rattle.ban_list.specs.Bans.{Bans}
-use Rattle.lazy_core.specs.Banning.{MayBeCut, cut_to}
-use Rattle.lazy_core.specs.Placed.{Lazy}
+use Rattle.lazy_law.specs.Banning.{MayBeCut, cut_to}
+use Rattle.lazy_law.specs.Placed.{Lazy}
 use Rattle.lazy_store.specs.Members.{lazy_of}
 use Rattle.lazy_store.specs.Tied.{AreTied}
 use Rattle.lazy_store.proofs.Cuts.{may_be_cut, tied_cut}

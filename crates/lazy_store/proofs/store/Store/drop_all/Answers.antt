@@ -1,5 +1,5 @@
 use Rattle.std.proofs.Common.{List, ap, ◌∙◌}
-use Rattle.lazy_core.specs.Placed.{Placed}
+use Rattle.lazy_law.specs.Placed.{Placed}
 use Rattle.lazy_store.specs.Changes.{without}
 use Rattle.lazy_store.proofs.Numbers.{gone_more, none_gone}
 use Rattle.lazy_store.proofs.store.Store.drop_all.Goals as goal

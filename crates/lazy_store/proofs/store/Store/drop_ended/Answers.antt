@@ -1,5 +1,5 @@
 use Rattle.std.proofs.Common.{length, ap, arith, ◌∙◌}
-use Rattle.lazy_core.specs.Placed.{Lazy}
+use Rattle.lazy_law.specs.Placed.{Lazy}
 use Rattle.lazy_store.specs.Tidying.{with_timely}
 use Rattle.lazy_store.proofs.Tidyings.{fewer_objects, timely_still, timely_whole}
 use Rattle.lazy_store.proofs.store.Store.drop_ended.Goals as goal

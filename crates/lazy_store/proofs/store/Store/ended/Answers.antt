@@ -1,7 +1,7 @@
 use Rattle.std.proofs.Common.{◌≡◌, true, Option, sym, ◌∙◌, subst}
 use Rattle.std.specs.Prelude.{ℕ, IfNone, IfSome}
 use Rattle.std.specs.List.{AllByRecursion, list_any}
-use Rattle.lazy_core.specs.Placed.{Lazy, Placed}
+use Rattle.lazy_law.specs.Placed.{Lazy, Placed}
 use Rattle.lazy_store.specs.Members.{number_in}
 use Rattle.lazy_store.specs.Tied.{AreApart}
 use Rattle.lazy_store.specs.Tidying.{is_ended_as, is_timely}

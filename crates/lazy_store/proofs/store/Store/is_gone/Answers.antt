@@ -1,6 +1,6 @@
 use Rattle.std.proofs.Common.{ℕ, Option, not, ap, sym, ◌∙◌}
-use Rattle.lazy_core.specs.Insertion.{is_gone_late}
-use Rattle.lazy_core.specs.Placed.{kept_bans}
+use Rattle.lazy_law.specs.Insertion.{is_gone_late}
+use Rattle.lazy_law.specs.Placed.{kept_bans}
 use Rattle.lazy_store.proofs.Numbers.{alive_there}
 use Rattle.lazy_store.proofs.store.Store.is_gone.Goals as goal
 

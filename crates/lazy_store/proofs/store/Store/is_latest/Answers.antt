@@ -1,5 +1,5 @@
 use Rattle.std.proofs.Common.{sym, subst}
-use Rattle.lazy_core.specs.Placed.{Lazy}
+use Rattle.lazy_law.specs.Placed.{Lazy}
 use Rattle.lazy_store.specs.Uses.{AreUsedBefore}
 use Rattle.lazy_store.proofs.Again.{latest_so, latest_there}
 use Rattle.lazy_store.proofs.store.Store.is_latest.Goals as goal

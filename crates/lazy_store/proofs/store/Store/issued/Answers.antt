@@ -1,7 +1,7 @@
 use Rattle.std.proofs.Common.{subst}
 use Rattle.std.specs.List.{AllByRecursion}
-use Rattle.lazy_core.specs.Placed.{Lazy}
-use Rattle.lazy_core.specs.Stands.{IsWithin as TestedUpTo}
+use Rattle.lazy_law.specs.Placed.{Lazy}
+use Rattle.lazy_law.specs.Stands.{IsWithin as TestedUpTo}
 use Rattle.lazy_store.proofs.Findings.{within_placed}
 use Rattle.lazy_store.proofs.store.Store.issued.Goals as goal
 

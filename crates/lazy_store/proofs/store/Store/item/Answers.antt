@@ -1,7 +1,7 @@
 use Rattle.std.proofs.Common.{find, ap, subst, ◌∙◌}
 use Rattle.std.specs.Prelude.{option_map}
-use Rattle.lazy_core.specs.Placed.{Lazy}
-use Rattle.lazy_core.specs.Insertion.{has_number}
+use Rattle.lazy_law.specs.Placed.{Lazy}
+use Rattle.lazy_law.specs.Insertion.{has_number}
 use Rattle.lazy_store.specs.Members.{number_in, placed_in}
 use Rattle.lazy_store.specs.Tied.{AreApart}
 use Rattle.lazy_store.proofs.Findings.{apart_placed, item_none, item_there}

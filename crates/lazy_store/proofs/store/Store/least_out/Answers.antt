@@ -1,7 +1,7 @@
 use Rattle.std.proofs.Common.{◌≡◌, ℕ, true, List, Option, ap, sym, ◌∙◌, subst}
 use Rattle.room_lru.specs.Room.{AreOut, LackRoom, others}
-use Rattle.lazy_core.specs.Placed.{Lazy}
-use Rattle.lazy_core.specs.Insertion.{lacks_room, others_late}
+use Rattle.lazy_law.specs.Placed.{Lazy}
+use Rattle.lazy_law.specs.Insertion.{lacks_room, others_late}
 use Rattle.lazy_store.specs.Displaced.{AreDisplaced}
 use Rattle.lazy_store.specs.Found.{last_use}
 use Rattle.lazy_store.specs.Numbered.{numbers_at}

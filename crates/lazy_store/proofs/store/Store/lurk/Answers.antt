@@ -1,7 +1,7 @@
 use Rattle.std.proofs.Common.{◌≡◌, ◌+◌, false, ap, ◌∙◌, subst, arith}
-use Rattle.lazy_core.specs.Placed.{Lazy, Placed, is_unswept, kept_bans, marked_at}
-use Rattle.lazy_core.specs.Insertion.{has_number}
-use Rattle.lazy_core.specs.Sweeping.{count_unswept, swept_lazy}
+use Rattle.lazy_law.specs.Placed.{Lazy, Placed, is_unswept, kept_bans, marked_at}
+use Rattle.lazy_law.specs.Insertion.{has_number}
+use Rattle.lazy_law.specs.Sweeping.{count_unswept, swept_lazy}
 use Rattle.lazy_store.proofs.Fewer.{one_swept, swept_fewer}
 use Rattle.lazy_store.proofs.store.Store.lurk.Goals as goal
 

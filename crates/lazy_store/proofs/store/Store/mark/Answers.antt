@@ -1,7 +1,7 @@
 use Rattle.std.proofs.Common.{List, ℕ, ap, sym, ◌∙◌}
-use Rattle.lazy_core.specs.Insertion.{has_number}
-use Rattle.lazy_core.specs.Placed.{Placed}
-use Rattle.lazy_core.specs.Stands.{IsWithin as TestedUpTo}
+use Rattle.lazy_law.specs.Insertion.{has_number}
+use Rattle.lazy_law.specs.Placed.{Placed}
+use Rattle.lazy_law.specs.Stands.{IsWithin as TestedUpTo}
 use Rattle.lazy_store.specs.Members.{placed_in}
 use Rattle.lazy_store.specs.Changes.{moved}
 use Rattle.lazy_store.proofs.Splits.{none_found}

@@ -1,6 +1,6 @@
 use Rattle.std.proofs.Common.{List, ℕ, ap, ◌∙◌, arith}
 use Rattle.std.proofs.lemmas.List.{take_all}
-use Rattle.lazy_core.specs.Placed.{Placed}
+use Rattle.lazy_law.specs.Placed.{Placed}
 use Rattle.lazy_store.specs.Softening.{marked, marked_all}
 use Rattle.lazy_store.proofs.SoftPurges.{marked_more, none_marked}
 use Rattle.lazy_store.proofs.store.Store.mark_all.Goals as goal

@@ -2,8 +2,8 @@ use Rattle.std.proofs.Common.{◌≡◌, List, ap, sym, ◌∙◌, subst}
 use Rattle.std.specs.Prelude.{◌≤◌, true}
 use Rattle.std.specs.List.{AllByRecursion}
 use Rattle.ban_list.specs.Bans.{entered}
-use Rattle.lazy_core.specs.Placed.{Lazy, Placed}
-use Rattle.lazy_core.specs.Insertion.{has_number}
+use Rattle.lazy_law.specs.Placed.{Lazy, Placed}
+use Rattle.lazy_law.specs.Insertion.{has_number}
 use Rattle.lazy_store.specs.Found.{found_in}
 use Rattle.lazy_store.specs.Members.{Member, at_number, lazy_of}
 use Rattle.lazy_store.specs.Changes.{moved}

@@ -1,5 +1,5 @@
 use Rattle.std.proofs.Common.{◌≡◌, ◌+◌, false, subst, arith}
-use Rattle.lazy_core.specs.Placed.{Lazy, Placed, is_unswept, kept_bans, marked_at}
+use Rattle.lazy_law.specs.Placed.{Lazy, Placed, is_unswept, kept_bans, marked_at}
 use Rattle.lazy_store.proofs.Fewer.{none_above}
 use Rattle.lazy_store.proofs.store.Store.newest_mark.Goals as goal
 

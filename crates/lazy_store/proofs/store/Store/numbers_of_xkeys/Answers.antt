@@ -1,6 +1,6 @@
 use Rattle.std.proofs.Common.{◌≡◌, ap, ◌∙◌, subst}
-use Rattle.lazy_core.specs.Placed.{Lazy}
-use Rattle.lazy_core.specs.Purging.{is_of_xkeys}
+use Rattle.lazy_law.specs.Placed.{Lazy}
+use Rattle.lazy_law.specs.Purging.{is_of_xkeys}
 use Rattle.lazy_store.specs.Members.{number_in}
 use Rattle.lazy_store.specs.Numbered.{numbers_at, numbers_where}
 use Rattle.lazy_store.specs.Tied.{AreApart}

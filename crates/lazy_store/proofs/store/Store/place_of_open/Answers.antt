@@ -1,7 +1,7 @@
 use Rattle.std.proofs.Common.{◌≡◌, true, false, Some, None, find, ap, sym, subst, arith}
 use Rattle.std.specs.Prelude.{option_map}
 use Rattle.cache_law.specs.ShownBans.{those_open}
-use Rattle.lazy_core.specs.Placed.{Lazy, Placed, kept_bans}
+use Rattle.lazy_law.specs.Placed.{Lazy, Placed, kept_bans}
 use Rattle.lazy_store.specs.Changes.{is_waiting}
 use Rattle.lazy_store.specs.Found.{found_in}
 use Rattle.lazy_store.specs.Members.{at_number}

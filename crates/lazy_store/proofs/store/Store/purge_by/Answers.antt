@@ -1,6 +1,6 @@
 use Rattle.std.proofs.Common.{◌≡◌, List, ℕ, filter, length, ap, ◌∙◌}
-use Rattle.lazy_core.specs.Placed.{kept_bans}
-use Rattle.lazy_core.specs.Purging.{count_alive, is_of_xkeys}
+use Rattle.lazy_law.specs.Placed.{kept_bans}
+use Rattle.lazy_law.specs.Purging.{count_alive, is_of_xkeys}
 use Rattle.lazy_store.specs.Numbered.{is_alive_at, without_all}
 use Rattle.lazy_store.specs.Purged.{purged}
 use Rattle.lazy_store.proofs.Numbers.{those_alive_are, those_gone}

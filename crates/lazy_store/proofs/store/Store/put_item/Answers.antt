@@ -8,9 +8,9 @@ use Rattle.room_lru.specs.Members as rooms
 use Rattle.room_lru.specs.Members.{Used}
 use Rattle.room_lru.proofs.MemberLemmas.{err_given, ok_given}
 use Rattle.ban_list.specs.Bans.{Bans}
-use Rattle.lazy_core.specs.Placed.{Lazy}
-use Rattle.lazy_core.specs.Insertion.{has_number, sizes_late}
-use Rattle.lazy_core.proofs.Filters.{length_of_map}
+use Rattle.lazy_law.specs.Placed.{Lazy}
+use Rattle.lazy_law.specs.Insertion.{has_number, sizes_late}
+use Rattle.lazy_law.proofs.Filters.{length_of_map}
 use Rattle.lazy_store.specs.Members.{Member, end_of, placed_of, stand_of, used_of}
 use Rattle.lazy_store.specs.Tied.{AreTied}
 use Rattle.lazy_store.specs.Uses.{AreUsedBefore}

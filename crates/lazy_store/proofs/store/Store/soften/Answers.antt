@@ -1,5 +1,5 @@
 use Rattle.std.proofs.Common.{◌≡◌, List, ℕ, filter, length, ap, sym, ◌∙◌, subst}
-use Rattle.lazy_core.specs.Purging.{is_of_xkeys}
+use Rattle.lazy_law.specs.Purging.{is_of_xkeys}
 use Rattle.lazy_store.specs.Numbered.{is_alive_at, numbers_where, without_all}
 use Rattle.lazy_store.specs.Softening.{is_dead_at, marked_all, softened_all}
 use Rattle.lazy_store.specs.Tied.{AreApart}

@@ -1,6 +1,6 @@
 use Rattle.std.proofs.Common.{ℕ, ap, sym, ◌∙◌}
-use Rattle.lazy_core.specs.Insertion.{has_number}
-use Rattle.lazy_core.specs.Stands.{IsWithin as TestedUpTo}
+use Rattle.lazy_law.specs.Insertion.{has_number}
+use Rattle.lazy_law.specs.Stands.{IsWithin as TestedUpTo}
 use Rattle.lazy_store.specs.Members.{placed_in}
 use Rattle.lazy_store.specs.Changes.{moved}
 use Rattle.lazy_store.proofs.Sweeps.{holds_found, marks_within, swept_dead, swept_live, swept_none}

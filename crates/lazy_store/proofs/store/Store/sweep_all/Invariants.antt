@@ -1,5 +1,5 @@
 use Rattle.std.proofs.Common.{◌≡◌}
-use Rattle.lazy_core.specs.Sweeping.{count_unswept}
+use Rattle.lazy_law.specs.Sweeping.{count_unswept}
 use Rattle.lazy_store.specs.Lurking.{AreSwept}
 use Rattle.lazy_store.specs.Tidying.{swept_whole}
 use Rattle.lazy_store.proofs.store.Store.sweep_all.Given as goal

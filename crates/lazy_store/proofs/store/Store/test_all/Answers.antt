@@ -1,5 +1,5 @@
 use Rattle.std.proofs.Common.{List, get_or, ap, ◌∙◌}
-use Rattle.lazy_core.specs.Placed.{Lazy, Placed}
+use Rattle.lazy_law.specs.Placed.{Lazy, Placed}
 use Rattle.lazy_store.specs.Changes.{moved}
 use Rattle.lazy_store.proofs.Numbers.{none_tested, tested_more}
 use Rattle.lazy_store.proofs.store.Store.test_all.Goals as goal

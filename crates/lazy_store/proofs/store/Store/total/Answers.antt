@@ -1,6 +1,6 @@
 use Rattle.std.proofs.Common.{ap, ◌∙◌}
-use Rattle.lazy_core.specs.Placed.{Lazy}
-use Rattle.lazy_core.specs.Insertion.{sizes_late}
+use Rattle.lazy_law.specs.Placed.{Lazy}
+use Rattle.lazy_law.specs.Insertion.{sizes_late}
 use Rattle.lazy_store.proofs.Puttings.{total_is}
 use Rattle.lazy_store.proofs.store.Store.total.Goals as goal
 

@@ -1,5 +1,5 @@
 use Rattle.std.proofs.Common.{List, ap, sym, ◌∙◌, subst}
-use Rattle.lazy_core.specs.Placed.{Lazy}
+use Rattle.lazy_law.specs.Placed.{Lazy}
 use Rattle.lazy_store.specs.Found.{found_in}
 use Rattle.lazy_store.specs.Members.{Member, at_number, lazy_of}
 use Rattle.lazy_store.specs.Uses.{AreUsedBefore, used_at}

@@ -1,7 +1,7 @@
 use Rattle.std.proofs.Common.{◌≡◌, true, subst, arith}
 use Rattle.std.specs.List.{list_any}
-use Rattle.lazy_core.specs.Placed.{Lazy, kept_bans}
-use Rattle.lazy_core.specs.Sweeping.{count_unswept}
+use Rattle.lazy_law.specs.Placed.{Lazy, kept_bans}
+use Rattle.lazy_law.specs.Sweeping.{count_unswept}
 use Rattle.lazy_store.specs.Found.{is_marked_below}
 use Rattle.lazy_store.specs.Lurking.{is_waiting_as}
 use Rattle.lazy_store.specs.Members.{number_in}
