@@ -87,6 +87,7 @@ while read -r command; do
       tell - "$command (not run: it takes long)" ;;
     'varn serve' | 'varn replay' | *[[\ ][A-Z]\ * | *SESSION*) tell - "$command (not run: a form)" ;;
     examples/serve.sh*) serves "$command" ;;
+    contrib/varnadm\ *) tell - "$command (not run: no server has a console here; tools/varnadm_test.py tries it)" ;;
     'tools/port_vcl.py FILE') runs 1 "${command/FILE/examples/port/blog.vcl}" ;;
     varn* | out/try/varn* | contrib/check-vcl\ * | tools/examples.py\ *) runs 0 "$command" ;;
     contrib/* | examples/* | tools/*)
@@ -103,4 +104,5 @@ runs 0 'contrib/check-vcl examples/vcl/*.vcl examples/port/*.varn.vcl contrib/*.
 runs 0 'tools/port_vcl.py examples/vcl/*.vcl examples/port/*.varn.vcl contrib/*.vcl'
 runs 0 'cd examples/port && ../../tools/port_vcl.py --places *.vcl | cmp - places'
 runs 0 'tools/examples.py'
+runs 0 'tools/varnadm_test.py'
 [ "$failed" = 0 ]
