@@ -105,6 +105,9 @@ for session in examples/sessions/*.session; do
   check "${session#examples/}" plays "$session"
 done
 
+console() { python3 tools/varnadm_test.py > "$work/reply" 2>&1; }
+check "varnadm before a console that stands in" console
+
 # ---- the backend, and the program before it
 
 python3 tools/smoke_backend.py > "$work/port" &
