@@ -20,7 +20,7 @@ def answer(status, text):
 
 ANSWERS = {
     b"ping": answer(200, b"PONG 1 1.0"),
-    b"vcl.list": answer(200, b"active          0 boot\navailable       2 site"),
+    b"vcl.list": answer(200, b"active 0 boot\navailable 2 site"),
     b"vcl.discard site": answer(200, b""),
     b"vcl.use nobody": answer(106, b"No VCL named nobody"),
     b"quit": answer(500, b"Closing CLI connection"),
@@ -65,7 +65,7 @@ def main():
             print(f"{words}: sent {sent}, status {done.returncode}, {done.stdout}, {done.stderr}")
 
     tries(["ping"], b"ping", 0, b"PONG 1 1.0\n")
-    tries(["vcl.list"], b"vcl.list", 0, b"active          0 boot\navailable       2 site\n")
+    tries(["vcl.list"], b"vcl.list", 0, b"active 0 boot\navailable 2 site\n")
     tries(["vcl.discard", "site"], b"vcl.discard site", 0, b"\n")
     tries(["vcl.discard site"], b"vcl.discard site", 0, b"\n", place=f"localhost:{stand_in.port}")
     tries(["vcl.use", "nobody"], b"vcl.use nobody", 1, said=b"106 No VCL named nobody\n")
