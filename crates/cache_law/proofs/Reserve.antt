@@ -102,7 +102,7 @@ numbered_listed : (state : State) (answer : Reply) → IsBanList state answer �
 numbered_listed state (Bans lines) shows = refl
 numbered_listed state answer shows = absurd shows
 
-numbered_told : (state : State) (call : Call) (law answer : Reply) → MayAnswer state call law answer → is_numbered law ≡ true → is_numbered answer ≡ true
+pub numbered_told : (state : State) (call : Call) (law answer : Reply) → MayAnswer state call law answer → is_numbered law ≡ true → is_numbered answer ≡ true
 numbered_told state (Insert token object stale) law answer (inl lawful) number = ap is_numbered lawful ∙ number
 numbered_told state (Insert token object stale) law answer (inr free) number = ap is_numbered free.0
 numbered_told state BanList law answer may number = numbered_listed state answer may
