@@ -109,6 +109,10 @@ runs 0 'tools/port_vcl.py $(ls examples/vcl/*.vcl | grep -v probes) examples/por
 runs 0 'tools/port_vcl.py --places examples/vcl/probes.vcl | grep -c . | grep -qx 1'
 runs 0 'cd examples/port && ../../tools/port_vcl.py --places *.vcl | cmp - places'
 runs 0 'tools/examples.py'
+case $program in
+  */out/try/varn) tell - 'tools/vcl_tables.py (not run: it takes this slow program long)' ;;
+  *) runs 0 'tools/vcl_tables.py' ;;
+esac
 runs 0 'tools/varnadm_test.py'
 runs 0 'tools/varn_top_test.py'
 [ "$failed" = 0 ]
