@@ -7,7 +7,7 @@ use Rattle.journal_text.specs.declared.line.Line.{Line}
 use Rattle.journal_text.specs.declared.line.Line.TheVariants as line
 use Rattle.journal_text.specs.Grammar.{line_words}
 use Rattle.journal_text.specs.Journals.{IsLine, lines_text, text_of}
-use Rattle.journal_text.proofs.Unique.{line_same}
+use Rattle.journal_reader.proofs.Unique.{line_same}
 use Rattle.journal_reader.specs.Histories.{AreLines, IsOwnLine}
 use Rattle.journal_reader.proofs.Feeds.{feeds_same, no_feed_in}
 use Rattle.audit_laws.specs.declared.kind.Kind.{Kind}

@@ -246,6 +246,15 @@ impl Desk {
         }
     }
 
+    /// What is open once the fetch of this number is closed, whoever's it is.
+    pub fn open_without(&self, token: u64) -> u128
+        ensures value { result ≡ length self.now.rounds + length (without_fetch token self.now.fetches) }
+        ensures bound { result < 2 ^ 65 }
+    {
+        let others = count_without(&self.fetches, token);
+        self.rounds.len() as u128 + others as u128
+    }
+
     /// What is open once the fetch is closed, if it is open for the caller.
     pub fn open_without_fetch(&self, caller: u32, token: u64) -> u128
         ensures value { result ≡ length self.now.rounds + (if has_fetch self.now.fetches caller token then length (without_fetch token self.now.fetches) else length self.now.fetches) }
@@ -254,8 +263,7 @@ impl Desk {
         if !has_fetch(&self.fetches, caller, token) {
             return self.open();
         }
-        let others = count_without(&self.fetches, token);
-        self.rounds.len() as u128 + others as u128
+        self.open_without(token)
     }
 
     /// What is open once the caller's round and its fetches are closed, if it has a round.

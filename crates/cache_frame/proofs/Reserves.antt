@@ -1,6 +1,6 @@
 -- What is reserved behind a call, by what it finds and by what was open before it.
-use Rattle.std.proofs.Common.{◌≡◌, ℕ, Bool, true, false, cond, List, ◌∷◌, ◌+◌, ◌*◌, length, Option, Some, None, refl, arith, ap, sym, ◌∙◌}
-use Rattle.std.proofs.lemmas.Bool.{false≢true}
+use Rattle.std.proofs.Common.{◌≡◌, ℕ, Bool, true, false, cond, List, ◌∷◌, ◌+◌, ◌*◌, length, Option, Some, None, ◌≤◌, refl, arith, ap, sym, ◌∙◌, subst}
+use Rattle.std.proofs.lemmas.Bool.{false≢true, true≢false}
 use Rattle.std.proofs.lemmas.List.{length-map}
 use Rattle.cache_law.specs.declared.call.Call.{Call}
 use Rattle.cache_law.specs.declared.call.Call.TheVariants.{Begin, Draw, Lookup, Pick, Insert, Ban, BanList, Purge, Xkey, SetHealth, Load, Switch, Discard, VclList, Drop, End}
@@ -15,13 +15,21 @@ use Rattle.cache_law.specs.declared.call.Reply.TheVariants.{Began, NoRound, Draw
 use Rattle.cache_law.specs.Object.{in_time, size_of}
 use Rattle.cache_law.specs.State.{State, at_moment, has_round, has_fetch, remembering, with_wait, without_fetch, without_fetches_of, without_round_of, without_stale, is_gone, reserve}
 use Rattle.cache_law.specs.Room.{has_no_room}
-use Rattle.cache_law.specs.Law.{Step, answered, closed_of, discarded_of, ended, looked_up, begun, drawn, leaving, closing, picked_at, stored, inserted, dropped, switched_to, wait_in}
+use Rattle.cache_law.specs.Law.{Step, answered, closed_of, discarded_of, ended, looked_up, begun, drawn, leaving, closing, picked_at, stored, inserted, dropped, refused, switched_to, wait_in}
 use Rattle.cache_law.specs.declared.state.OpenFetch.{OpenFetch}
 use Rattle.cache_law.specs.declared.state.OpenRound.{OpenRound}
+use Rattle.cache_law.specs.declared.call.Entry.{Entry}
+use Rattle.cache_law.specs.Beginning.{Beginning}
+use Rattle.cache_law.specs.History.{reached}
+use Rattle.cache_frame.specs.declared.finding.Asked.{Asked}
+use Rattle.cache_frame.specs.declared.finding.Asked.TheVariants as asks
+use Rattle.cache_frame.specs.declared.finding.StaleObject.TheVariants.{There, Gone, Untested}
 use Rattle.cache_frame.specs.declared.finding.Found.{Found}
 use Rattle.cache_desk.specs.Desk.{DeskState, bare}
 use Rattle.cache_desk.specs.Stock.{without_stock}
-use Rattle.cache_frame.specs.Found.{opens_fetch, opens_more, reply_of, told_so}
+use Rattle.cache_frame.specs.Asked.{is_untested, judged, says_gone}
+use Rattle.cache_frame.specs.Found.{FindsStale, opens_fetch, opens_more, reply_of, told_so}
+use Rattle.cache_frame.specs.Framed.{StandFor}
 use Rattle.cache_desk.specs.Opening.{opened_for}
 
 by_round : (state : State) (caller : ℕ) (opened : Bool) → 64 * (length state.rounds + length state.fetches + cond opened 0 1) ≡ reserve (cond opened (leaving state NoRound) (record { reply = Began state.next state.active.number state.active.text; state = record state { next = state.next + 1; rounds = record { caller = caller; vcl = state.active.number; waits = None } ∷ state.rounds } })).state
@@ -140,3 +148,33 @@ module _ (desk : DeskState) (state : State) (now caller : ℕ) (o : bare desk �
   -- a call that opens and closes nothing
   pub desk_quiet : (room : ℕ) (call : Call) → is_quiet call ≡ true → 64 * (length desk.rounds + length desk.fetches) ≡ reserve (answered room (at_moment now state) caller call).state
   desk_quiet room call e = same_open desk state o (λ rs fs. 64 * (length rs + length fs)) ∙ sym (quiet room (at_moment now state) caller call e)
+
+-- ---- an insertion, by what it asked
+
+closed_same : (gone opened : Bool) (one two : ℕ) → opened ≡ false → cond opened one two ≡ cond gone two (cond opened one two)
+closed_same gone true one two shut = absurd (true≢false shut)
+closed_same true false one two shut = refl
+closed_same false false one two shut = refl
+
+-- where its stale object couldn't be tested it is judged by a refusal
+pub insert_judged : {S M : Type 0} (Stands : S → Beginning → List Entry → Type 0) (desk : DeskState) (shelf : S) (now caller room token : ℕ) (object : Object) (stale : Option ℕ) (asked : Asked M) → FindsStale Stands desk shelf now caller token stale asked
+    → (beginning : Beginning) (entries : List Entry) → StandFor Stands desk shelf beginning entries → (reached beginning entries).moment ≤ now
+    → 64 * (length desk.rounds + cond (says_gone asked) (length desk.fetches) (cond (has_fetch desk.fetches caller token) (length (without_fetch token desk.fetches)) (length desk.fetches)))
+    ≡ reserve (judged (Insert token object stale) (is_untested asked) (refused (at_moment now (reached beginning entries)) (Insert token object stale)) (inserted room (at_moment now (reached beginning entries)) caller token object stale).state)
+insert_judged Stands desk shelf now caller room token object stale (asks.Insert There) finds beginning entries stands later =
+    let state : State = reached beginning entries in
+    subst (λ (gone : Bool). 64 * (length desk.rounds + cond gone (length desk.fetches) (cond (has_fetch desk.fetches caller token) (length (without_fetch token desk.fetches)) (length desk.fetches))) ≡ reserve (inserted room (at_moment now state) caller token object stale).state)
+    (finds.1 beginning entries stands.sound stands.shelf later) (desk_insert desk state now caller stands.desk room token object stale)
+insert_judged Stands desk shelf now caller room token object stale (asks.Insert Gone) finds beginning entries stands later =
+    let state : State = reached beginning entries in
+    subst (λ (gone : Bool). 64 * (length desk.rounds + cond gone (length desk.fetches) (cond (has_fetch desk.fetches caller token) (length (without_fetch token desk.fetches)) (length desk.fetches))) ≡ reserve (inserted room (at_moment now state) caller token object stale).state)
+    (finds.1 beginning entries stands.sound stands.shelf later) (desk_insert desk state now caller stands.desk room token object stale)
+insert_judged Stands desk shelf now caller room token object stale (asks.Insert Untested) opened beginning entries stands later =
+    let state : State = reached beginning entries in
+    subst (λ (open_ : Bool). 64 * (length desk.rounds + cond open_ (length (without_fetch token desk.fetches)) (length desk.fetches)) ≡ 64 * (length state.rounds + length (without_fetch token state.fetches)))
+    (sym opened) (same_open desk state stands.desk (λ rs fs. 64 * (length rs + length (without_fetch token fs))))
+insert_judged Stands desk shelf now caller room token object stale asks.Nothing shut beginning entries stands later =
+    let state : State = reached beginning entries in
+    ap (λ (n : ℕ). 64 * (length desk.rounds + n)) (closed_same (is_gone stale (at_moment now state).objects) (has_fetch desk.fetches caller token) (length (without_fetch token desk.fetches)) (length desk.fetches) shut)
+    ∙ desk_insert desk state now caller stands.desk room token object stale
+insert_judged Stands desk shelf now caller room token object stale (asks.Lookup found) finds beginning entries stands later = absurd finds

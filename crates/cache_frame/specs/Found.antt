@@ -12,16 +12,20 @@ use Rattle.cache_law.specs.declared.call.Reply.{Reply}
 use Rattle.cache_law.specs.declared.call.Reply.TheVariants as replies
 use Rattle.cache_law.specs.Beginning.{Beginning}
 use Rattle.cache_law.specs.Lookup.{raised, scanned}
-use Rattle.cache_law.specs.State.{State, Held, at_moment, has_fetch, has_round, least_token, those_in_time, with_wait}
+use Rattle.cache_law.specs.State.{State, Held, at_moment, has_fetch, has_round, is_gone, least_token, those_in_time, with_wait}
 use Rattle.cache_law.specs.Law.{Step, leaving, busy, wait_in, looked_up}
 use Rattle.cache_law.specs.History.{reached}
+use Rattle.cache_frame.specs.Asked.{found_in, is_untested}
+use Rattle.cache_frame.specs.declared.finding.Asked.{Asked}
+use Rattle.cache_frame.specs.declared.finding.Asked.TheVariants as asks
+use Rattle.cache_frame.specs.declared.finding.StaleObject.TheVariants.{There, Gone, Untested}
 use Rattle.cache_frame.specs.declared.finding.Finding.{Finding}
 use Rattle.cache_frame.specs.declared.finding.Finding.TheVariants.{Hit, HitMiss, HitPass, Grace, GraceAlone, Wait, Miss}
 use Rattle.cache_frame.specs.declared.finding.Found.{Found}
 use Rattle.cache_desk.specs.Desk.{DeskState}
 use Rattle.cache_desk.specs.Opening.{next_after, opened_for}
 use Rattle.cache_frame.specs.Framed.{StandFor}
-use Rattle.cache_frame.specs.Shelves.{LooksOver, used_for}
+use Rattle.cache_frame.specs.Shelves.{LooksOver, Tells, used_for}
 use Rattle.cache_frame.specs.declared.seen.Use.{Use}
 use Rattle.cache_frame.specs.declared.seen.Use.TheVariants as uses
 
@@ -121,10 +125,22 @@ pub record Finds {S M : Type 0} (Stands : S → Beginning → List Entry → Typ
   pub answers : (beginning : Beginning) (entries : List Entry) → StandFor Stands desk shelf beginning entries → (reached beginning entries).moment ≤ now
       → looked_up (at_moment now (reached beginning entries)) caller query ≡ told_so (reached beginning entries) now caller query found
 
+-- What an insertion finds of its stale object, where its fetch is open: that it is there, or that it is gone, whatever the shelf
+-- stands for; or that it couldn't be tested.
+abbrev pub FindsStale : {S M : Type 0} → (S → Beginning → List Entry → Type 0) → DeskState → S → ℕ → ℕ → ℕ → Option ℕ → Asked M → Type 0
+FindsStale Stands desk shelf now caller token stale (asks.Insert There) =
+    (has_fetch desk.fetches caller token ≡ true) × Tells Stands shelf now (λ state. is_gone stale state.objects ≡ false)
+FindsStale Stands desk shelf now caller token stale (asks.Insert Gone) =
+    (has_fetch desk.fetches caller token ≡ true) × Tells Stands shelf now (λ state. is_gone stale state.objects ≡ true)
+FindsStale Stands desk shelf now caller token stale (asks.Insert Untested) = has_fetch desk.fetches caller token ≡ true
+FindsStale Stands desk shelf now caller token stale asks.Nothing = has_fetch desk.fetches caller token ≡ false
+FindsStale Stands desk shelf now caller token stale (asks.Lookup found) = ⊥
+
 -- what the call finds at the moment
-abbrev pub FindsFor : {S M : Type 0} → (S → Beginning → List Entry → Type 0) → (S → ℕ → Query → M → Type 0) → DeskState → S → ℕ → ℕ → Call → Option (Found M) → Type 0
-FindsFor Stands IsMarked desk shelf now caller (Lookup query) found = Finds Stands IsMarked desk shelf now caller query found
-FindsFor Stands IsMarked desk shelf now caller call found = Unit {0}
+abbrev pub FindsFor : {S M : Type 0} → (S → Beginning → List Entry → Type 0) → (S → ℕ → Query → M → Type 0) → DeskState → S → ℕ → ℕ → Call → Asked M → Type 0
+FindsFor Stands IsMarked desk shelf now caller (Lookup query) asked = (is_untested asked ≡ false) × Finds Stands IsMarked desk shelf now caller query (found_in asked)
+FindsFor Stands IsMarked desk shelf now caller (Insert token object stale) asked = FindsStale Stands desk shelf now caller token stale asked
+FindsFor Stands IsMarked desk shelf now caller call asked = is_untested asked ≡ false
 
 -- What a lookup with these marks leaves of the shelf: without marks it is as it was.
 abbrev pub Takes : {S M : Type 0} → (S → Beginning → List Entry → Type 0) → S → S → ℕ → ℕ → Query → Option M → Use → Type 0

@@ -5,17 +5,21 @@ ghost use Rattle.cache_law.specs.declared.call.Entry.{Entry as HistoryEntry};
 ghost use Rattle.cache_law.specs.declared.object.Object.{Object as Made};
 ghost use Rattle.cache_law.specs.Beginning.{Beginning};
 ghost use Rattle.cache_law.specs.Core.{is_kept, is_lookup};
-ghost use Rattle.cache_law.specs.History.{is_numbered, reached};
-ghost use Rattle.cache_law.specs.Law.{answered};
+ghost use Rattle.cache_law.specs.History.{is_numbered};
+ghost use Rattle.cache_law.specs.Law.{answered, refused};
 ghost use Rattle.cache_law.specs.State.{at_moment, has_fetch, is_gone, reserve, without_fetch};
 ghost use Rattle.cache_desk.specs.Desk.{bare};
-ghost use Rattle.cache_frame.specs.Found.{AreMarks, Finds, FindsFor, Takes, is_insertion, opens_more};
-ghost use Rattle.cache_frame.specs.Framed.{StandFor};
+ghost use Rattle.cache_frame.specs.Asked.{found_in, is_untested, says_gone};
+ghost use Rattle.cache_frame.specs.Found.{AreMarks, Finds, FindsFor, FindsStale, Takes, is_insertion, opens_more};
+ghost use Rattle.cache_frame.specs.Framed.{Reserves};
 ghost use Rattle.cache_frame.specs.Shelves.{StandsOn, Tells, reply_of_placing};
 ghost use Rattle.cache_frame.specs.Step.{Answered, IsRefusal};
 ghost use Rattle.cache_desk.specs.Stock.{Stock, with_stock};
 
-use crate::finding::{Finding, Found, finding_by, opens_fetch, reply_of, use_in, wait_in};
+use crate::finding::{
+    Asked, Finding, Found, StaleObject, asked_by, finding_by, opens_fetch, reply_of, says_gone,
+    taken, use_in, wait_in,
+};
 use crate::seen::{Placing, Use};
 use crate::shelf::Shelf;
 use cache_desk::{Answer, Desk};
@@ -23,7 +27,7 @@ use cache_law::{Ban, Call, Object, Query, Reply};
 use std::alloc::{AllocError, Global};
 use units::{Sequence, Shared, Text, out_of_memory};
 
-/// What a call of the caller finds: a lookup in its open round finds something, and no other call does.
+/// What a call of the caller finds: a lookup in its open round, and an insertion of its open fetch. No other call asks anything of the shelf.
 pub(crate) fn find<S: Shelf>(
     alloc: Global,
     desk: &Desk,
@@ -31,16 +35,45 @@ pub(crate) fn find<S: Shelf>(
     caller: u32,
     moment: u64,
     call: &Call,
-) -> Result<Option<Found<S::Marks>>, AllocError>
-    ensures found { IfOk result (λ found. FindsFor S.Stands S.IsMarked desk.now shelf.now moment caller call.now found) }
+) -> Result<Asked<S::Marks>, AllocError>
+    ensures found { IfOk result (λ asked. FindsFor S.Stands S.IsMarked desk.now shelf.now moment caller call.now asked) }
     ensures other { is_lookup call.now ≡ false → IsOk result }
 {
     match call {
-        Call::Lookup(query) => find_for(alloc, desk, shelf, caller, moment, query),
-        Call::Begin | Call::Draw | Call::Pick { .. } | Call::Insert { .. } => Ok(None),
-        Call::Ban(_) | Call::BanList | Call::Purge { .. } | Call::Xkey { .. } => Ok(None),
-        Call::SetHealth { .. } | Call::Load(_) | Call::Switch { .. } => Ok(None),
-        Call::Discard { .. } | Call::VclList | Call::Drop { .. } | Call::End => Ok(None),
+        Call::Lookup(query) => {
+            let found = find_for(alloc, desk, shelf, caller, moment, query)?;
+            Ok(asked_by(found))
+        }
+        Call::Insert { token, stale, .. } => Ok(find_stale(
+            alloc, desk, shelf, caller, moment, *token, *stale,
+        )),
+        Call::Begin | Call::Draw | Call::Pick { .. } => Ok(Asked::Nothing),
+        Call::Ban(_) | Call::BanList | Call::Purge { .. } => Ok(Asked::Nothing),
+        Call::Xkey { .. } | Call::SetHealth { .. } | Call::Load(_) => Ok(Asked::Nothing),
+        Call::Switch { .. } | Call::Discard { .. } | Call::VclList => Ok(Asked::Nothing),
+        Call::Drop { .. } | Call::End => Ok(Asked::Nothing),
+    }
+}
+
+/// What an insertion finds of its stale object. One of a fetch that isn't open asks nothing.
+fn find_stale<S: Shelf>(
+    alloc: Global,
+    desk: &Desk,
+    shelf: &S,
+    caller: u32,
+    moment: u64,
+    token: u64,
+    stale: Option<u64>,
+) -> Asked<S::Marks>
+    ensures { FindsStale S.Stands desk.now shelf.now moment caller token stale result }
+{
+    if !desk.has_fetch(caller, token) {
+        return Asked::Nothing;
+    }
+    match shelf.is_gone(alloc, moment, stale) {
+        Ok(true) => Asked::Insert(StaleObject::Gone),
+        Ok(false) => Asked::Insert(StaleObject::There),
+        Err(_) => Asked::Insert(StaleObject::Untested),
     }
 }
 
@@ -71,72 +104,77 @@ fn find_for<S: Shelf>(
     }))
 }
 
-/// How many rounds and fetches are open behind the law's answer to the call, which finds so.
+/// How many rounds and fetches are open behind what the call is judged by: the law's answer, or a refusal where its stale object
+/// couldn't be tested.
 pub(crate) fn open_after<S: Shelf>(
     desk: &Desk,
     shelf: &S,
     caller: u32,
     moment: u64,
     call: &Call,
-    found: &Option<Found<S::Marks>>,
+    asked: &Asked<S::Marks>,
 ) -> u128
-    requires { FindsFor S.Stands S.IsMarked desk.now shelf.now moment caller call.now found.now }
-    ensures reserve { (room : ℕ) (beginning : Beginning) (entries : List HistoryEntry) → StandFor S.Stands desk.now shelf.now beginning entries → (reached beginning entries).moment ≤ moment
-        → 64 * result ≡ reserve (answered room (at_moment moment (reached beginning entries)) caller call.now).state }
+    requires { FindsFor S.Stands S.IsMarked desk.now shelf.now moment caller call.now asked.now }
+    ensures reserve { (room : ℕ) → Reserves S.Stands room desk.now shelf.now moment caller call.now (is_untested asked.now) result }
     ensures bound { result ≤ 2 ^ 65 }
 {
     match call {
         Call::Begin => desk.open_with_round(caller),
         Call::Draw => desk.open(),
-        Call::Lookup(_) => open_with(desk, found),
+        Call::Lookup(_) => open_with(desk, asked),
         Call::Pick { .. } | Call::Ban(_) | Call::BanList => desk.open(),
         Call::Purge { .. } | Call::Xkey { .. } | Call::SetHealth { .. } => desk.open(),
         Call::Load(_) | Call::Switch { .. } | Call::Discard { .. } => desk.open(),
         Call::VclList => desk.open(),
-        Call::Insert { token, stale, .. } => {
-            open_without_inserted(desk, shelf, caller, moment, *token, *stale)
-        }
+        Call::Insert { token, .. } => open_without_inserted(desk, caller, *token, asked),
         Call::Drop { token } => desk.open_without_fetch(caller, *token),
         Call::End => desk.open_without_round(caller),
     }
 }
 
 /// What is open behind a lookup that found so.
-fn open_with<M>(desk: &Desk, found: &Option<Found<M>>) -> u128
-    ensures value { result ≡ length desk.now.rounds + length desk.now.fetches + (if opens_more found.now then 1 else 0) }
+fn open_with<M>(desk: &Desk, asked: &Asked<M>) -> u128
+    ensures value { result ≡ length desk.now.rounds + length desk.now.fetches + (if opens_more (found_in asked.now) then 1 else 0) }
     ensures bound { result ≤ 2 ^ 65 }
 {
-    match found {
-        Some(found) => {
+    match asked {
+        Asked::Lookup(found) => {
             if opens_fetch(&found.finding) {
                 desk.open() + 1
             } else {
                 desk.open()
             }
         }
-        None => desk.open(),
+        Asked::Insert(_) | Asked::Nothing => desk.open(),
     }
 }
 
 /// What is open behind an insertion: a stale object that is gone leaves the fetch open.
-fn open_without_inserted<S: Shelf>(
-    desk: &Desk,
-    shelf: &S,
-    caller: u32,
-    moment: u64,
-    token: u64,
-    stale: Option<u64>,
-) -> u128
-    ensures value { Tells S.Stands shelf.now moment (λ state. result ≡ length desk.now.rounds + (if is_gone stale state.objects then length desk.now.fetches else (if has_fetch desk.now.fetches caller token then length (without_fetch token desk.now.fetches) else length desk.now.fetches))) }
+fn open_without_inserted<M>(desk: &Desk, caller: u32, token: u64, asked: &Asked<M>) -> u128
+    ensures value { result ≡ length desk.now.rounds + (if says_gone asked.now then length desk.now.fetches else (if has_fetch desk.now.fetches caller token then length (without_fetch token desk.now.fetches) else length desk.now.fetches)) }
     ensures bound { result ≤ 2 ^ 65 }
 {
-    if shelf.is_gone(moment, stale) {
+    if says_gone(asked) {
         return desk.open();
     }
     desk.open_without_fetch(caller, token)
 }
 
-/// Answers the call, which finds so, and leaves what is kept behind it. Where memory is wanting, the desk is as before and the
+/// What is open behind a refusal of the call, which closes the fetch of an insertion.
+pub(crate) fn open_refused(desk: &Desk, call: &Call) -> u128
+    ensures value { 64 * result ≡ reserve (refused (bare desk.now) call.now) }
+    ensures bound { result ≤ 2 ^ 65 }
+{
+    match call {
+        Call::Insert { token, .. } => desk.open_without(*token),
+        Call::Begin | Call::Draw | Call::Lookup(_) | Call::Pick { .. } => desk.open(),
+        Call::Ban(_) | Call::BanList | Call::Purge { .. } | Call::Xkey { .. } => desk.open(),
+        Call::SetHealth { .. } | Call::Load(_) | Call::Switch { .. } => desk.open(),
+        Call::Discard { .. } | Call::VclList | Call::Drop { .. } | Call::End => desk.open(),
+    }
+}
+
+/// Answers the call, which asked so, and leaves what is kept behind it. Where memory is wanting, the desk is as before and the
 /// shelf stands for the same. A lookup takes what was found.
 pub(crate) fn answer<S: Shelf>(
     alloc: Global,
@@ -146,9 +184,10 @@ pub(crate) fn answer<S: Shelf>(
     caller: u32,
     moment: u64,
     call: &Call,
-    found: &mut Option<Found<S::Marks>>,
+    asked: &mut Asked<S::Marks>,
 ) -> Result<Answer, AllocError>
-    requires found { FindsFor S.Stands S.IsMarked desk.old shelf.old moment caller call.now found.old }
+    requires found { FindsFor S.Stands S.IsMarked desk.old shelf.old moment caller call.now asked.old }
+    requires tested { is_untested asked.old ≡ false }
     requires numbers { desk.old.next + 1 < 2 ^ 64 }
     requires issues { (S.stock shelf.old).issued + 1 < 2 ^ 64 }
     requires vcls { (stock : Stock) → is_numbered (answered room (at_moment moment (with_stock stock (bare desk.old))) caller call.now).reply ≡ true }
@@ -160,15 +199,21 @@ pub(crate) fn answer<S: Shelf>(
     match call {
         Call::Begin => desk.begin(alloc, caller, moment),
         Call::Draw => Ok(desk.draw(caller, moment)),
-        Call::Lookup(query) => lookup(alloc, desk, shelf, caller, moment, query, found),
+        Call::Lookup(query) => {
+            let found = taken(asked);
+            lookup(alloc, desk, shelf, caller, moment, query, found)
+        }
         Call::Pick { vcl, target, word } => desk.pick(alloc, moment, *vcl, target, *word),
         Call::Insert {
             token,
             object,
             stale,
-        } => Ok(insert(
-            alloc, desk, shelf, room, caller, moment, *token, object, *stale,
-        )),
+        } => {
+            let gone = says_gone(asked);
+            Ok(insert(
+                alloc, desk, shelf, room, caller, moment, *token, object, *stale, gone,
+            ))
+        }
         Call::Ban(ban) => issue(alloc, desk, shelf, moment, ban),
         Call::BanList => list_bans(alloc, desk, shelf, moment),
         Call::Purge { key } => purge(alloc, desk, shelf, moment, key),
@@ -221,15 +266,15 @@ fn lookup<S: Shelf>(
     caller: u32,
     moment: u64,
     query: &Query,
-    found: &mut Option<Found<S::Marks>>,
+    found: Option<Found<S::Marks>>,
 ) -> Result<Answer, AllocError>
-    requires found { Finds S.Stands S.IsMarked desk.old shelf.old moment caller query.now found.old }
+    requires found { Finds S.Stands S.IsMarked desk.old shelf.old moment caller query.now found }
     requires numbers { desk.old.next + 1 < 2 ^ 64 }
     ensures ok { (room : ℕ) → IfOk result (Answered S.Stands room desk.old shelf.old desk.new shelf.new caller moment (LookupCall query.now)) }
     ensures desk { OnErr result (desk.new ≡ desk.old) }
     ensures shelf { OnErr result (StandsOn S.Stands shelf.old shelf.new) }
 {
-    match found.take() {
+    match found {
         Some(Found { finding, marks }) => {
             look(alloc, desk, shelf, caller, moment, query, finding, marks)
         }
@@ -300,7 +345,7 @@ fn take<S: Shelf>(
     }
 }
 
-/// Where memory is wanting, the insertion is refused.
+/// Where memory is wanting, the insertion is refused. It has been asked already whether the stale object is gone.
 fn insert<S: Shelf>(
     alloc: Global,
     desk: &mut Desk,
@@ -311,7 +356,9 @@ fn insert<S: Shelf>(
     token: u64,
     object: &Shared<Object>,
     stale: Option<u64>,
+    gone: bool,
 ) -> Answer
+    requires { has_fetch desk.old.fetches caller token ≡ true → Tells S.Stands shelf.old moment (λ state. gone ≡ is_gone stale state.objects) }
     ensures { Answered S.Stands room desk.old shelf.old desk.new shelf.new caller moment (InsertCall token object.now stale) result }
 {
     if !desk.has_fetch(caller, token) {
@@ -321,7 +368,7 @@ fn insert<S: Shelf>(
             kept: Reply::NotOpen,
         };
     }
-    if shelf.is_gone(moment, stale) {
+    if gone {
         desk.pass(moment);
         return Answer {
             told: Reply::StaleGone,

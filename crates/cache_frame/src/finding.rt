@@ -1,11 +1,13 @@
-// What a lookup finds in an open round.
-ghost use Rattle.std.specs.Prelude.{◌≡◌};
+// What a call finds: a lookup in an open round, and an insertion of an open fetch.
+ghost use Rattle.std.specs.Prelude.{◌≡◌, false};
 ghost use Rattle.cache_law.specs.Law.{busy as busy_with, wait_in as told_to_wait};
 ghost use Rattle.cache_law.specs.Lookup.{raised};
+ghost use Rattle.cache_frame.specs.Asked.{found_in, is_untested, says_gone};
 ghost use Rattle.cache_frame.specs.Found.{fetch_finding, finding_by, given_by as given, graced_by as graced, opens_fetch, other_finding, reply_of as reply_by, use_in as use_by};
 
 use crate::seen::Use;
 use cache_law::{Object, ObjectView, Query, Reply};
+use std::mem;
 
 #[derive(Drop)]
 pub(crate) enum Finding {
@@ -29,6 +31,60 @@ pub(crate) enum Finding {
 pub(crate) struct Found<M> {
     pub finding: Finding,
     pub marks: Option<M>,
+}
+
+/// What has become of the stale object that an insertion names, if it names one.
+#[derive(Clone, Copy)]
+pub(crate) enum StaleObject {
+    There,
+    Gone,
+    /// Memory was wanting for the test of it.
+    Untested,
+}
+
+/// What a call asked of the shelf before anything was changed, and was told.
+#[derive(Drop)]
+pub(crate) enum Asked<M> {
+    /// By a lookup in an open round.
+    Lookup(Found<M>),
+    /// By an insertion of an open fetch.
+    Insert(StaleObject),
+    Nothing,
+}
+
+/// What was asked by a lookup that found so.
+pub(crate) fn asked_by<M>(found: Option<Found<M>>) -> Asked<M>
+    ensures found { found_in result ≡ found }
+    ensures tested { is_untested result ≡ false }
+{
+    match found {
+        Some(found) => Asked::Lookup(found),
+        None => Asked::Nothing,
+    }
+}
+
+/// Takes what a lookup found.
+pub(crate) fn taken<M: Drop>(asked: &mut Asked<M>) -> Option<Found<M>>
+    ensures { result ≡ found_in asked.old }
+{
+    match mem::replace(asked, Asked::Nothing) {
+        Asked::Lookup(found) => Some(found),
+        Asked::Insert(_) | Asked::Nothing => None,
+    }
+}
+
+/// Whether a stale object is gone.
+pub(crate) fn says_gone<M>(asked: &Asked<M>) -> bool
+    ensures { result ≡ says_gone asked.now }
+{
+    matches!(asked, Asked::Insert(StaleObject::Gone))
+}
+
+/// Whether a stale object couldn't be tested.
+pub(crate) fn is_untested<M>(asked: &Asked<M>) -> bool
+    ensures { result ≡ is_untested asked.now }
+{
+    matches!(asked, Asked::Insert(StaleObject::Untested))
 }
 
 /// What a fresh object gives: itself, or what it is a marker of.

@@ -3,18 +3,21 @@ ghost use Rattle.std.specs.Prelude.{◌≡◌, ◌∷◌, ◌++◌, ◌+◌, ◌
 ghost use Rattle.std.specs.Vec.{vec_capacity};
 ghost use Rattle.cache_law.specs.State.{at_moment};
 ghost use Rattle.cache_law.specs.Law.{answered};
+ghost use Rattle.cache_law.specs.declared.call.Reply.TheVariants.{Refused};
 ghost use Rattle.cache_law.specs.Bases.{IsBase, IsClosed};
 ghost use Rattle.cache_law.specs.Core.{is_closing as closes_only, is_kept, is_lookup, is_segment_full as is_full_for};
-ghost use Rattle.cache_law.specs.History.{bytes_of, is_numbered, most_entries, reached};
+ghost use Rattle.cache_law.specs.History.{Fits, is_numbered, most_entries, reached};
 ghost use Rattle.cache_desk.specs.Desk.{bare};
+ghost use Rattle.cache_frame.specs.Asked.{is_untested};
 ghost use Rattle.cache_frame.specs.Found.{FindsFor, is_insertion};
-ghost use Rattle.cache_frame.specs.Framed.{FitsNot, HasFit, HasRoomBehind, base_with};
+ghost use Rattle.cache_frame.specs.Framed.{FitsIf, FitsNot, HasFit, HasRoomBehind, IsWithin, base_with};
+ghost use Rattle.cache_frame.specs.Answering.{entry_answered};
 ghost use Rattle.cache_frame.specs.Shelves.{StandsOn};
 ghost use Rattle.cache_frame.specs.Step.{Answered};
 ghost use Rattle.cache_desk.specs.Stock.{Stock, with_stock};
 
-use crate::calls::{answer, find, open_after, refuse};
-use crate::finding::Found;
+use crate::calls::{answer, find, open_after, open_refused, refuse};
+use crate::finding::{Asked, is_untested};
 use crate::shelf::Shelf;
 use ban_lurker::{Chore, LurkCore, Verdict};
 use cache_desk::{Answer, Desk};
@@ -105,7 +108,7 @@ impl<S: Shelf> CacheCore for Framed<S> {
             caller,
             moment,
             &call,
-            fitted.found,
+            fitted.asked,
             fitted.closings,
         );
         let answer = match answered {
@@ -203,6 +206,40 @@ impl<S: Shelf> Framed<S> {
             && self.params.history / 2 <= self.used
     }
 
+    /// Whether an entry of the call, answered so, fits behind a history of so many bytes that reached this state. A step asks the
+    /// same of its own history. An error means that memory was wanting, which a refusal never wants.
+    pub fn fits(
+        &self,
+        alloc: Global,
+        used: u64,
+        caller: u32,
+        moment: u64,
+        call: &Call,
+        answering: Answering,
+    ) -> Result<bool, AllocError>
+        requires { (reached self.now.beginning self.now.entries).moment ≤ moment }
+        ensures told { IfOk result (λ fits. IsTrue fits ↔ Fits self.now.beginning.params (reached self.now.beginning self.now.entries) used
+            (entry_answered answering self.now.beginning.params (reached self.now.beginning self.now.entries) caller moment call.now)) }
+        ensures refused { answering ≡ Answering.Refused → IsOk result }
+    {
+        match answering {
+            Answering::ByLaw => fits_by_law(
+                alloc,
+                &self.params,
+                used,
+                &self.desk,
+                &self.shelf,
+                caller,
+                moment,
+                call,
+            ),
+            Answering::Refused => {
+                let open = open_refused(&self.desk, call);
+                Ok(is_within(self.params.history, used, self.desk.entries(), call, open))
+            }
+        }
+    }
+
     /// Whether no round and no fetch is open: then it may be reopened. It takes no memory.
     pub fn is_idle(&self) -> bool
         ensures { IsTrue result ↔ IsClosed (reached self.now.beginning self.now.entries) }
@@ -245,12 +282,13 @@ fn is_closing(call: &Call) -> bool
     }
 }
 
-/// Whether a run of so many entries may have one more, and one for each of so many rounds and fetches that are then open.
-fn is_counted(entries: u64, closings: u128) -> bool
-    requires { closings ≤ 2 ^ 65 }
-    ensures { IsTrue result ↔ (entries + 1 + closings ≤ most_entries) }
-{
-    u128::from(entries) + 1 + closings <= MOST_ENTRIES
+/// How a call is answered, as far as it decides whether its entry fits.
+#[derive(Clone, Copy)]
+pub enum Answering {
+    /// As the law says, or by one of several lists of bans.
+    ByLaw,
+    /// That memory was wanting.
+    Refused,
 }
 
 /// Lets go of what belongs to a call that isn't answered.
@@ -260,14 +298,15 @@ fn given_up<T: Drop>(_asked: T, error: StepError) -> StepError
     error
 }
 
-/// A call that fits: what it finds, and how many rounds and fetches are open behind the law's answer.
+/// A call that fits: what it asked, and how many rounds and fetches are open behind what it is judged by.
 #[derive(Drop)]
 struct Fitted<M> {
-    found: Option<Found<M>>,
+    asked: Asked<M>,
     closings: usize,
 }
 
-/// Whether the call fits behind a history of so many bytes. That it doesn't is told before want of memory, but for a lookup.
+/// Whether the call fits behind a history of so many bytes, or, where its stale object couldn't be tested, its refusal. That it
+/// doesn't is told before want of memory, but for a lookup.
 fn fit<S: Shelf>(
     alloc: Global,
     params: &Params,
@@ -278,34 +317,56 @@ fn fit<S: Shelf>(
     moment: u64,
     call: &Call,
 ) -> Result<Fitted<S::Marks>, StepError>
-    ensures found { IfOk result (λ fitted. FindsFor S.Stands S.IsMarked desk.now shelf.now moment caller call.now fitted.found) }
-    ensures fits { IfOk result (λ fitted. HasFit S.Stands params.now used desk.now shelf.now moment caller call.now fitted.closings) }
+    ensures found { IfOk result (λ fitted. FindsFor S.Stands S.IsMarked desk.now shelf.now moment caller call.now fitted.asked) }
+    ensures fits { IfOk result (λ fitted. HasFit S.Stands params.now used desk.now shelf.now moment caller call.now (is_untested fitted.asked) fitted.closings) }
     ensures full { IsErrOf result StepError.HistoryFull → FitsNot S.Stands params.now used desk.now shelf.now moment caller call.now }
     ensures wanting { is_lookup call.now ≡ false → IsErrOf result StepError.NoMemory → ⊥ }
     ensures segment { IsErrOf result StepError.SegmentFull → ⊥ }
 {
-    let found = match find(alloc, desk, shelf, caller, moment, call) {
-        Ok(found) => found,
+    let asked = match find(alloc, desk, shelf, caller, moment, call) {
+        Ok(asked) => asked,
         Err(_) => return Err(StepError::NoMemory),
     };
-    let open = open_after(desk, shelf, caller, moment, call, &found);
+    let open = open_after(desk, shelf, caller, moment, call, &asked);
     if !desk.is_numbered(call) {
-        return Err(given_up(found, StepError::HistoryFull));
+        return Err(given_up(asked, StepError::HistoryFull));
     }
-    if !fits(params.history, used, call, open) {
-        return Err(given_up(found, StepError::HistoryFull));
-    }
-    if !is_counted(desk.entries(), open) {
-        return Err(given_up(found, StepError::HistoryFull));
+    if !is_within(params.history, used, desk.entries(), call, open) {
+        return Err(given_up(asked, StepError::HistoryFull));
     }
     Ok(Fitted {
-        found,
+        asked,
         closings: open as usize,
     })
 }
 
-/// Answers the call, which finds so, where there is room for its entry and for those that will close what is open behind
-/// it, so many in number. Without that room an insertion of an open fetch is refused, in the room that was kept for it.
+/// Whether the entry of the call, answered as the law says, fits behind a history of so many bytes.
+fn fits_by_law<S: Shelf>(
+    alloc: Global,
+    params: &Params,
+    used: u64,
+    desk: &Desk,
+    shelf: &S,
+    caller: u32,
+    moment: u64,
+    call: &Call,
+) -> Result<bool, AllocError>
+    ensures { IfOk result (λ fits. FitsIf S.Stands params.now used desk.now shelf.now moment caller call.now fits) }
+{
+    let asked = find(alloc, desk, shelf, caller, moment, call)?;
+    if is_untested(&asked) {
+        return Err(out_of_memory(asked));
+    }
+    let open = open_after(desk, shelf, caller, moment, call, &asked);
+    drop(asked);
+    let numbered = desk.is_numbered(call);
+    let within = is_within(params.history, used, desk.entries(), call, open);
+    Ok(numbered && within)
+}
+
+/// Answers the call, which asked so, where there is room for its entry and for those that will close what is open behind
+/// it, so many in number. Without that room, and where its stale object couldn't be tested, an insertion of an open fetch is
+/// refused, in the room that was kept for it.
 fn answer_within<S: Shelf>(
     alloc: Global,
     entries: &mut Vec<Entry>,
@@ -315,10 +376,10 @@ fn answer_within<S: Shelf>(
     caller: u32,
     moment: u64,
     call: &Call,
-    found: Option<Found<S::Marks>>,
+    asked: Asked<S::Marks>,
     closings: usize,
 ) -> Result<Answer, AllocError>
-    requires found { FindsFor S.Stands S.IsMarked desk.old shelf.old moment caller call.now found }
+    requires found { FindsFor S.Stands S.IsMarked desk.old shelf.old moment caller call.now asked }
     requires numbers { desk.old.next + 1 < 2 ^ 64 }
     requires issues { (S.stock shelf.old).issued + 1 < 2 ^ 64 }
     requires vcls { (stock : Stock) → is_numbered (answered room (at_moment moment (with_stock stock (bare desk.old))) caller call.now).reply ≡ true }
@@ -326,6 +387,7 @@ fn answer_within<S: Shelf>(
     requires frees { is_kept (bare desk.old) caller call.now ≡ true → is_insertion desk.old caller call.now ≡ false → closings + 1 ≤ length desk.old.rounds + length desk.old.fetches }
     requires reserved { length entries.old.items + length desk.old.rounds + length desk.old.fetches ≤ vec_capacity entries.old }
     ensures ok { IfOk result (Answered S.Stands room desk.old shelf.old desk.new shelf.new caller moment call.now) }
+    ensures refuses { is_untested asked ≡ true → IfOk result (λ answer. answer.told ≡ Refused) }
     ensures same { entries.new.items ≡ entries.old.items }
     ensures left { OnOk result (HasRoomBehind (length entries.new.items) (vec_capacity entries.new) closings desk.old desk.new) }
     ensures larger { vec_capacity entries.old ≤ vec_capacity entries.new }
@@ -333,29 +395,29 @@ fn answer_within<S: Shelf>(
     ensures shelf { OnErr result (StandsOn S.Stands shelf.old shelf.new) }
     ensures kept { is_kept (bare desk.old) caller call.now ≡ true → IsOk result }
 {
-    let mut found = found;
-    if entries.try_reserve(closings + 1).is_err() {
-        drop(found);
+    let mut asked = asked;
+    if is_untested(&asked) || entries.try_reserve(closings + 1).is_err() {
+        drop(asked);
         return match refuse(desk, caller, moment, call) {
             Some(answer) => Ok(answer),
             None => Err(AllocError),
         };
     }
-    let answered = answer(alloc, desk, shelf, room, caller, moment, call, &mut found);
-    drop(found);
+    let answered = answer(alloc, desk, shelf, room, caller, moment, call, &mut asked);
+    drop(asked);
     answered
 }
 
-/// Whether the limit isn't passed by a history of this many bytes, with the call's entry and what is reserved for so
-/// many open rounds and fetches.
-fn fits(limit: u64, used: u64, call: &Call, closings: u128) -> bool
+/// Whether the entry of the call fits a history of this limit and of so many bytes, in a run of so many entries, where it leaves so
+/// many rounds and fetches open.
+fn is_within(limit: u64, used: u64, entries: u64, call: &Call, closings: u128) -> bool
     requires { closings ≤ 2 ^ 65 }
-    ensures { IsTrue result ↔ (used + bytes_of call.now + 64 * closings ≤ limit) }
+    ensures { IsTrue result ↔ IsWithin limit used entries call.now closings }
 {
-    let wanted = entry_bytes(call)
+    let bytes = entry_bytes(call)
         .saturating_add(u128::from(used))
         .saturating_add(64 * closings);
-    wanted <= u128::from(limit)
+    bytes <= u128::from(limit) && u128::from(entries) + 1 + closings <= MOST_ENTRIES
 }
 
 /// Puts the entry at the end, where there is room for it.

@@ -11,6 +11,6 @@ mod framed;
 mod seen;
 mod shelf;
 
-pub use framed::Framed;
+pub use framed::{Answering, Framed};
 pub use seen::{Placing, Seen, Use};
 pub use shelf::Shelf;

@@ -64,10 +64,10 @@ pub trait Shelf: Sized + Drop {
         ensures ok { OnOk result (LooksOver Stands self.old self.new used moment query.now used_as) }
         ensures err { OnErr result (StandsOn Stands self.old self.new) };
 
-    /// Whether a stale object is named that isn't in time, or isn't there. It takes no memory: whether an insertion fits the history
-    /// hangs on it, and one of an open fetch is answered in any case.
-    fn is_gone(&self, moment: u64, stale: Option<u64>) -> bool
-        ensures { Tells Stands self.now moment (λ state. result ≡ gone stale state.objects) };
+    /// Whether a stale object is named that isn't in time, or isn't there. Where memory is wanting for the test of it, an insertion of
+    /// an open fetch is refused.
+    fn is_gone(&self, alloc: Global, moment: u64, stale: Option<u64>) -> Result<bool, AllocError>
+        ensures { IfOk result (λ is_gone. Tells Stands self.now moment (λ state. is_gone ≡ gone stale state.objects)) };
 
     /// Stores the object under the number of its fetch, in the stale one's place, where it is in time and has room. It is used at this
     /// place of the history.

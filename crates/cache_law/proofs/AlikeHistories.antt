@@ -15,7 +15,7 @@ use Rattle.cache_law.specs.Bans.{is_equal, is_on_time, is_shown, lasting, same_c
 use Rattle.cache_law.specs.ShownBans.{AllShown, IsPartOf}
 use Rattle.cache_law.specs.State.{State, Held, as_seen, at_moment, awaits, count_open}
 use Rattle.cache_law.specs.Law.{IsBanList, MayAnswer, after, answered, behind, refused}
-use Rattle.cache_law.specs.History.{Fits, FollowAll, Follows, HasWaited, Legal, WithinAll, bytes_of, is_numbered, next_state, reached_from}
+use Rattle.cache_law.specs.History.{Fits, FollowAll, Follows, HasWaited, Legal, WithinAll, bytes_of, next_state, reached_from}
 use Rattle.cache_law.specs.Bases.{AreAlike, AreAlikeAsSeen, AreHeldAlike, IsIn, is_completed}
 use Rattle.cache_law.proofs.BanLemmas.{one_list}
 use Rattle.cache_law.proofs.Lawful.{asks_bans}
@@ -162,18 +162,12 @@ follows_alike params less more entry alike follows =
       answer = may_alike params.room (at_moment entry.moment less) (at_moment entry.moment more) entry.caller entry.call entry.reply (alike_at entry.moment less more follows.no_earlier alike) follows.answer;
     }
 
-number_alike : (room : ℕ) (less more : State) (caller : ℕ) (call : Call) → AreAlikeAsSeen less more → is_numbered (answered room less caller call).reply ≡ true → is_numbered (answered room more caller call).reply ≡ true
-number_alike room less more caller BanList alike numbered = refl
-number_alike room less more caller call alike numbered = ap is_numbered (sym (steps_alike room less more caller call alike refl).reply) ∙ numbered
-
-pub fits_alike : (params : Params) (less more : State) (used caller moment : ℕ) (call : Call) → less.moment ≤ moment → AreAlike less more
-    → Fits params less used caller moment call → Fits params more used caller moment call
-fits_alike params less more used caller moment call order alike fits =
-    let now = alike_at moment less more order alike in
-    let same = ap count_open (step_states params.room (at_moment moment less) (at_moment moment more) caller call now).rest in
+pub fits_alike : (params : Params) (less more : State) (used : ℕ) (entry : Entry) → less.moment ≤ entry.moment → AreAlike less more → Fits params less used entry → Fits params more used entry
+fits_alike params less more used entry order alike fits =
+    let same = ap count_open (after_alike params less more entry.caller entry.moment entry.call entry.reply order alike).rest in
     let entries = ap (λ (s : State). s.entries) alike.rest in
     record {
-      number = number_alike params.room (at_moment moment less) (at_moment moment more) caller call now fits.number;
+      number = fits.number;
       within = omega (arith, fits.within, same);
       counted = omega (arith, fits.counted, same, entries);
     }
@@ -191,7 +185,7 @@ within_alike params less more used [] alike follow within = tt
 within_alike params less more used (e ∷ es) alike follow within =
     let order = follow.0.no_earlier in
     let next = after_alike params less more e.caller e.moment e.call e.reply order alike in (
-      fits_alike params less more used e.caller e.moment e.call order alike within.0,
+      fits_alike params less more used e order alike within.0,
       within_alike params (next_state params less e) (next_state params more e) (used + bytes_of e.call) es next follow.1 within.1,
     )
 

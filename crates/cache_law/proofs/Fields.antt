@@ -1,6 +1,5 @@
 -- What is stored has no more fields than what was handed over.
 use Rattle.std.proofs.Common.{◌==◌, ◌≤◌, ℕ, Bool, true, false, cond, not, List, [], ◌∷◌, Option, Some, None, filter, map}
-use Rattle.std.specs.List.{AllByRecursion}
 use Rattle.cache_law.specs.declared.setting.Params.{Params}
 use Rattle.cache_law.specs.declared.object.Object.{Object}
 use Rattle.cache_law.specs.declared.object.Object.TheVariants.{Ordinary, HitForMiss, HitForPass}

@@ -30,22 +30,22 @@ pub FollowAll-push : (params : Params) (state : State) (entries : List Entry) (e
 FollowAll-push params state [] entry follow follows = (follows, tt)
 FollowAll-push params state (e ∷ es) entry follow follows = (follow.0, FollowAll-push params (next_state params state e) es entry follow.1 follows)
 
-pub WithinAll-push : (params : Params) (state : State) (used : ℕ) (entries : List Entry) (entry : Entry) → WithinAll params state used entries → Fits params (reached_from params state entries) (used + bytes_of_all entries) entry.caller entry.moment entry.call → WithinAll params state used (entries ++ entry ∷ [])
+pub WithinAll-push : (params : Params) (state : State) (used : ℕ) (entries : List Entry) (entry : Entry) → WithinAll params state used entries → Fits params (reached_from params state entries) (used + bytes_of_all entries) entry → WithinAll params state used (entries ++ entry ∷ [])
 WithinAll-push params state used [] entry within fits =
     let e : used + bytes_of_all [] ≡ used = omega arith in
-    (subst (λ (n : ℕ). Fits params state n entry.caller entry.moment entry.call) e fits, tt)
+    (subst (λ (n : ℕ). Fits params state n entry) e fits, tt)
 WithinAll-push params state used (e ∷ es) entry within fits =
     let same : used + bytes_of_all (e ∷ es) ≡ used + bytes_of e.call + bytes_of_all es = omega (arith, bytes_of_all-cons e es) in
-    (within.0, WithinAll-push params (next_state params state e) (used + bytes_of e.call) es entry within.1 (subst (λ (n : ℕ). Fits params (reached_from params state (e ∷ es)) n entry.caller entry.moment entry.call) same fits))
+    (within.0, WithinAll-push params (next_state params state e) (used + bytes_of e.call) es entry within.1 (subst (λ (n : ℕ). Fits params (reached_from params state (e ∷ es)) n entry) same fits))
 
-pub Legal-push : (beginning : Beginning) (entries : List Entry) (entry : Entry) → Legal beginning entries → Follows beginning.params (reached beginning entries) entry → Fits beginning.params (reached beginning entries) (bytes_of_all entries) entry.caller entry.moment entry.call → Legal beginning (entries ++ entry ∷ [])
+pub Legal-push : (beginning : Beginning) (entries : List Entry) (entry : Entry) → Legal beginning entries → Follows beginning.params (reached beginning entries) entry → Fits beginning.params (reached beginning entries) (bytes_of_all entries) entry → Legal beginning (entries ++ entry ∷ [])
 Legal-push beginning entries entry legal follows fits =
     let e : bytes_of_all entries ≡ 0 + bytes_of_all entries = omega arith in
     record {
       opens = legal.opens;
       counts = legal.counts;
       follow = FollowAll-push beginning.params beginning.base entries entry legal.follow follows;
-      within = WithinAll-push beginning.params beginning.base 0 entries entry legal.within (subst (λ (n : ℕ). Fits beginning.params (reached beginning entries) n entry.caller entry.moment entry.call) e fits);
+      within = WithinAll-push beginning.params beginning.base 0 entries entry legal.within (subst (λ (n : ℕ). Fits beginning.params (reached beginning entries) n entry) e fits);
     }
 
 -- the empty history of a run is legal

@@ -1,20 +1,20 @@
 -- What is reserved serves the closing of what is open.
-use Rattle.std.proofs.Common.{◌≡◌, ℕ, Bool, true, false, not, cond, List, [], ◌∷◌, ◌+◌, ◌*◌, ◌≤◌, inl, inr, ◌||◌, ◌&&◌, ◌==◌, Option, length, filter, refl, arith, sym, ap, subst}
+use Rattle.std.proofs.Common.{◌≡◌, ℕ, Bool, true, false, not, cond, List, [], ◌∷◌, ◌+◌, ◌*◌, ◌≤◌, inl, inr, ◌||◌, ◌&&◌, ◌==◌, Option, length, filter, refl, arith, sym, ap, ◌∙◌, subst}
 use Rattle.std.specs.List.{list_any}
 use Rattle.std.proofs.lemmas.Bool.{cases_Bool, cond-false, true≢false, false≢true, and_parts}
 use Rattle.cache_law.specs.declared.object.Object.{Object}
 use Rattle.cache_law.specs.declared.call.Call.{Call}
 use Rattle.cache_law.specs.declared.call.Call.TheVariants.{Insert, BanList, Drop, End}
 use Rattle.cache_law.specs.declared.call.Reply.{Reply}
-use Rattle.cache_law.specs.declared.call.Reply.TheVariants.{NoRound, NotOpen, Dropped, Ended}
+use Rattle.cache_law.specs.declared.call.Reply.TheVariants.{NoRound, NotOpen, Dropped, Ended, Bans}
 use Rattle.cache_law.specs.declared.call.Entry.{Entry}
 use Rattle.cache_law.specs.declared.state.OpenRound.{OpenRound}
 use Rattle.cache_law.specs.declared.state.OpenFetch.{OpenFetch}
 use Rattle.cache_law.specs.State.{State, at_moment, count_open, reserve, has_round, has_fetch, without_fetch, without_round_of}
 use Rattle.cache_law.specs.declared.setting.Params.{Params}
 use Rattle.cache_law.specs.Beginning.{Beginning}
-use Rattle.cache_law.specs.Law.{Step, step_of, leaving, closing, closed_of, inserted, after, MayAnswer}
-use Rattle.cache_law.specs.History.{FollowAll, Legal, WithinAll, bytes_of, bytes_of_all, is_numbered, most_entries, next_state, reached_from, reached}
+use Rattle.cache_law.specs.Law.{Step, step_of, leaving, closing, closed_of, inserted, after, IsBanList, MayAnswer}
+use Rattle.cache_law.specs.History.{Fits, Legal, WithinAll, bytes_of, bytes_of_all, is_numbered, lawful_entry, most_entries, next_state, reached_from, reached}
 use Rattle.cache_law.specs.Core.{FitsBehind}
 use Rattle.cache_law.proofs.Histories.{bytes_of_all-cons}
 use Rattle.cache_law.proofs.Lawful.{after-lawful, after-listed}
@@ -85,30 +85,61 @@ reserve-after params state caller moment (Insert token object stale) answer (inr
 reserve-after params state caller moment BanList answer may = omega (arith, ap reserve (after-listed params state caller moment answer may))
 reserve-after params state caller moment call answer may = by_law params state caller moment call answer may
 
+-- the state behind the law's own reply has as much reserved as the law's
+pub reserve-lawful : (params : Params) (state : State) (caller moment : ℕ) (call : Call) → reserve (next_state params state (lawful_entry params state caller moment call)) ≡ reserve (step_of params state caller moment call).state
+reserve-lawful params state caller moment call = ap reserve (after-lawful params state caller moment call (step_of params state caller moment call).reply refl)
+
+-- a call fits where the law's reply and the state behind it do
+pub fits_lawful : (params : Params) (state : State) (used caller moment : ℕ) (call : Call) → is_numbered (step_of params state caller moment call).reply ≡ true
+    → used + bytes_of call + reserve (step_of params state caller moment call).state ≤ params.history → state.entries + 1 + count_open (step_of params state caller moment call).state ≤ most_entries
+    → Fits params state used (lawful_entry params state caller moment call)
+fits_lawful params state used caller moment call number within counted =
+    let same = reserve-lawful params state caller moment call in
+    record { number = number; within = omega (arith, within, same); counted = omega (arith, counted, same) }
+
+-- what may be answered has a number wherever the law's reply has
+numbered_listed : (state : State) (answer : Reply) → IsBanList state answer → is_numbered answer ≡ true
+numbered_listed state (Bans lines) shows = refl
+numbered_listed state answer shows = absurd shows
+
+pub numbered_told : (state : State) (call : Call) (law answer : Reply) → MayAnswer state call law answer → is_numbered law ≡ true → is_numbered answer ≡ true
+numbered_told state (Insert token object stale) law answer (inl lawful) number = ap is_numbered lawful ∙ number
+numbered_told state (Insert token object stale) law answer (inr free) number = ap is_numbered free.0
+numbered_told state BanList law answer may number = numbered_listed state answer may
+numbered_told state call law answer may number = ap is_numbered may ∙ number
+
+-- an entry with any reply that may be answered fits where the one with the law's reply does
+pub fits_told : (params : Params) (state : State) (used : ℕ) (entry : Entry) → MayAnswer (at_moment entry.moment state) entry.call (step_of params state entry.caller entry.moment entry.call).reply entry.reply
+    → Fits params state used (lawful_entry params state entry.caller entry.moment entry.call) → Fits params state used entry
+fits_told params state used entry may fits =
+    let least = reserve-after params state entry.caller entry.moment entry.call entry.reply may in
+    let same = reserve-lawful params state entry.caller entry.moment entry.call in
+    record {
+      number = numbered_told (at_moment entry.moment state) entry.call (step_of params state entry.caller entry.moment entry.call).reply entry.reply may fits.number;
+      within = omega (arith, fits.within, least, same);
+      counted = omega (arith, fits.counted, least, same);
+    }
+
 -- a legal history leaves room for the closing of what is open
-pub within_from : (params : Params) (state : State) (used : ℕ) (entries : List Entry) → FollowAll params state entries → WithinAll params state used entries → used + reserve state ≤ params.history → used + bytes_of_all entries + reserve (reached_from params state entries) ≤ params.history
-within_from params state used [] follow fit room = omega arith
-within_from params state used (e ∷ es) follow fit room =
-    let least = reserve-after params state e.caller e.moment e.call e.reply follow.0.answer in
-    let here : used + bytes_of e.call + reserve (next_state params state e) ≤ params.history = omega (arith, fit.0.within, least) in
-    let rest = within_from params (next_state params state e) (used + bytes_of e.call) es follow.1 fit.1 here in
+pub within_from : (params : Params) (state : State) (used : ℕ) (entries : List Entry) → WithinAll params state used entries → used + reserve state ≤ params.history → used + bytes_of_all entries + reserve (reached_from params state entries) ≤ params.history
+within_from params state used [] fit room = omega arith
+within_from params state used (e ∷ es) fit room =
+    let rest = within_from params (next_state params state e) (used + bytes_of e.call) es fit.1 fit.0.within in
     omega (arith, rest, bytes_of_all-cons e es)
 
 pub within : (beginning : Beginning) (entries : List Entry) → Legal beginning entries → bytes_of_all entries + reserve (reached beginning entries) ≤ beginning.params.history
 within beginning entries legal =
-    let h = within_from beginning.params beginning.base 0 entries legal.follow legal.within (omega (arith, legal.opens)) in omega (arith, h)
+    let h = within_from beginning.params beginning.base 0 entries legal.within (omega (arith, legal.opens)) in omega (arith, h)
 
 -- and the number of a run's entries leaves it too
-pub counted_from : (params : Params) (state : State) (used : ℕ) (entries : List Entry) → FollowAll params state entries → WithinAll params state used entries → state.entries + count_open state ≤ most_entries → (reached_from params state entries).entries + count_open (reached_from params state entries) ≤ most_entries
-counted_from params state used [] follow fit room = room
-counted_from params state used (e ∷ es) follow fit room =
-    let least = reserve-after params state e.caller e.moment e.call e.reply follow.0.answer in
+pub counted_from : (params : Params) (state : State) (used : ℕ) (entries : List Entry) → WithinAll params state used entries → state.entries + count_open state ≤ most_entries → (reached_from params state entries).entries + count_open (reached_from params state entries) ≤ most_entries
+counted_from params state used [] fit room = room
+counted_from params state used (e ∷ es) fit room =
     let one : (next_state params state e).entries ≡ state.entries + 1 = refl in
-    let here : (next_state params state e).entries + count_open (next_state params state e) ≤ most_entries = omega (arith, fit.0.counted, least, one) in
-    counted_from params (next_state params state e) (used + bytes_of e.call) es follow.1 fit.1 here
+    counted_from params (next_state params state e) (used + bytes_of e.call) es fit.1 (omega (arith, fit.0.counted, one))
 
 pub counted : (beginning : Beginning) (entries : List Entry) → Legal beginning entries → (reached beginning entries).entries + count_open (reached beginning entries) ≤ most_entries
-counted beginning entries legal = counted_from beginning.params beginning.base 0 entries legal.follow legal.within legal.counts
+counted beginning entries legal = counted_from beginning.params beginning.base 0 entries legal.within legal.counts
 
 -- the end of an open round takes what is reserved for it
 pub ending_takes : (state : State) (caller : ℕ) (open_ : Bool) → open_ ≡ has_round state.rounds caller → open_ ≡ true → reserve (cond open_ (record { reply = Ended; state = closed_of state caller }) (leaving state NoRound)).state + 64 ≤ reserve state
@@ -123,11 +154,10 @@ ending_numbered state caller false = refl
 -- in a legal history the end of an open round fits
 pub ending_fits : (beginning : Beginning) (entries : List Entry) (caller moment : ℕ) → Legal beginning entries → has_round (reached beginning entries).rounds caller ≡ true → FitsBehind beginning entries caller moment End
 ending_fits beginning entries caller moment legal opened =
-    record {
-      number = ending_numbered (at_moment moment (reached beginning entries)) caller (has_round (reached beginning entries).rounds caller);
-      within = omega (arith, within beginning entries legal, ending_takes (at_moment moment (reached beginning entries)) caller _ refl opened);
-      counted = omega (arith, counted beginning entries legal, ending_takes (at_moment moment (reached beginning entries)) caller _ refl opened);
-    }
+    let state : State = reached beginning entries in
+    let takes = ending_takes (at_moment moment state) caller _ refl opened in
+    fits_lawful beginning.params state (bytes_of_all entries) caller moment End (ending_numbered (at_moment moment state) caller (has_round state.rounds caller))
+    (omega (arith, within beginning entries legal, takes)) (omega (arith, counted beginning entries legal, takes))
 
 -- the drop of an open fetch takes what is reserved for it
 pub dropping_takes : (state : State) (caller token : ℕ) (open_ : Bool) → open_ ≡ has_fetch state.fetches caller token → open_ ≡ true → reserve (cond open_ (closing token state Dropped) (leaving state NotOpen)).state + 64 ≤ reserve state
@@ -141,8 +171,7 @@ dropping_numbered state token false = refl
 -- in a legal history the drop of an open fetch of its caller fits
 pub dropping_fits : (beginning : Beginning) (entries : List Entry) (caller moment token : ℕ) → Legal beginning entries → has_fetch (reached beginning entries).fetches caller token ≡ true → FitsBehind beginning entries caller moment (Drop token)
 dropping_fits beginning entries caller moment token legal opened =
-    record {
-      number = dropping_numbered (at_moment moment (reached beginning entries)) token (has_fetch (reached beginning entries).fetches caller token);
-      within = omega (arith, within beginning entries legal, dropping_takes (at_moment moment (reached beginning entries)) caller token _ refl opened);
-      counted = omega (arith, counted beginning entries legal, dropping_takes (at_moment moment (reached beginning entries)) caller token _ refl opened);
-    }
+    let state : State = reached beginning entries in
+    let takes = dropping_takes (at_moment moment state) caller token _ refl opened in
+    fits_lawful beginning.params state (bytes_of_all entries) caller moment (Drop token) (dropping_numbered (at_moment moment state) token (has_fetch state.fetches caller token))
+    (omega (arith, within beginning entries legal, takes)) (omega (arith, counted beginning entries legal, takes))

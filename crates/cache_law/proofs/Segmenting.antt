@@ -1,6 +1,6 @@
 -- Where no segments are kept, no history is full as one.
 use Rattle.std.proofs.Common.{◌≡◌, ℕ, Bool, true, false, List, sym, ◌∙◌, refl, subst}
-use Rattle.std.specs.Prelude.{not, ◌&&◌, ◌/◌, nat_le, Result, Err, IsErrOf}
+use Rattle.std.specs.Prelude.{not, ◌&&◌, ◌/◌, nat_le, Err, IsErrOf}
 use Rattle.std.proofs.lemmas.Bool.{false≢true}
 use Rattle.cache_law.specs.declared.call.Call.{Call}
 use Rattle.cache_law.specs.declared.call.Entry.{Entry}

@@ -11,16 +11,16 @@ use Rattle.cache_law.specs.Object.{in_time}
 use Rattle.cache_law.specs.Lookup.{matches, is_fresh}
 use Rattle.cache_law.specs.State.{State, has_round, has_fetch}
 use Rattle.cache_law.specs.Beginning.{Beginning}
-use Rattle.cache_law.specs.History.{Fits, Follows, reached, bytes_of_all}
+use Rattle.cache_law.specs.History.{Fits, Follows, lawful_entry, reached, bytes_of_all}
 
 -- a call's moment: the reading of the clock, or the moment of the newest entry where that is greater
 abbrev pub moment_of : Beginning → List Entry → ℕ → ℕ
 moment_of beginning entries reading = max (reached beginning entries).moment reading
 
--- the call fits behind these entries
+-- the call fits behind these entries, where it is answered as the law says
 abbrev pub FitsBehind : Beginning → List Entry → ℕ → ℕ → Call → Type 0
 FitsBehind beginning entries caller moment call =
-    Fits beginning.params (reached beginning entries) (bytes_of_all entries) caller moment call
+    Fits beginning.params (reached beginning entries) (bytes_of_all entries) (lawful_entry beginning.params (reached beginning entries) caller moment call)
 
 abbrev pub entry_of : ℕ → Call → Told → Entry
 entry_of caller call told = record { caller = caller; moment = told.moment; call = call; reply = told.reply }
@@ -31,7 +31,7 @@ pub record Entered (beginning : Beginning) (old new : List Entry) (caller readin
   pub moment : told.moment ≡ moment_of beginning old reading
   pub place : told.place ≡ length old
   pub follows : Follows beginning.params (reached beginning old) (entry_of caller call told)
-  pub fits : FitsBehind beginning old caller told.moment call
+  pub fits : Fits beginning.params (reached beginning old) (bytes_of_all old) (entry_of caller call told)
 
 -- the calls for which memory is kept: the end of an open round, and the insertion and the drop of an open fetch
 abbrev pub is_kept : State → ℕ → Call → Bool

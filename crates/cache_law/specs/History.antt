@@ -51,14 +51,6 @@ is_numbered reply = true
 abbrev pub most_entries : ℕ
 most_entries = 2 ^ 63
 
--- The call fits a history of this many bytes that reached the state: with its entry, and with what is
--- reserved for the closing of what is open behind the law's reply, neither the limit nor the number of a run's entries is
--- passed; and no VCL is loaded under a number that is too great.
-pub record Fits (params : Params) (state : State) (used caller moment : ℕ) (call : Call) : Type 0 where
-  pub number : is_numbered (step_of params state caller moment call).reply ≡ true
-  pub within : used + bytes_of call + reserve (step_of params state caller moment call).state ≤ params.history
-  pub counted : state.entries + 1 + count_open (step_of params state caller moment call).state ≤ most_entries
-
 -- a lookup comes only where its caller waits for nothing
 abbrev pub HasWaited : State → ℕ → Call → Type 0
 HasWaited state caller (Lookup query) = awaits state caller ≡ None
@@ -72,6 +64,19 @@ pub record Follows (params : Params) (state : State) (entry : Entry) : Type 0 wh
 
 abbrev pub next_state : Params → State → Entry → State
 next_state params state entry = after params state entry.caller entry.moment entry.call entry.reply
+
+-- the call's entry, where it is answered as the law says
+abbrev pub lawful_entry : Params → State → ℕ → ℕ → Call → Entry
+lawful_entry params state caller moment call =
+    record { caller = caller; moment = moment; call = call; reply = (step_of params state caller moment call).reply }
+
+-- The entry fits a history of this many bytes that reached the state: with it, and with what is reserved for the closing of
+-- what is open behind it, neither the limit nor the number of a run's entries is passed; and no VCL is loaded under a number
+-- that is too great. So a refused insertion is judged by what is open behind the refusal.
+pub record Fits (params : Params) (state : State) (used : ℕ) (entry : Entry) : Type 0 where
+  pub number : is_numbered entry.reply ≡ true
+  pub within : used + bytes_of entry.call + reserve (next_state params state entry) ≤ params.history
+  pub counted : state.entries + 1 + count_open (next_state params state entry) ≤ most_entries
 
 -- the state that entries reach from a state
 abbrev pub reached_from : Params → State → List Entry → State
@@ -87,14 +92,14 @@ abbrev pub FollowAll : Params → State → List Entry → Type 0
 FollowAll params state [] = Unit {0}
 FollowAll params state (entry ∷ entries) = Follows params state entry × FollowAll params (next_state params state entry) entries
 
--- the call of each entry fits behind those before it, where so many bytes are taken before the first
+-- each entry fits behind those before it, where so many bytes are taken before the first
 abbrev pub WithinAll : Params → State → ℕ → List Entry → Type 0
 WithinAll params state used [] = Unit {0}
 WithinAll params state used (entry ∷ entries) =
-    Fits params state used entry.caller entry.moment entry.call × WithinAll params (next_state params state entry) (used + bytes_of entry.call) entries
+    Fits params state used entry × WithinAll params (next_state params state entry) (used + bytes_of entry.call) entries
 
 -- What is open at the beginning can be closed within the limit and the number of a run's entries; each entry follows those
--- before it, and its call fits.
+-- before it, and fits.
 pub record Legal (beginning : Beginning) (entries : List Entry) : Type 0 where
   pub opens : reserve beginning.base ≤ beginning.params.history
   pub counts : beginning.base.entries + count_open beginning.base ≤ most_entries

@@ -5,9 +5,11 @@ ghost use Rattle.cache_law.specs.declared.call.Query.{Query as Sought};
 ghost use Rattle.cache_law.specs.declared.object.ObjectView.{ObjectView as View};
 ghost use Rattle.cache_law.specs.declared.call.Call.TheVariants.{Drop as DropCall, End, Lookup};
 ghost use Rattle.cache_law.specs.declared.call.Reply.TheVariants.{Hit, Wait};
+ghost use Rattle.cache_law.specs.declared.setting.Params.{Params as Limits};
 ghost use Rattle.cache_law.specs.Beginning.{Beginning};
-ghost use Rattle.cache_law.specs.State.{Held, has_fetch, has_round, is_closed, is_open};
-ghost use Rattle.cache_law.specs.History.{Legal, reached};
+ghost use Rattle.cache_law.specs.State.{Held, State, at_moment, has_fetch, has_round, is_closed, is_open};
+ghost use Rattle.cache_law.specs.Law.{MayAnswer, step_of};
+ghost use Rattle.cache_law.specs.History.{Fits, Legal, lawful_entry, reached};
 ghost use Rattle.cache_law.specs.Core.{FitsBehind, Serves};
 ghost use Rattle.cache_law.specs.Drawing.{drawn_in};
 ghost use Rattle.cache_law.specs.LookedUp.{IsLookedUp, says_found};
@@ -27,6 +29,14 @@ pub fn dropping_fits()
     ensures { (beginning : Beginning) (entries : List HistoryEntry) (caller moment token : ℕ) →
         Legal beginning entries → has_fetch (reached beginning entries).fetches caller token ≡ true →
         FitsBehind beginning entries caller moment (DropCall token) }
+{}
+
+/// An entry with any reply that its call may have fits where the one with the law's own reply does: a refusal leaves no more open,
+/// and a list of bans opens nothing.
+pub fn any_answer_fits()
+    ensures { (params : Limits) (state : State) (used : ℕ) (entry : HistoryEntry) →
+        MayAnswer (at_moment entry.moment state) entry.call (step_of params state entry.caller entry.moment entry.call).reply entry.reply →
+        Fits params state used (lawful_entry params state entry.caller entry.moment entry.call) → Fits params state used entry }
 {}
 
 /// The next number never falls.

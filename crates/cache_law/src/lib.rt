@@ -37,9 +37,9 @@ pub use bytes::{entry_bytes, object_size};
 pub use cache::{CacheCore, Kept, StepError, Told};
 pub use call::{Call, Entry, Options, Query, Reply, RequestView};
 pub use laws::{
-    answers_are_looked_up, closed_once, closing_fits, dropping_fits, fields_stay_few,
-    hits_are_fresh, numbers_are_drawn_once, numbers_rise, objects_have_own_numbers,
-    open_numbers_are_drawn, waits_are_for_open_fetches,
+    answers_are_looked_up, any_answer_fits, closed_once, closing_fits, dropping_fits,
+    fields_stay_few, hits_are_fresh, numbers_are_drawn_once, numbers_rise,
+    objects_have_own_numbers, open_numbers_are_drawn, waits_are_for_open_fetches,
 };
 pub use matching::{can_confirm, is_chosen_by, is_fresh_for, is_in_grace_for, matches};
 pub use object::{Content, Marker, Object, ObjectView, Response, VaryItem, is_in_time};

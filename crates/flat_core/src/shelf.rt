@@ -87,8 +87,8 @@ impl Shelf for FlatShelf {
         Ok(())
     }
 
-    fn is_gone(&self, moment: u64, stale: Option<u64>) -> bool {
-        is_gone(&self.objects, moment, stale)
+    fn is_gone(&self, _alloc: Global, moment: u64, stale: Option<u64>) -> Result<bool, AllocError> {
+        Ok(is_gone(&self.objects, moment, stale))
     }
 
     fn insert(

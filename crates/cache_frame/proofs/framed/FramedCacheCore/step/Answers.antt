@@ -6,7 +6,8 @@ use Rattle.cache_law.specs.History.{bytes_of, reached}
 use Rattle.cache_frame.specs.Framed.{base_with}
 use Rattle.cache_frame.specs.Shelves.{entry_of}
 use Rattle.cache_frame.proofs.Results.{same_error}
-use Rattle.cache_frame.proofs.Steps.{Made, Done, closing_frees, counted, entered, fits_at, fits_not, issues_left, kept_is_other, kept_too, later, legal_behind, made_stands, room_behind, sound_behind, still_within}
+use Rattle.cache_frame.proofs.Steps.{Made, Done, closing_frees, counted, entered, fits_at, fits_not, issues_left, kept_is_other, kept_too, later, legal_behind, made_stands, room_behind, sound_behind, still_within, tested_if_lost, untested_insertion}
+use Rattle.cache_frame.specs.Asked.{is_untested}
 use Rattle.cache_frame.proofs.framed.FramedCacheCore.step.Goals as goal
 
 pub answer_within-answered-requires-clause-frees : goal.answer_within-answered-requires-clause-frees
@@ -23,6 +24,7 @@ answer_within-answered-requires-clause-frees g c =
       reading = c.args.reading;
       moment = c.max-moment.result;
       call = c.args.call;
+      untested = is_untested c.in-Ok.fitted.asked;
       opens = c.in-Ok.fitted.closings;
       sound = c.self.invariant;
       waited = rw (← c.self.view_is) at c.requires.waited;
@@ -63,6 +65,7 @@ returns-in-Err-answered-clause-kept g c =
       reading = c.args.reading;
       moment = c.max-moment.result;
       call = c.args.call;
+      untested = is_untested c.in-Ok.fitted.asked;
       opens = c.in-Ok.fitted.closings;
       sound = c.self.invariant;
       waited = rw (← c.self.view_is) at c.requires.waited;
@@ -85,13 +88,15 @@ returns-in-Err-answered-clause-wanting g c =
       reading = c.args.reading;
       moment = c.max-moment.result;
       call = c.args.call;
+      untested = is_untested c.in-Ok.fitted.asked;
       opens = c.in-Ok.fitted.closings;
       sound = c.self.invariant;
       waited = rw (← c.self.view_is) at c.requires.waited;
       at_ = search rules;
       fits = c.in-Ok.ensures.fits;
     } in
-    rw (← c.self.view_is) (λ other no_memory. fits_at g.S.Shelf.Stands made)
+    let tested = tested_if_lost g.S.Shelf.Stands made (λ kept. false≢true (c.in-Err-answered.ensures.kept kept)) (untested_insertion g.S.Shelf.Stands g.S.Shelf.IsMarked made.desk made.shelf made.moment made.caller made.call c.in-Ok.fitted.asked c.in-Ok.ensures.found) in
+    rw (← c.self.view_is) (λ other no_memory. fits_at g.S.Shelf.Stands made tested)
 
 pub invariant_of-self : goal.invariant_of-self
 invariant_of-self g c =
@@ -112,14 +117,15 @@ invariant_of-self-2 g c =
       reading = c.args.reading;
       moment = c.max-moment.result;
       call = c.args.call;
+      untested = is_untested c.in-Ok.fitted.asked;
       opens = c.in-Ok.fitted.closings;
       sound = c.self.invariant;
       waited = rw (← c.self.view_is) at c.requires.waited;
       at_ = search rules;
       fits = c.in-Ok.ensures.fits;
     } in
-    let done : Done g.S.Shelf.Stands made = record { new = c.answer_within-answered.new.desk; kept = c.answer_within-answered.new.shelf; answer = c.in-Ok-answered.answer; joined = c.in-Ok-answered.ensures.ok beginning c.self.inside.entries.items refl (made_stands g.S.Shelf.Stands made) (later g.S.Shelf.Stands made) } in
-    let bytes : c.entry_bytes.result ≡ bytes_of c.args.call = omega (arith, made.fits.within) in
+    let done : Done g.S.Shelf.Stands made = record { new = c.answer_within-answered.new.desk; kept = c.answer_within-answered.new.shelf; answer = c.in-Ok-answered.answer; joined = c.in-Ok-answered.ensures.ok beginning c.self.inside.entries.items refl (made_stands g.S.Shelf.Stands made) (later g.S.Shelf.Stands made); refuses = c.in-Ok-answered.ensures.refuses } in
+    let bytes : c.entry_bytes.result ≡ bytes_of c.args.call = omega (arith, made.fits.within.0) in
     let items : c.push_within_room.new.entries.items ≡ c.self.inside.entries.items ++ entry_of c.args.caller c.max-moment.result c.args.call c.in-Ok-answered.answer.kept ∷ [] = search rules in
     let room = room_behind g.S.Shelf.Stands made done _ _ (vec_capacity c.answer_within-answered.new.entries) (vec_capacity c.push_within_room.new.entries) c.in-Ok-answered.ensures.left (ap length c.answer_within-answered.ensures.same) refl c.push_within_room.ensures.room c.answer_within-answered.ensures.larger in
     let counts : c.set_entries.new.self ≡ counted g.S.Shelf.Stands made done = c.set_entries.ensures ∙ ap (λ (n : ℕ). record c.answer_within-answered.new.desk { entries = n + 1 }) c.entries-entries.ensures in
@@ -139,14 +145,15 @@ returns-clause-told g c =
       reading = c.args.reading;
       moment = c.max-moment.result;
       call = c.args.call;
+      untested = is_untested c.in-Ok.fitted.asked;
       opens = c.in-Ok.fitted.closings;
       sound = c.self.invariant;
       waited = rw (← c.self.view_is) at c.requires.waited;
       at_ = search rules;
       fits = c.in-Ok.ensures.fits;
     } in
-    let done : Done g.S.Shelf.Stands made = record { new = c.answer_within-answered.new.desk; kept = c.answer_within-answered.new.shelf; answer = c.in-Ok-answered.answer; joined = c.in-Ok-answered.ensures.ok beginning c.self.inside.entries.items refl (made_stands g.S.Shelf.Stands made) (later g.S.Shelf.Stands made) } in
-    let bytes : c.entry_bytes.result ≡ bytes_of c.args.call = omega (arith, made.fits.within) in
+    let done : Done g.S.Shelf.Stands made = record { new = c.answer_within-answered.new.desk; kept = c.answer_within-answered.new.shelf; answer = c.in-Ok-answered.answer; joined = c.in-Ok-answered.ensures.ok beginning c.self.inside.entries.items refl (made_stands g.S.Shelf.Stands made) (later g.S.Shelf.Stands made); refuses = c.in-Ok-answered.ensures.refuses } in
+    let bytes : c.entry_bytes.result ≡ bytes_of c.args.call = omega (arith, made.fits.within.0) in
     let items : c.push_within_room.new.entries.items ≡ c.self.inside.entries.items ++ entry_of c.args.caller c.max-moment.result c.args.call c.in-Ok-answered.answer.kept ∷ [] = search rules in
     rw (← c.self.view_is, items) (entered g.S.Shelf.Stands made done c.len-place.result (search rules))
 
@@ -164,13 +171,14 @@ returns-clause-legal g c =
       reading = c.args.reading;
       moment = c.max-moment.result;
       call = c.args.call;
+      untested = is_untested c.in-Ok.fitted.asked;
       opens = c.in-Ok.fitted.closings;
       sound = c.self.invariant;
       waited = rw (← c.self.view_is) at c.requires.waited;
       at_ = search rules;
       fits = c.in-Ok.ensures.fits;
     } in
-    let done : Done g.S.Shelf.Stands made = record { new = c.answer_within-answered.new.desk; kept = c.answer_within-answered.new.shelf; answer = c.in-Ok-answered.answer; joined = c.in-Ok-answered.ensures.ok beginning c.self.inside.entries.items refl (made_stands g.S.Shelf.Stands made) (later g.S.Shelf.Stands made) } in
-    let bytes : c.entry_bytes.result ≡ bytes_of c.args.call = omega (arith, made.fits.within) in
+    let done : Done g.S.Shelf.Stands made = record { new = c.answer_within-answered.new.desk; kept = c.answer_within-answered.new.shelf; answer = c.in-Ok-answered.answer; joined = c.in-Ok-answered.ensures.ok beginning c.self.inside.entries.items refl (made_stands g.S.Shelf.Stands made) (later g.S.Shelf.Stands made); refuses = c.in-Ok-answered.ensures.refuses } in
+    let bytes : c.entry_bytes.result ≡ bytes_of c.args.call = omega (arith, made.fits.within.0) in
     let items : c.push_within_room.new.entries.items ≡ c.self.inside.entries.items ++ entry_of c.args.caller c.max-moment.result c.args.call c.in-Ok-answered.answer.kept ∷ [] = search rules in
     rw (← c.self.view_is, items) (legal_behind _ _ _ _ _ _ _ (entered g.S.Shelf.Stands made done _ refl))
