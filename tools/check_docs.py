@@ -1,12 +1,17 @@
 #!/usr/bin/env python3
-"""Holds what README.md, docs/ and bench/PROFILE.md name to the tree. It tells
+"""Holds what README.md, docs/ and bench/PROFILE.md name to the tree.
+
+    tools/check_docs.py [--claims]
+
+It tells
 
   - a file that isn't there: a name between backquotes that ends as a file of this repository does;
   - a name that no source or specification has: of ARCHITECTURE, CAUSES, DECISIONS and PROFILE and of README's table, each name of a
     function, type or definition between backquotes;
   - a name that isn't in the file or the crate that stands with it, as `NAME` in `PATH`, `NAME` (`PATH`) or `NAME` of `CRATE`;
   - a row that isn't in the crate of tests that stands before it, and a clause of CAUSES that its function or trait doesn't have;
-  - a crate that ARCHITECTURE doesn't have, or has twice.
+  - a crate that ARCHITECTURE doesn't have, or has twice;
+  - with --claims, a clause of README's table that none of the row's crates has.
 
 Prints a line for each; status 1 where there is one.
 """
@@ -146,6 +151,17 @@ def clauses(tree, page, cells):
                     yield f"{page}: {known} has no clause {clause.strip()} ({part})"
 
 
+def claims(tree, text):
+    """README's rows of a claim, its clauses, its crates and what is only tested."""
+    for line in text.splitlines():
+        cells = [cell.strip() for cell in re.split(r"(?<!\\)\|", line)[1:-1]]
+        crates = CODE.findall(cells[2]) if len(cells) == 4 else []
+        if crates and tree.crates.issuperset(crates):
+            for name in WORD.findall(" ".join(CODE.findall(cells[1]))):
+                if not any(name in tree.words[crate] for crate in crates):
+                    yield f"README.md: {' and '.join(crates)} have no {name}"
+
+
 def layers(tree, text):
     listing = " ".join(re.findall(r"^```$(.*?)^```$", text, re.S | re.M)[:1])
     table = re.findall(r"^\| `(\w+)` \|", text.partition("| Crate of tests |")[2], re.M)
@@ -172,6 +188,8 @@ def main():
                 wrong += clauses(tree, page, cells) if page == "CAUSES.md" else []
         if page == "ARCHITECTURE.md":
             wrong += layers(tree, text)
+        if page == "README.md" and sys.argv[1:] == ["--claims"]:
+            wrong += claims(tree, text)
     for line in dict.fromkeys(wrong):
         print(line)
     return 1 if wrong else 0
