@@ -439,7 +439,11 @@ if env --block-signal=TERM true 2> /dev/null; then
   listens_at "$term_port" $term
   rude press "$term_port" &
   press=$!
-  sleep 1
+  for _ in {1..400}; do
+    grep --quiet asking "$work/press" && break
+    sleep 0.05
+  done
+  sleep 0.5
   kill -TERM $term
   check "a run that blocks SIGTERM ends in order by it" stopped $term "$work/term_out" "$work/term_errors"
   check "no answer breaks off meanwhile" bears press $press
