@@ -1,5 +1,5 @@
 #!/usr/bin/env python3
-"""Holds what README.md, docs/ and bench/PROFILE.md name to the tree.
+"""Holds what README.md, docs/, bench/PROFILE.md and the crates' README.md name to the tree.
 
     tools/check_docs.py [--claims]
 
@@ -7,7 +7,7 @@ It tells
 
   - a file that isn't there: a name between backquotes that ends as a file of this repository does;
   - a name that no source or specification has: of ARCHITECTURE, CAUSES, DECISIONS and PROFILE and of README's table, each name of a
-    function, type or definition between backquotes;
+    function, type or definition between backquotes, and of a crate's README each that has `_` or `::`;
   - a name that isn't in the file or the crate that stands with it, as `NAME` in `PATH`, `NAME` (`PATH`) or `NAME` of `CRATE`;
   - a row that isn't in the crate of tests that stands before it, and a clause of CAUSES that its function or trait doesn't have;
   - a crate that ARCHITECTURE doesn't have, or has twice;
@@ -34,10 +34,12 @@ def read(path):
     return path.read_text(encoding="utf-8", errors="replace")
 
 
-def git_files():
+def files_of_tree():
     """The names of the files that aren't left out of the repository."""
-    words = ["git", "ls-files", "--cached", "--others", "--exclude-standard"]
-    return subprocess.run(words, cwd=ROOT, stdout=subprocess.PIPE, text=True, check=True).stdout.splitlines()
+    if (ROOT / ".git").exists():
+        words = ["git", "ls-files", "--cached", "--others", "--exclude-standard"]
+        return subprocess.run(words, cwd=ROOT, stdout=subprocess.PIPE, text=True, check=True).stdout.splitlines()
+    return [path.relative_to(ROOT).as_posix() for path in ROOT.rglob("*") if path.is_file() and "out" not in path.parts]
 
 
 class Tree:
@@ -45,7 +47,7 @@ class Tree:
 
     def __init__(self):
         self.files = {}
-        for name in git_files():
+        for name in files_of_tree():
             for at, byte in enumerate("/" + name):
                 if byte == "/":
                     self.files.setdefault(name[at:], []).append(name)
@@ -190,6 +192,9 @@ def main():
             wrong += layers(tree, text)
         if page == "README.md" and sys.argv[1:] == ["--claims"]:
             wrong += claims(tree, text)
+    for path in sorted((ROOT / "crates").glob("*/README.md")):
+        text, page = read(path), path.relative_to(ROOT).as_posix()
+        wrong += [*paths(tree, page, text), *names(tree, page, " ".join(it for it in re.findall(r"`[^`\n]+`", text) if "_" in it or "::" in it))]
     for line in dict.fromkeys(wrong):
         print(line)
     return 1 if wrong else 0
