@@ -283,7 +283,7 @@ fn is_closing(call: &Call) -> bool
 }
 
 /// How a call is answered, as far as it decides whether its entry fits.
-#[derive(Clone, Copy, Debug)]
+#[derive(Clone, Copy)]
 pub enum Answering {
     /// As the law says, or by one of several lists of bans.
     ByLaw,
@@ -359,7 +359,9 @@ fn fits_by_law<S: Shelf>(
     }
     let open = open_after(desk, shelf, caller, moment, call, &asked);
     drop(asked);
-    Ok(desk.is_numbered(call) && is_within(params.history, used, desk.entries(), call, open))
+    let numbered = desk.is_numbered(call);
+    let within = is_within(params.history, used, desk.entries(), call, open);
+    Ok(numbered && within)
 }
 
 /// Answers the call, which asked so, where there is room for its entry and for those that will close what is open behind
