@@ -2,3 +2,4 @@ pub mod Joined
 pub mod Sayings
 pub mod Checks
 pub mod Ones
+pub mod Crossing

@@ -208,16 +208,27 @@ waits_case : (own : List Issued) (verdict : Verdict) (p : Placed) (b : Bool) →
 waits_case own verdict p true below e = any_more (is_above verdict.upto) (is_above p.mark) (above_later p.mark verdict.upto (below refl)) own e
 waits_case own verdict p false below e = e
 
-pub no_more_wait : (lazy : Lazy) (beginning : Beginning) (entries : List Entry) (verdict : Verdict) → IsVerdictOf beginning entries verdict → count_unswept (judged_lazy verdict lazy) ≤ count_unswept lazy
-no_more_wait lazy beginning entries verdict is =
+dead_goes : (asked dead : Bool) → not (asked && dead) ≡ true → asked ≡ true → dead ≡ false
+dead_goes true true stays e = absurd (false≢true stays)
+dead_goes true false stays e = refl
+dead_goes false dead stays e = absurd (false≢true e)
+
+pub no_more_by : (lazy : Lazy) (verdict : Verdict) → (verdict.dead ≡ false → verdict.mark ≤ verdict.upto) → count_unswept (judged_lazy verdict lazy) ≤ count_unswept lazy
+no_more_by lazy verdict later =
     let own : List Issued = kept_bans lazy in
     let waits : Placed → Bool = is_unswept own in
     let stays : Placed → Bool = λ (p : Placed). not (is_asked verdict p && verdict.dead) in
-    let before = mark_below verdict.mark verdict.upto (reached beginning entries).bans is.some in
     let left : length (filter waits (map (judging verdict) (filter stays lazy.objects))) ≡ length (filter (λ (p : Placed). stays p && waits (judging verdict p)) lazy.objects) =
     ap length (filter_of_map waits (judging verdict) (filter stays lazy.objects))
     ∙ length_of_map (judging verdict) (filter (λ p. waits (judging verdict p)) (filter stays lazy.objects))
     ∙ ap length (filter_both (λ p. waits (judging verdict p)) stays lazy.objects) in
     let more = count_more (λ (p : Placed). stays p && waits (judging verdict p)) waits
-    (λ p e. waits_case own verdict p (is_asked verdict p) (later_mark verdict p (omega (arith, before))) (and_parts (stays p) (waits (judging verdict p)) e).1) lazy.objects in
+    (λ p e.
+        let both = and_parts (stays p) (waits (judging verdict p)) e in
+        waits_case own verdict p (is_asked verdict p) (λ asked. later_mark verdict p (later (dead_goes (is_asked verdict p) verdict.dead both.0 asked)) asked) both.1) lazy.objects in
     omega (arith, left, more)
+
+pub no_more_wait : (lazy : Lazy) (beginning : Beginning) (entries : List Entry) (verdict : Verdict) → IsVerdictOf beginning entries verdict → count_unswept (judged_lazy verdict lazy) ≤ count_unswept lazy
+no_more_wait lazy beginning entries verdict is =
+    let before = mark_below verdict.mark verdict.upto (reached beginning entries).bans is.some in
+    no_more_by lazy verdict (λ alive. omega (arith, before))

@@ -72,7 +72,7 @@ wait_case : (unswept : Placed → Bool) (issued : ℕ) (p : Placed) (b dead : Bo
 wait_case unswept issued p true dead e = ap (λ (x : Bool). not dead && x) e ∙ and_none (not dead) ∙ sym (and_none (unswept p))
 wait_case unswept issued p false dead e = and_all (unswept p)
 
-none_waits : (lazy : Lazy) (bans : List Issued) (p : Placed) → IsKept lazy bans → is_unswept (kept_bans lazy) (marked_at lazy.issued p) ≡ false
+pub none_waits : (lazy : Lazy) (bans : List Issued) (p : Placed) → IsKept lazy bans → is_unswept (kept_bans lazy) (marked_at lazy.issued p) ≡ false
 none_waits lazy bans p kept =
     any_none (is_above lazy.issued) (kept_bans lazy)
     (all-weaken (λ (i : Issued). i.number ≤ lazy.issued) (λ i. is_above lazy.issued i ≡ false) (λ i here. not_above lazy.issued i here) (kept_bans lazy) (kept_up_to lazy bans kept))

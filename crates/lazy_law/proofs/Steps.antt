@@ -124,7 +124,7 @@ place_same moment own bans issued None objects all = refl
 place_same moment own bans issued (Some stale) objects all =
     ap (λ (alive : List Placed). option_map_or (λ (p : Placed). p.place) (find (has_number stale) alive) issued) (same_alive moment own bans objects all)
 
-gone_same : (moment : ℕ) (own bans : List Issued) (stale : Option ℕ) (objects : List Placed) → AllByRecursion (Agrees own bans) objects → is_gone_late moment own stale objects ≡ is_gone_late moment bans stale objects
+pub gone_same : (moment : ℕ) (own bans : List Issued) (stale : Option ℕ) (objects : List Placed) → AllByRecursion (Agrees own bans) objects → is_gone_late moment own stale objects ≡ is_gone_late moment bans stale objects
 gone_same moment own bans None objects all = refl
 gone_same moment own bans (Some stale) objects all = ap (λ (alive : List Placed). not (list_any (has_number stale) alive)) (same_alive moment own bans objects all)
 
