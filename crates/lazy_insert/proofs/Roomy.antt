@@ -50,7 +50,7 @@ and_implied true d on = refl
 and_implied false true on = absurd (false≢true (on refl))
 and_implied false false on = refl
 
-dead_waits : (bans : List Issued) (p : Placed) → is_dead bans p ≡ true → is_unswept bans p ≡ true
+pub dead_waits : (bans : List Issued) (p : Placed) → is_dead bans p ≡ true → is_unswept bans p ≡ true
 dead_waits bans p dead =
     any_more (λ (i : Issued). is_above p.mark i && matches p.view.object i) (is_above p.mark) (λ i both. (and_parts (is_above p.mark i) (matches p.view.object i) both).0) bans
     (sym (any_of_filter (matches p.view.object) (is_above p.mark) bans) ∙ dead)
@@ -140,7 +140,7 @@ module _ (P : Placed → Type 0) (marks : (issued : ℕ) (p : Placed) → P p �
   mark_case true issued p here = marks issued p here
   mark_case false issued p here = here
 
-  each_keeps : (numbers : List ℕ) (lazy : Lazy) → AllByRecursion P lazy.objects → AllByRecursion P (swept_each numbers lazy).objects
+  pub each_keeps : (numbers : List ℕ) (lazy : Lazy) → AllByRecursion P lazy.objects → AllByRecursion P (swept_each numbers lazy).objects
   each_keeps [] lazy all = all
   each_keeps (number ∷ numbers) lazy all =
       let before : Lazy = swept_each numbers lazy in

@@ -43,7 +43,7 @@ timely_at beginning entries lazy at =
       unborn = at.unborn;
     }
 
-each_at : (beginning : Beginning) (entries : List Entry) (numbers : List ℕ) (lazy : Lazy) → StandsAt lazy beginning entries → StandsAt (swept_each numbers lazy) beginning entries
+pub each_at : (beginning : Beginning) (entries : List Entry) (numbers : List ℕ) (lazy : Lazy) → StandsAt lazy beginning entries → StandsAt (swept_each numbers lazy) beginning entries
 each_at beginning entries [] lazy at = at
 each_at beginning entries (number ∷ numbers) lazy at = swept_at (swept_each numbers lazy) beginning entries (has_number number) (each_at beginning entries numbers lazy at)
 

@@ -46,7 +46,7 @@ length_none : (lines : List BanLine) → length (no_counts lines) ≡ length lin
 length_none [] = refl
 length_none (line ∷ lines) = ap suc (length_none lines) ∙ omega arith
 
-length_of : (lines : List BanLine) (numbers : List ℕ) → length (counts_of lines numbers) ≡ length lines + 1
+pub length_of : (lines : List BanLine) (numbers : List ℕ) → length (counts_of lines numbers) ≡ length lines + 1
 length_of lines [] = length_none lines
 length_of lines (number ∷ numbers) = length_more (newer number lines) (counts_of lines numbers) ∙ length_of lines numbers
 
@@ -59,7 +59,7 @@ none_below k lines (n ∷ numbers) none =
 
 -- ---- a line behind those that are newer
 
-newer_case : (n : ℕ) (line : BanLine) (lines : List BanLine) (b : Bool) → is_newer n line ≡ b → newer n (line ∷ lines) ≡ cond b (suc (newer n lines)) (newer n lines)
+pub newer_case : (n : ℕ) (line : BanLine) (lines : List BanLine) (b : Bool) → is_newer n line ≡ b → newer n (line ∷ lines) ≡ cond b (suc (newer n lines)) (newer n lines)
 newer_case n line lines true e = rw e refl
 newer_case n line lines false e = rw e refl
 
@@ -225,7 +225,7 @@ some_step : (b : Bool) (p : Placed) (objects : List Placed) (test : Placed → B
 some_step true p objects test e rest some = refl
 some_step false p objects test e rest some = rest some
 
-some_waits : (objects : List Placed) (test : Placed → Bool) → 0 < length (filter test objects) → list_any test objects ≡ true
+pub some_waits : (objects : List Placed) (test : Placed → Bool) → 0 < length (filter test objects) → list_any test objects ≡ true
 some_waits [] test some = absurd (omega (arith, some))
 some_waits (p ∷ objects) test some = some_step (test p) p objects test refl (some_waits objects test) some
 

@@ -22,3 +22,4 @@ pub mod Plans
 pub mod Puttings
 pub mod Tidyings
 pub mod Displacing
+pub mod Needed

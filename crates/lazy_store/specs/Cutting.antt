@@ -1,6 +1,6 @@
--- A cut of the oldest lines.
+-- Lines that no object needs go.
 use Rattle.std.specs.Prelude.{◌≡◌, ℕ}
-use Rattle.lazy_law.specs.Banning.{MayBeCut, cut_to}
+use Rattle.lazy_law.specs.Banning.{MayBeCut, cut_to, needed_lines}
 use Rattle.lazy_law.specs.Placed.{Lazy}
 
 -- the oldest lines are gone, of which no object needs one
@@ -8,3 +8,7 @@ pub record AreCut (old new : Lazy) : Type 0 where
   pub left : ℕ
   pub may : MayBeCut left old
   pub is : new ≡ cut_to left old
+
+-- the lines are left that objects need
+abbrev pub with_needed : Lazy → Lazy
+with_needed lazy = record lazy { lines = needed_lines lazy.objects lazy.lines }

@@ -13,7 +13,7 @@ ghost use Rattle.lazy_law.specs.Stands.{IsWithin as TestedUpTo};
 ghost use Rattle.lazy_law.specs.Sweeping.{count_unswept, judged_lazy, swept_lazy};
 ghost use Rattle.lazy_store.specs.Changes.{moved, without};
 ghost use Rattle.lazy_store.specs.Chores.{IsChoreIn};
-ghost use Rattle.lazy_store.specs.Cutting.{AreCut};
+ghost use Rattle.lazy_store.specs.Cutting.{AreCut, with_needed};
 ghost use Rattle.lazy_store.specs.Displaced.{AreDisplaced, with_first};
 ghost use Rattle.lazy_store.specs.Lurking.{AreSwept, is_waiting_as};
 ghost use Rattle.lazy_store.specs.Members.{number_in, placed_in};
@@ -497,11 +497,21 @@ impl Store {
 
     /// Takes out the oldest lines, as far as no object waits for them. It takes no memory.
     pub fn cut(&mut self)
-        ensures { AreCut self.old self.new }
+        ensures cut { AreCut self.old self.new }
+        ensures waiting { count_unswept self.new ≡ count_unswept self.old }
     {
         // that the numbers fall along the lines
         let _issued = self.bans.issued();
         self.bans.cut();
+    }
+
+    /// Takes out each line that no object waits for, wherever it stands. It goes over all lines, and takes no memory.
+    pub fn keep_needed(&mut self)
+        ensures { self.new ≡ with_needed self.old }
+    {
+        // that the numbers fall along the lines
+        let _issued = self.bans.issued();
+        self.bans.keep_needed();
     }
 
     // The place of the object that the verdict is on, where that is as the verdict has it and waits for the lurker.
