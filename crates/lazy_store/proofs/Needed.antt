@@ -161,8 +161,8 @@ left_as test (line ∷ lines) placed marked same =
     left_step (is_wanted line (below 0 placed) (below 0 marked)) (test line) line (lines_left (are_needed lines (drop 1 placed) (drop 1 marked)) lines) (filter test lines) (same zero line refl)
     (left_as test lines (drop 1 placed) (drop 1 marked)
     (λ at l is.
-        ap (λ (n : ℕ). is_wanted l n (below at (drop 1 marked))) (below_again at placed)
-        ∙ ap (is_wanted l (below (suc at) placed)) (below_again at marked) ∙ same (suc at) l is))
+    ap (λ (n : ℕ). is_wanted l n (below at (drop 1 marked))) (below_again at placed)
+    ∙ ap (is_wanted l (below (suc at) placed)) (below_again at marked) ∙ same (suc at) l is))
 
 pub needed_left : (bound : ℕ) (members : List Member) (own : Bans) → AreFalling bound own.lines → AreAt own (map stand_of members) → (only_needed own).lines ≡ needed_lines (map placed_of members) own.lines
 needed_left bound members own falling stands =
@@ -213,7 +213,7 @@ wait_left : (objects : List Placed) (lines : List BanLine) → AllByRecursion (W
 wait_left objects lines =
     all_weaken (FindsIt is_awaited_by objects) (WaitsAsBefore objects lines)
     (λ p finds mark less. above_left (is_needed objects) mark lines (λ line open_ above.
-        and_from (not line.completed) (list_any (is_awaited_by line.issued) objects) (done_not line open_) (finds line.issued (awaited_by mark line.issued p less above))))
+    and_from (not line.completed) (list_any (is_awaited_by line.issued) objects) (done_not line open_) (finds line.issued (awaited_by mark line.issued p less above))))
     objects (each_found is_awaited_by objects)
 
 -- ---- the containers
@@ -235,8 +235,8 @@ alone_by newest unswept members own left are waiting those (inl some) =
     let as_before : WaitsAsBefore objects own.lines t.one =
     all_here (WaitsAsBefore objects own.lines) t.found_.split.before t.one t.found_.split.behind (subst (AllByRecursion (WaitsAsBefore objects own.lines)) t.found_.split.is (wait_left objects own.lines)) in
     inr (λ mark.
-        ap (λ (lines : List BanLine). list_any (is_above mark) (those_open lines)) are
-        ∙ alone_at newest mark t.one own.lines (needed_lines objects own.lines) as_before (ltb-true t.one.mark newest (sym (those t.one.mark) ∙ t.found_.passes)) those (cases_lt mark t.one.mark))
+    ap (λ (lines : List BanLine). list_any (is_above mark) (those_open lines)) are
+    ∙ alone_at newest mark t.one own.lines (needed_lines objects own.lines) as_before (ltb-true t.one.mark newest (sym (those t.one.mark) ∙ t.found_.passes)) those (cases_lt mark t.one.mark))
 
 alone_left : (newest unswept : ℕ) (members : List Member) (own left : Bans) → left.lines ≡ needed_lines (map placed_of members) own.lines → unswept ≡ count_unswept (lazy_of members own)
     → IsNewestAlone own unswept newest → IsNewestAlone left unswept newest
@@ -262,7 +262,7 @@ tied_left bound members tagged room own newest unswept falling tied =
           ∙ ap length (filter_on (is_unswept (those_open own.lines)) (is_unswept (those_open (only_needed own).lines)) objects
           (all_weaken (WaitsAsBefore objects own.lines) (λ (p : Placed). is_unswept (those_open own.lines) p ≡ is_unswept (those_open (only_needed own).lines) p)
           (λ p as_before.
-              sym (ap (λ (lines : List BanLine). list_any (is_above p.mark) (those_open lines)) are ∙ as_before p.mark (omega arith)))
+          sym (ap (λ (lines : List BanLine). list_any (is_above p.mark) (those_open lines)) are ∙ as_before p.mark (omega arith)))
           objects (wait_left objects own.lines)));
       alone = alone_left newest unswept members own (only_needed own) are tied.waiting tied.alone;
     }

@@ -1,0 +1,9 @@
+pub mod Uses
+pub mod Standing
+pub mod Placings
+pub mod Lookups
+pub mod Lurks
+pub mod Cuts
+pub mod Shelved
+pub mod IndexMaps
+pub mod Crossing
