@@ -1,12 +1,13 @@
 #!/usr/bin/env bash
-# What clients that hold connections take from others: 8 clients ask for hits for some seconds, alone and beside each crowd, from a
-# `varn serve` of four workers. The crowds are clients that are idle behind one answer, as many as IDLE says (10,000 where the
-# system lets a process have so many descriptors); 64 that send a byte of a request each second; 64 that take 8 MiB at 10,000 bytes
-# a second; 16 that send a body of 1 MiB at 20,000 bytes a second; 16 that ask each second for a page of a backend that takes
-# connections and says nothing; and all of these together. A line has the hits of the 8 as a ratio to those alone, with both rates,
-# how long 99 of 100 took at most, and the server's memory. Run it at the top of the repository. The program is built and proved
-# first where it isn't there yet; PROGRAM names another build of it, IDLE another number of idle clients, SECONDS_EACH how long is
-# measured, LARGE_BYTES how long the large pages are.
+# What clients that hold connections take from others: 8 clients ask for hits for some seconds, alone and beside each crowd,
+# from a `varn serve` of four workers. The crowds are clients that are idle behind one answer, as many as IDLE says (10,000
+# where the system lets a process have so many descriptors); 64 that send a byte of a request each second; 64 that take 8 MiB at
+# 10,000 bytes a second; 16 that send a body of 1 MiB at 20,000 bytes a second; 16 that ask each second for a page of a backend
+# that takes connections and says nothing; and all of these together. A line has the hits of the 8 as a ratio to those alone,
+# before the crowd came and behind it, with these rates, how long 99 of 100 took at most beside it, and the server's memory
+# then. Run it at the top of the repository. The program is built and proved first where it isn't there yet; PROGRAM names
+# another build of it, IDLE another number of idle clients, SECONDS_EACH how long is measured, LARGE_BYTES how long the large
+# pages are.
 # shellcheck source=bench/prepare.sh
 . "$(dirname "$0")/prepare.sh"
 prepare varn
@@ -118,6 +119,9 @@ def take():
     links = [connect(4096) for _ in range(64)]
     for link in links:
         link.sendall(b'GET /large HTTP/1.1\r\nHost: h\r\n\r\n')
+    # Each response was made, and waits for its client.
+    for link in links:
+        link.recv(1)
     return each_second(links, lambda link: link.recv(10_000))
 
 def upload():
@@ -214,16 +218,21 @@ class Server:
 
 def beside(name, makers):
     with Server() as server:
-        alone, _ = hits()
+        before, _ = hits()
         crowds = []
         try:
             crowds = [Crowd(make) for make in makers]
             rate, slowest = hits()
+            memory = server.memory()
         finally:
             for crowd in crowds:
                 crowd.end()
-        print('beside %-22s %5.2f times alone   (%.0f of %.0f a second; 99 of 100 in %.1f ms; %.0f MiB)'
-              % (name, rate / alone, rate, alone, 1000 * slowest, server.memory()), flush=True)
+        # The server sees the ends of the crowds first.
+        time.sleep(1)
+        behind, _ = hits()
+        alone = (before + behind) / 2
+        print('beside %-22s %5.2f times alone   (%.0f of %.0f and %.0f a second; 99 of 100 in %.1f ms; %.0f MiB)'
+              % (name, rate / alone, rate, before, behind, 1000 * slowest, memory), flush=True)
 
 try:
     for name, make in CROWDS.items():

@@ -95,7 +95,7 @@ class Server:
 def varn(workers=16):
     most = str(1 << 30)
     return Server('varn', lambda port: [program, 'serve', '--listen', str(port), '--vcl', VCL, '--workers', str(workers),
-                                        '--conns', '1000000', '--room', most, '--history', most])
+                                        '--room', most, '--history', most])
 
 places = itertools.count()
 def varnish():
@@ -144,16 +144,20 @@ def by_python(port, connections, prefix, count):
         os.waitpid(child, 0)
     return done / (time.perf_counter() - began), done
 
-def by_wrk(port, connections, prefix, count):
+def by_wrk(port, connections, prefix, pages):
     script = '%s/paths.lua' % work
     with open(script, 'w') as out:
         out.write('local turn = -1\nfunction request()\n  turn = turn + 1\n'
-                  '  return wrk.format("GET", string.format("%s%%d", 7919 * turn %% %d), {Host = "h"})\nend\n' % (prefix, count))
+                  '  return wrk.format("GET", string.format("%s%%d", 7919 * turn %% %d), {Host = "h"})\nend\n' % (prefix, pages))
     done = subprocess.run([WRK, '-t1', '-c%d' % connections, '-d%ds' % SECONDS, '-s', script, 'http://127.0.0.1:%d' % port],
                           stdout=subprocess.PIPE, check=True, text=True).stdout
-    if 'Non-2xx' in done or 'Socket errors' in done:
+    count = int(re.search(r'(\d+) requests in', done).group(1))
+    errors = re.search(r'connect (\d+), read (\d+), write (\d+), timeout (\d+)', done)
+    connect, read, write, late = map(int, errors.groups()) if errors else (0, 0, 0, 0)
+    # varn ends a connection behind 10,000 requests; wrk then makes another one.
+    if 'Non-2xx' in done or connect or write or late or read > count // 10_000:
         sys.exit('wrk: ' + done)
-    return float(re.search(r'Requests/sec:\s+([\d.]+)', done).group(1)), int(re.search(r'(\d+) requests in', done).group(1))
+    return float(re.search(r'Requests/sec:\s+([\d.]+)', done).group(1)), count
 
 tags = itertools.count()
 def load(server, connections, count):

@@ -53,7 +53,7 @@ until backend_port=$(grep -oE '[0-9]{4,}' "$work/said" | head -1) && [ -n "$back
   kill -0 "${started[0]}" || { echo "serve: the backend doesn't start" >&2; exit 1; }
   sleep 0.1
 done
-sed "s/\"808[0-9]\"/\"$backend_port\"/" "$vcl" > "$work/site.vcl"
+sed "s/\([\":]\)808[0-9]\"/\1$backend_port\"/" "$vcl" > "$work/site.vcl"
 
 "$program" serve --listen "$port" --vcl "$work/site.vcl" --workers 16 --conns 1000 &
 started+=($!)

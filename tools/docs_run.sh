@@ -29,6 +29,8 @@ ln -s "$program" "$work/here/out/try/varn"
 cp examples/vcl/grace.vcl "$work/here/site.vcl"
 cp examples/sessions/grace.session "$work/here/site.session"
 cp examples/sessions/grace.transcript "$work/here/site.transcript"
+# A log of the line that OPERATING.md shows.
+sed -n 's/^    \(192\.0\.2\.7 - - .*\)$/\1/p' docs/OPERATING.md > "$work/here/site.log"
 export PATH=$work/bin:$PATH PROGRAM=$program
 
 failed=0
@@ -85,8 +87,10 @@ while read -r command; do
     .ci/run* | rt* | bench/* | tools/beside_varnish.py | tools/fail_alloc.sh | tools/session_limit.sh | tools/smoke.sh | \
       tools/try_edits.sh*)
       tell - "$command (not run: it takes long)" ;;
-    'varn serve' | 'varn replay' | *[[\ ][A-Z]\ * | *SESSION*) tell - "$command (not run: a form)" ;;
+    'varn serve' | 'varn load' | 'varn replay' | *[[\ ][A-Z]\ * | *SESSION*) tell - "$command (not run: a form)" ;;
     examples/serve.sh*) serves "$command" ;;
+    contrib/varnadm\ *) tell - "$command (not run: no server has a console here; tools/varnadm_test.py tries it)" ;;
+    'tools/varn_top.py LOG') runs 0 "tools/varn_top.py --once site.log | grep -q '^ *1 *0  /a$'" ;;
     'tools/port_vcl.py FILE') runs 1 "${command/FILE/examples/port/blog.vcl}" ;;
     varn* | out/try/varn* | contrib/check-vcl\ * | tools/examples.py\ *) runs 0 "$command" ;;
     contrib/* | examples/* | tools/*)
@@ -98,9 +102,17 @@ while read -r command; do
   esac
 done < <(commands | sort -u)
 
-# What the pages say of these files.
+# What the pages say of these files. The VCL of probes has an attribute without an effect so far, which the tool tells.
 runs 0 'contrib/check-vcl examples/vcl/*.vcl examples/port/*.varn.vcl contrib/*.vcl'
-runs 0 'tools/port_vcl.py examples/vcl/*.vcl examples/port/*.varn.vcl contrib/*.vcl'
+# shellcheck disable=SC2016
+runs 0 'tools/port_vcl.py $(ls examples/vcl/*.vcl | grep -v probes) examples/port/*.varn.vcl contrib/*.vcl'
+runs 0 'tools/port_vcl.py --places examples/vcl/probes.vcl | grep -c . | grep -qx 1'
 runs 0 'cd examples/port && ../../tools/port_vcl.py --places *.vcl | cmp - places'
 runs 0 'tools/examples.py'
+case $program in
+  */out/try/varn) tell - 'tools/vcl_tables.py (not run: it takes this slow program long)' ;;
+  *) runs 0 'tools/vcl_tables.py' ;;
+esac
+runs 0 'tools/varnadm_test.py'
+runs 0 'tools/varn_top_test.py'
 [ "$failed" = 0 ]

@@ -1,16 +1,18 @@
 #!/usr/bin/env python3
-"""Compares two builds of varn on random VCL texts and random sessions.
+"""Compares two builds of varn, as before a change and after it, on random VCL texts and random sessions.
 
-    tools/random_vcl.py text SEED                        prints one text
-    tools/random_vcl.py texts OLD NEW [COUNT [SEED]]     the console of both programs is given COUNT texts (20000)
-    tools/random_vcl.py sessions OLD NEW [COUNT [SEED]]  both programs replay COUNT sessions (5000)
+    tools/random_vcl.py --before PROGRAM --after PROGRAM [--texts N] [--sessions M] [--seed S]
+    tools/random_vcl.py --print [--seed S]     prints one text
 
-OLD and NEW are programs `varn`. A text is drawn from the grammar of docs/VCL.md, with names that are mostly declared and
-values that mostly fit; in each second one a token is changed, left out or put twice. Both programs must answer the same
-kinds at the same places. A session loads a text that OLD accepts, sends requests and answers each fetch that OLD waits
-for; both transcripts and both statuses must be the same. The same seed gives the same texts and, with the same OLD, the
-same sessions. Prints each difference and counts, and ends with 1 where there was a difference.
+A text is drawn from the grammar of docs/VCL.md, with names that are mostly declared and values that mostly fit; in each
+second one a token is changed, left out or put twice. Both programs must answer the same kinds at the same places. A
+session loads a text that the program before accepts, sends requests and answers each fetch that this program waits for;
+both transcripts and both statuses must be the same. The same seed gives the same texts and, with the same program before,
+the same sessions; without one it is 1. N and M are 1000 and 100 where neither is said, and 0 where only the other is.
+Prints each difference and counts, and ends with 1 where there was a difference, and with 2 where a program can't be run.
 """
+import argparse
+import collections
 import random
 import re
 import subprocess
@@ -171,21 +173,28 @@ def played(program, session):
 
 
 def answers(program, texts):
+    """What the console answers to each text."""
     lines = [f"cli vcl.inline t{n} {quoted(text)}\ncli vcl.discard t{n}\n" for n, text in enumerate(texts)]
-    return played(program, "at 0\n" + "".join(lines) + "end\n")[0].split("\n")[0::2]
+    transcript, status, note = played(program, "at 0\n" + "".join(lines) + "end\n")
+    said = transcript.splitlines()[0::2]
+    if status != 0 or len(said) != len(texts):
+        raise OSError(f"{program} ended with {status}, behind {len(said)} of {len(texts)} answers: {note.strip()}")
+    return said
 
 
 def compare_texts(old, new, count, seed):
-    draw, wrong, accepted = random.Random(seed), 0, 0
+    draw, wrong, accepted, kinds = random.Random(seed), 0, 0, collections.Counter()
     for first in range(0, count, 20):
         texts = [text_of(draw, n % 2 == 1) for n in range(first, min(first + 20, count))]
         before, after = answers(old, texts), answers(new, texts)
         for text, a, b in zip(texts, before, after):
             accepted += a.startswith('cli "200')
+            kinds.update(int(kind) for kind in re.findall(r"VCL refused: (\d+)", a))
             if a != b:
                 wrong += 1
                 print(f"{text}\n  before: {a}\n  after:  {b}")
-    print(f"{count} texts, {accepted} accepted, {wrong} answered otherwise")
+    told = ", ".join(f"{count} of kind {kind}" for kind, count in sorted(kinds.items()))
+    print(f"{count} texts, {accepted} accepted, {told}; {wrong} answered otherwise")
     return wrong
 
 
@@ -219,16 +228,36 @@ def compare_sessions(old, new, count, seed):
     return wrong
 
 
-def main(words):
-    if words[:1] == ["text"] and len(words) == 2:
-        print(text_of(random.Random(int(words[1])), False))
-    elif words[:1] in (["texts"], ["sessions"]) and 3 <= len(words) <= 5:
-        count, seed = (int(word) for word in (words[3:] + ["20000" if words[0] == "texts" else "5000", "1"][len(words) - 3:]))
-        compare = compare_texts if words[0] == "texts" else compare_sessions
-        sys.exit(1 if compare(words[1], words[2], count, seed) else 0)
-    else:
-        sys.exit(__doc__)
+def count_of(text):
+    if not text.isdigit():
+        raise argparse.ArgumentTypeError(f"{text} is no number")
+    return int(text)
+
+
+def main():
+    about = argparse.ArgumentParser(description=__doc__, formatter_class=argparse.RawDescriptionHelpFormatter)
+    about.add_argument("--before", metavar="PROGRAM")
+    about.add_argument("--after", metavar="PROGRAM")
+    about.add_argument("--texts", metavar="N", type=count_of)
+    about.add_argument("--sessions", metavar="M", type=count_of)
+    about.add_argument("--seed", metavar="S", type=count_of, default=1)
+    about.add_argument("--print", action="store_true")
+    asked = about.parse_args()
+    if asked.print:
+        print(text_of(random.Random(asked.seed), False))
+        return 0
+    if not asked.before or not asked.after:
+        about.error("--before and --after name the two programs")
+    is_usual = asked.texts is None and asked.sessions is None
+    texts, sessions = (1000, 100) if is_usual else (asked.texts or 0, asked.sessions or 0)
+    try:
+        wrong = compare_texts(asked.before, asked.after, texts, asked.seed) if texts else 0
+        wrong += compare_sessions(asked.before, asked.after, sessions, asked.seed) if sessions else 0
+    except OSError as error:
+        print(f"random_vcl: {error}", file=sys.stderr)
+        return 2
+    return 1 if wrong else 0
 
 
 if __name__ == "__main__":
-    main(sys.argv[1:])
+    sys.exit(main())

@@ -8,6 +8,7 @@
   hold      100 connections that are idle behind an answer, 40 that have sent half a request, and 2 that take nothing of /large: others
             are answered all the same, and so are the idle ones in the end
   leave     asks for leave to send a body, and gets it before it sends one
+  press     8 connections that ask again and again, until they are ended: no answer breaks off. It says how many there were
   crowd     more connections than the server has descriptors for: those that come later are answered once the first are gone
 """
 import socket
@@ -152,6 +153,24 @@ def leave(port):
         sys.exit("got %r %r" % (head, body))
 
 
+def press(port):
+    links, count = [connect(port) for _ in range(8)], 0
+    print("asking", flush=True)
+    while links:
+        for link in list(links):
+            try:
+                link.sendall(b"GET / HTTP/1.1\r\nHost: h\r\n\r\n")
+                first = link.recv(1, socket.MSG_PEEK)
+            except ConnectionError:
+                first = b""
+            if first:
+                whole_answer(link)
+                count += 1
+            else:
+                links.remove(link)
+    print("answers", count)
+
+
 def crowd(port):
     first = [connect(port) for _ in range(4)]
     time.sleep(1)
@@ -169,5 +188,5 @@ def crowd(port):
 
 
 if __name__ == "__main__":
-    kinds = {kind.__name__: kind for kind in (drip, taker, upload, idle, hold, leave, crowd)}
+    kinds = {kind.__name__: kind for kind in (drip, taker, upload, idle, hold, leave, press, crowd)}
     kinds[sys.argv[1]](int(sys.argv[2]))

@@ -105,6 +105,9 @@ for session in examples/sessions/*.session; do
   check "${session#examples/}" plays "$session"
 done
 
+console() { python3 tools/varnadm_test.py > "$work/reply" 2>&1; }
+check "varnadm before a console that stands in" console
+
 # ---- the backend, and the program before it
 
 python3 tools/smoke_backend.py > "$work/port" &
@@ -433,8 +436,18 @@ if env --block-signal=TERM true 2> /dev/null; then
   env --block-signal=TERM "$program" serve --listen "$term_port" --vcl "$work/synth.vcl" --workers 2 --conns 1000 \
     > "$work/term_out" 2> "$work/term_errors" &
   term=$!
-  listens_at "$term_port" $term && kill -TERM $term
+  listens_at "$term_port" $term
+  rude press "$term_port" &
+  press=$!
+  for _ in {1..400}; do
+    grep --quiet asking "$work/press" && break
+    sleep 0.05
+  done
+  sleep 0.5
+  kill -TERM $term
   check "a run that blocks SIGTERM ends in order by it" stopped $term "$work/term_out" "$work/term_errors"
+  check "no answer breaks off meanwhile" bears press $press
+  check "and each of its rounds was answered" [ "rounds $(sed -n 's/^answers //p' "$work/press")" = "$(cat "$work/term_out")" ]
   check "and says so" told "the run is to end: SIGTERM came" "$work/term_errors"
 fi
 echo "$passed passed, $failed failed"

@@ -1,12 +1,15 @@
 #!/usr/bin/env python3
-"""Shows what a server does, from its access log (VARN_ACCESS_LOG, docs/OPERATING.md).
+"""Shows what a server does, from its access log (VARN_ACCESS_LOG, docs/OPERATING.md), or what a run did, from its journal.
 
     tools/varn_top.py LOG                       a screen that is drawn anew each second; q or Ctrl-C ends it
     tools/varn_top.py --once LOG                the same as text, once, over the whole log
     tools/varn_top.py --report PAGE.html LOG    one page with plots: hits, rates of status and times, and the URLs most asked for
-    tools/varn_top.py --top N ..                how many URLs are listed, 10 where it isn't said
+    tools/varn_top.py --once JOURNAL..          what the journal's files in this order tell, as text
+    tools/varn_top.py --report PAGE.html JOURNAL..   one page with plots: what lookups were given, how old that was, what is stored,
+                                                and what bans, purges, room and time took out
+    tools/varn_top.py --top N ..                how many URLs or bans are listed, 10 where it isn't said
 
-A line of the log is in the combined form, with the seconds that the exchange took, `hit` or `miss`, and the number of the request
+A journal is a file that begins as one (crates/journal_text). A line of the log is in the combined form, with the seconds that the exchange took, `hit` or `miss`, and the number of the request
 (on a hit, of the request that stored the object) behind it. What isn't such a line is counted and passed over. A `pass` is told by
 the log as a miss.
 """
@@ -19,6 +22,8 @@ import os
 import re
 import sys
 import time
+
+import journal_tally
 
 LINE = re.compile(
     r'(?P<client>\S+) - - \[(?P<moment>[^\]]+)\] "(?P<request>(?:[^"\\]|\\.)*)" (?P<status>\d{3}|-) (?P<sent>\d+)'
@@ -307,6 +312,10 @@ margin:1.6em 0 .2em}p{margin:.2em 0}table{border-collapse:collapse;margin:.6em 0
 text-align:left}td:first-child{word-break:break-all}.ends{display:flex;justify-content:space-between;color:#666;font-size:.85em}svg{background:#fafafa;border:1px solid #ddd}"""
 
 
+def page_of(body):
+    return f'<!doctype html><html lang="en"><meta charset="utf-8"><title>varn</title><style>{STYLE}</style>{"".join(body)}</html>\n'
+
+
 def report(path, exchanges, strange, top):
     """The page of a log."""
     exchanges = sorted(exchanges, key=lambda it: it.second)
@@ -346,7 +355,149 @@ def report(path, exchanges, strange, top):
         "<h2>Most missed</h2>",
         table(("URL", "missed", "asked"), [(url, f"{count:,}", f"{whole.urls[url]:,}") for url, count in whole.misses.most_common(top)]),
     ]
-    return f'<!doctype html><html lang="en"><meta charset="utf-8"><title>varn</title><style>{STYLE}</style>{"".join(body)}</html>\n'
+    return page_of(body)
+
+
+# ---- journals
+
+REPLIES = (("hit", "#2a7"), ("grace", "#27a"), ("miss", "#c80"), ("pass", "#888"), ("wait", "#a5c"))
+ENDS = (("bans", "#c33"), ("purges", "#c80"), ("room", "#27a"), ("time", "#888"))
+
+
+def seconds_text(value):
+    return "-" if value is None else f"{value:,.0f} s"
+
+
+def journal_facts(journal):
+    whole = journal.whole
+    return [
+        ("requests", f"{whole.begun:,}"),
+        ("from", f"{utc(min(journal.parts))} UTC" if journal.parts else "-"),
+        ("seconds", f"{max(journal.parts) - min(journal.parts) + 1:,}" if journal.parts else "0"),
+        ("lookups that were given an object", share_text(whole.given_share())),
+        *((f"lookups: {name}", f"{whole.lookups[name]:,}") for name, _ in REPLIES),
+        ("half of what was given was at most so old", seconds_text(whole.age_at(0.5))),
+        ("99 of 100 were at most so old", seconds_text(whole.age_at(0.99))),
+        ("objects stored", f"{whole.stored:,}"),
+        *((f"objects that went by {name}", f"{whole.removed[name]:,}") for name, _ in ENDS),
+        ("the most objects at once", f"{journal.most:,}"),
+        ("entries", f"{journal.entries:,}"),
+        ("lines that are none of a journal", f"{journal.strange:,}"),
+        ("hits on objects that are counted here as gone", f"{journal.strange_hits:,}"),
+    ]
+
+
+def bans_of(journal, top):
+    """The bans that took out the most, each with its moment and what it took out."""
+    found = sorted(journal.bans, key=lambda ban: -ban.removed)[:top]
+    return [(f"{utc(ban.moment // 1000)}", " ".join(ban.words), f"{ban.removed:,}") for ban in found]
+
+
+def urls_of(journal, top):
+    return [(url, f"{count:,}", f"{journal.missed[url]:,}") for url, count in journal.asked.most_common(top)]
+
+
+def journal_lines(journal, top):
+    lines = [f"{name:<48}{told:>24}" for name, told in journal_facts(journal)]
+    lines += ["", f"{'asked':>9}{'missed':>9}  URL"] + [f"{asked:>9}{missed:>9}  {url}" for url, asked, missed in urls_of(journal, top)]
+    if journal.bans:
+        lines += ["", f"{'removed':>9}  ban"] + [f"{removed:>9}  {moment}  {words}" for moment, words, removed in bans_of(journal, top)]
+    return lines
+
+
+def steps_of(journal):
+    """The run's time in parts of equal length, at most PLOT_POINTS: the length, and for each the parts of its seconds and their level."""
+    begin, end = (min(journal.parts), max(journal.parts)) if journal.parts else (0, 0)
+    step = max(1, -(-(end - begin + 1) // PLOT_POINTS))
+    steps, level = [], (0, 0)
+    for at in range(begin, end + 1, step):
+        seconds = range(at, at + step)
+        for second in seconds:
+            level = journal.levels.get(second, level)
+        steps.append(([journal.parts[it] for it in seconds if it in journal.parts], level))
+    return step, steps
+
+
+def sum_of(parts):
+    """Several parts as one."""
+    found = journal_tally.Part()
+    for part in parts:
+        found.lookups.update(part.lookups)
+        found.removed.update(part.removed)
+        found.ages += part.ages
+    return found
+
+
+def journal_report(paths, journal, top):
+    """The page of a journal."""
+    step, steps = steps_of(journal)
+    parts, levels = [sum_of(them) for them, _ in steps], [level for _, level in steps]
+    ends = [f"{utc(at)} UTC" for at in ((min(journal.parts), max(journal.parts)) if journal.parts else (0, 0))]
+    shares = [None if it.given_share() is None else 100 * it.given_share() for it in parts]
+
+    def each(kinds, count):
+        return [(name, color, [count(it)[name] / step for it in parts]) for name, color in kinds if count(journal.whole)[name]]
+
+    body = [
+        f"<h1>What varn did: {html.escape(' '.join(os.path.basename(it) for it in paths))}</h1>",
+        table(("", ""), journal_facts(journal)),
+        plot("Lookups that were given an object", "%", [("given", "#27a", shares)], ends, 100),
+        plot("Lookups a second", "lookups", each(REPLIES, lambda it: it.lookups), ends),
+        plot(
+            "Age of what was given",
+            "s",
+            [
+                ("half was at most so old", "#27a", [it.age_at(0.5) for it in parts]),
+                ("99 of 100 were at most so old", "#c80", [it.age_at(0.99) for it in parts]),
+            ],
+            ends,
+        ),
+        plot("Objects stored", "objects", [("objects", "#2a7", [count for count, _ in levels])], ends),
+        plot("Room used", "MB", [("used", "#2a7", [size / 1_000_000 for _, size in levels])], ends, (journal.room / 1_000_000) or None),
+        plot("Objects that went, a second", "objects", each(ENDS, lambda it: it.removed), ends),
+        "<h2>Bans, and what they took out</h2>",
+        table(("issued", "ban", "objects"), bans_of(journal, top)),
+        "<h2>Most asked for</h2>",
+        table(("URL", "asked", "missed"), urls_of(journal, top)),
+    ]
+    return page_of(body)
+
+
+def read_journal(paths):
+    journal = journal_tally.Journal()
+    for path in paths:
+        with open(path, encoding="latin-1", newline="\n") as lines:
+            journal.read(lines)
+    return journal
+
+
+def is_journal(path):
+    with open(path, encoding="latin-1", newline="\n") as lines:
+        return lines.read(len(journal_tally.FIRST)) == journal_tally.FIRST
+
+
+# ---- what is asked for
+
+
+def tell_journal(asked):
+    journal = read_journal(asked.files)
+    if asked.report:
+        write_page(asked.report, journal_report(asked.files, journal, asked.top))
+    if asked.once:
+        print("\n".join(journal_lines(journal, asked.top)))
+
+
+def tell_log(asked):
+    exchanges, strange = read_all(asked.files[0])
+    if asked.report:
+        write_page(asked.report, report(asked.files[0], exchanges, strange, asked.top))
+    if asked.once:
+        print("\n".join(once_lines(exchanges, strange, asked.top)))
+
+
+def write_page(path, page):
+    with open(path, "w", encoding="utf-8") as out:
+        out.write(page)
 
 
 def main():
@@ -354,24 +505,24 @@ def main():
     about.add_argument("--once", action="store_true")
     about.add_argument("--report", metavar="PAGE")
     about.add_argument("--top", metavar="N", type=int, default=10)
-    about.add_argument("log", metavar="LOG")
+    about.add_argument("files", metavar="LOG", nargs="+")
     asked = about.parse_args()
-    if not asked.once and not asked.report:
-        try:
-            curses.wrapper(draw, asked.log, asked.top)
-        except KeyboardInterrupt:
-            pass
-        return 0
     try:
-        exchanges, strange = read_all(asked.log)
-        if asked.report:
-            with open(asked.report, "w", encoding="utf-8") as page:
-                page.write(report(asked.log, exchanges, strange, asked.top))
+        if not asked.once and not asked.report:
+            if len(asked.files) > 1 or (os.path.isfile(asked.files[0]) and is_journal(asked.files[0])):
+                about.error("the screen is of one access log; a journal is told by --once or --report")
+            curses.wrapper(draw, asked.files[0], asked.top)
+        elif is_journal(asked.files[0]):
+            tell_journal(asked)
+        elif len(asked.files) > 1:
+            about.error("of access logs one is told at a time")
+        else:
+            tell_log(asked)
     except OSError as error:
         print(f"varn_top: {error}", file=sys.stderr)
         return 1
-    if asked.once:
-        print("\n".join(once_lines(exchanges, strange, asked.top)))
+    except KeyboardInterrupt:
+        pass
     return 0
 
 

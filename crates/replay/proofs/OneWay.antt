@@ -188,10 +188,10 @@ module _ (plan : Plan) (one_want : HasOneWant plan.wants) (script : Script) wher
   module _ (Sure : List Entry → List Entry → Type 0)
       (on : (before : List Entry) (entry : Entry) (more : List Entry) → Sure before (entry ∷ more) → Sure (before ++ entry ∷ []) more)
       (one_entry : (before : List Entry) (entry other : Entry) (more others : List Entry) → Sure before (entry ∷ more) → Sure before (other ∷ others) → other.caller ≡ entry.caller → other.moment ≡ entry.moment → other.call ≡ entry.call → other ≡ entry)
-      (Ends : List Entry → Type 0)
-      (fits : (before : List Entry) (entry : Entry) (more : List Entry) → Ends before → Sure before (entry ∷ more) → FitsBehind plan.beginning before entry.caller entry.moment entry.call) where
+      (IsLast : List Entry → Type 0)
+      (fits : (before : List Entry) (entry : Entry) (more : List Entry) → IsLast before → Sure before (entry ∷ more) → FitsBehind plan.beginning before entry.caller entry.moment entry.call) where
     -- where a run ends no call that doesn't fit is entered, and no other move made
-    stuck_full : (scene : Scene) (left : List Event) (history : List Entry) → Ends history → WantsTooMuch plan history scene → IsStuck plan one_want Sure on one_entry scene left history
+    stuck_full : (scene : Scene) (left : List Event) (history : List Entry) → IsLast history → WantsTooMuch plan history scene → IsStuck plan one_want Sure on one_entry scene left history
     stuck_full scene left history over full (hears (events.Moment moment)) new others more next split sure = let turn = full.runs.turn in let none = next.0.nobody_runs in absurd (cc)
     stuck_full scene left history over full (hears (events.Request request)) new others more next split sure = let turn = full.runs.turn in let none = next.0.nobody_runs in absurd (cc)
     stuck_full scene left history over full (hears (events.Reply number heard)) new others more next split sure = let turn = full.runs.turn in let none = next.1.nobody_runs in absurd (cc)
@@ -222,7 +222,7 @@ module _ (plan : Plan) (one_want : HasOneWant plan.wants) (script : Script) wher
         let same : only.0 ≡ event = cc in
         not_heard scene new event idle (subst (λ (x : Event). Hears scene x new) same only.2)
 
-    stuck_why : (history : List Entry) (scene : Scene) (heard left : List Event) (ending : Option ReplayError) → Ends history → IsWhy plan script history scene heard left ending → IsStuck plan one_want Sure on one_entry scene left history
+    stuck_why : (history : List Entry) (scene : Scene) (heard left : List Event) (ending : Option ReplayError) → IsLast history → IsWhy plan script history scene heard left ending → IsStuck plan one_want Sure on one_entry scene left history
     unfolding IsWhy
     stuck_why history scene heard left None over why = stuck_at_rest plan one_want Sure on one_entry scene left history why.0 why.1
     stuck_why history scene heard left (Some (Unanswered line)) over why = stuck_at_rest plan one_want Sure on one_entry scene left history why.0 why.1
@@ -231,7 +231,7 @@ module _ (plan : Plan) (one_want : HasOneWant plan.wants) (script : Script) wher
     stuck_why history scene heard left (Some WriteFault) over why = absurd why
     stuck_why history scene heard left (Some NoMemory) over why = absurd why
 
-    one_end : (history other : List Entry) (before now before2 now2 : Option (List ℕ)) (ending ending2 : Option ReplayError) (e : Ended plan script history before now ending) (f : Ended plan script other before2 now2 ending2) → Ends history → Ends other → Sure [] history → Sure [] other → (f.run.moves ≡ e.run.moves) × (f.scene ≡ e.scene)
+    one_end : (history other : List Entry) (before now before2 now2 : Option (List ℕ)) (ending ending2 : Option ReplayError) (e : Ended plan script history before now ending) (f : Ended plan script other before2 now2 ending2) → IsLast history → IsLast other → Sure [] history → Sure [] other → (f.run.moves ≡ e.run.moves) × (f.scene ≡ e.scene)
     one_end history other before now before2 now2 ending ending2 e f over over2 sure sure2 =
         let all : flat_map events_of e.run.moves ++ e.left ≡ flat_map events_of f.run.moves ++ f.left =
         ap (λ (xs : List Event). xs ++ e.left) e.run.reads ∙ (sym e.split ∙ (f.split ∙ ap (λ (xs : List Event). xs ++ f.left) (sym f.run.reads))) in

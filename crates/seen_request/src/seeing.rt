@@ -1,5 +1,6 @@
 // What VCL sees of a request that came.
-ghost use Rattle.std.specs.Prelude.{◌≡◌, codes, filter, Some, IfOk};
+ghost use Rattle.std.specs.Prelude.{◌≡◌, List, codes, filter, Some, IfOk};
+ghost use Rattle.http_heads.specs.declared.fields.Field.{Field as Item};
 ghost use Rattle.http_heads.specs.Fields.{is_named};
 ghost use Rattle.seen_request.specs.Seen.{is_of_connection as of_connection, is_seen as seen_field, seen_fields as seen_of, at_site as seen_at, seen};
 
@@ -14,24 +15,39 @@ fn has_name(name: &[u8], field: &Field) -> bool
     fold_eq(name, field.name.bytes())
 }
 
-fn is_of_connection(fields: &Fields, field: &Field) -> bool
-    ensures { result ≡ of_connection fields.now field.now }
+// The Connection fields, which are mostly none or one: each field is looked for in these alone.
+fn connection_fields(alloc: Global, fields: &Fields) -> Result<Fields, AllocError>
+    ensures { IfOk result (λ found. found ≡ filter (is_named (codes "connection")) fields.now) }
 {
-    has_name(b"connection", field) || is_listed(fields, b"connection", field.name.bytes())
+    let mut found = Vec::new(alloc);
+    for field in fields.as_slice() {
+        if has_name(b"connection", field) {
+            found.push(field.copied(alloc)?)?;
+        }
+    }
+    Ok(Fields::from_vec(found))
 }
 
-fn is_seen(fields: &Fields, field: &Field) -> bool
-    ensures { result ≡ seen_field fields.now field.now }
+fn is_of_connection(connection: &Fields, field: &Field) -> bool
+    ensures { (fields : List Item) → connection.now ≡ filter (is_named (codes "connection")) fields → result ≡ of_connection fields field.now }
 {
-    has_name(b"host", field) || !is_of_connection(fields, field)
+    has_name(b"connection", field) || is_listed(connection, b"connection", field.name.bytes())
+}
+
+// Of the fields of which these are the Connection fields.
+fn is_seen(connection: &Fields, field: &Field) -> bool
+    ensures { (fields : List Item) → connection.now ≡ filter (is_named (codes "connection")) fields → result ≡ seen_field fields field.now }
+{
+    has_name(b"host", field) || !is_of_connection(connection, field)
 }
 
 fn seen_fields(alloc: Global, fields: &Fields) -> Result<Fields, AllocError>
     ensures { IfOk result (λ kept. kept ≡ seen_of fields.now) }
 {
+    let connection = connection_fields(alloc, fields)?;
     let mut kept = Vec::new(alloc);
     for field in fields.as_slice() {
-        if is_seen(fields, field) {
+        if is_seen(&connection, field) {
             kept.push(field.copied(alloc)?)?;
         }
     }

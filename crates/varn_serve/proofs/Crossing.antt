@@ -3,7 +3,7 @@
 use Rattle.std.proofs.Crossing.{crosses}
 use denote.Param.Send.{IsSend, IsSync, sendable, struct_send, struct_sync}
 use denote.Struct.Declared as Declared
-use Rattle.flat_core.proofs.Crossing.{value_pattern_send, value_pattern_sync}
+use Rattle.ban_expr.proofs.Crossing.{value_pattern_send, value_pattern_sync}
 use Rattle.vcl_tree.specs.contracts.item.Tree as tree
 use Rattle.vcl_tree.proofs.attribute.Attribute.TheLaws.TheKnot as attribute
 use Rattle.vcl_tree.proofs.expression.Expression.TheLaws.TheKnot as expression
