@@ -2,7 +2,7 @@
 use crate::outside::{sink_of, source_of};
 use cache_law::Entry;
 use command_line::{LoadOptions, read_load};
-use flat_core::FlatCore;
+use lazy_core::LazyCore;
 use std::alloc::{AllocError, Global};
 use units::Text;
 use varn_program::{Job, Outcome, Status, do_with_std, faulty_word, run};
@@ -49,9 +49,9 @@ fn outcome_of(
     match load_asked(words) {
         Some(LoadOptions { seed, steps }) => {
             let job = Job::Load { seed, steps };
-            do_with_std::<FlatCore, FailingSource, FailingSink>(alloc, &job, source, sink)
+            do_with_std::<LazyCore, FailingSource, FailingSink>(alloc, &job, source, sink)
         }
-        None => run::<FlatCore, FailingSource, FailingSink>(alloc, words, source, sink),
+        None => run::<LazyCore, FailingSource, FailingSink>(alloc, words, source, sink),
     }
 }
 

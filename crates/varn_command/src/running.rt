@@ -17,7 +17,7 @@ ghost use Rattle.world.specs.Keeping.{MayAdd};
 
 use crate::outcome::Outcome;
 use command_line::{CommandName, LoadOptions, read_load, read_order};
-use flat_core::FlatCore;
+use lazy_core::LazyCore;
 use server::Tally;
 use std::alloc::Global;
 use std::sync::Wait;
@@ -29,7 +29,7 @@ use wire::{Dialer, Sink, Source};
 use world::{Gate, World};
 
 /// The cache of the program.
-type Core = FlatCore;
+type Core = LazyCore;
 
 /// The command of the first word, if it is one with an order, and its options.
 pub(crate) fn command_of(words: &[Text]) -> Option<(CommandName, &[Text])>

@@ -1,7 +1,7 @@
 //! A server's run: from its order to its status.
 //!
 //! Contract for the layer above: `serve_with_std` reads and checks the VCL of the order, listens, and has workers serve connections over one
-//! plain cache. Its history is legal, and each response that was sent is one of it, as `specs/Run.antt` says; each status has its
+//! lazy cache. Its history is legal, and each response that was sent is one of it, as `specs/Run.antt` says; each status has its
 //! cause (`specs/Endings.antt`).
 #![tactic(auto)]
 

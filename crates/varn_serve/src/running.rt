@@ -22,7 +22,7 @@ use boot_file::BootError;
 use cache_law::{Boot, CacheCore, Params};
 use command_line::ServeOptions;
 use crew::{Outcome, serve_all};
-use flat_core::FlatCore;
+use lazy_core::LazyCore;
 use server::{Keeper, Tally};
 use std::alloc::Global;
 use std::sync::Wait;
@@ -140,7 +140,7 @@ where
         history: order.history,
         segments: false,
     };
-    let Ok(core) = FlatCore::make(alloc, &params, boot) else {
+    let Ok(core) = LazyCore::make(alloc, &params, boot) else {
         return Err(Status::NoMemory);
     };
     let Ok(listener) = world.listen(order.port) else {

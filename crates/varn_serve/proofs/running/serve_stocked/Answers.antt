@@ -1,7 +1,7 @@
 -- Listening left what the world was handed back as it was, and the cache may go to the workers' threads.
 use Rattle.std.proofs.Crossing.{crosses}
 use denote.Param.Send.{sendable}
-use Rattle.flat_core.proofs.Crossing.{core_send}
+use Rattle.lazy_core.proofs.Crossing.{core_send}
 use Rattle.varn_serve.proofs.running.serve_stocked.Goals as goal
 
 pub returns-in-Some-clause-ran : goal.returns-in-Some-clause-ran
