@@ -224,8 +224,8 @@ no_more_by lazy verdict later =
     ∙ ap length (filter_both (λ p. waits (judging verdict p)) stays lazy.objects) in
     let more = count_more (λ (p : Placed). stays p && waits (judging verdict p)) waits
     (λ p e.
-        let both = and_parts (stays p) (waits (judging verdict p)) e in
-        waits_case own verdict p (is_asked verdict p) (λ asked. later_mark verdict p (later (dead_goes (is_asked verdict p) verdict.dead both.0 asked)) asked) both.1) lazy.objects in
+    let both = and_parts (stays p) (waits (judging verdict p)) e in
+    waits_case own verdict p (is_asked verdict p) (λ asked. later_mark verdict p (later (dead_goes (is_asked verdict p) verdict.dead both.0 asked)) asked) both.1) lazy.objects in
     omega (arith, left, more)
 
 pub no_more_wait : (lazy : Lazy) (beginning : Beginning) (entries : List Entry) (verdict : Verdict) → IsVerdictOf beginning entries verdict → count_unswept (judged_lazy verdict lazy) ≤ count_unswept lazy
