@@ -23,6 +23,7 @@ pub(crate) struct Given {
     pub file: Option<Text>,
     pub workers: Option<u32>,
     pub conns: Option<u32>,
+    pub cli: Option<u16>,
     pub room: Option<u64>,
     pub history: Option<u64>,
     pub seed: Option<u32>,
@@ -62,6 +63,7 @@ impl Given {
             file: None,
             workers: None,
             conns: None,
+            cli: None,
             room: None,
             history: None,
             seed: None,
@@ -78,6 +80,7 @@ impl Given {
             OptionName::Vcl => self.file.is_some(),
             OptionName::Workers => self.workers.is_some(),
             OptionName::Conns => self.conns.is_some(),
+            OptionName::Cli => self.cli.is_some(),
             OptionName::Room => self.room.is_some(),
             OptionName::History => self.history.is_some(),
             OptionName::Seed => self.seed.is_some(),
@@ -133,6 +136,10 @@ impl Given {
                 Some(conns) => self.conns = Some(conns as u32),
                 None => return Ok(false),
             },
+            OptionName::Cli => match number_in(value, 1, 65_535) {
+                Some(port) => self.cli = Some(port as u16),
+                None => return Ok(false),
+            },
             OptionName::Room => match number_in(value, 0, 1_073_741_824) {
                 Some(room) => self.room = Some(room),
                 None => return Ok(false),
@@ -162,6 +169,7 @@ impl Given {
             file,
             workers,
             conns,
+            cli,
             room,
             history,
             ..
@@ -180,6 +188,7 @@ impl Given {
             file,
             workers,
             conns: conns.unwrap_or(ENDLESS),
+            cli,
             room: room.unwrap_or(USUAL),
             history: history.unwrap_or(USUAL),
         })

@@ -9,7 +9,7 @@ use units::Text;
 const NAME: &str = "varn: a shared HTTP cache, steered by VCL, whose behaviour is proved";
 
 const SERVE: &str =
-    "varn serve --listen P --vcl FILE --workers N [--conns K] [--room N] [--history N]";
+    "varn serve --listen P --vcl FILE --workers N [--conns K] [--cli P] [--room N] [--history N]";
 
 const REPLAY: &str = "varn replay [--room N] [--history N] < SESSION > TRANSCRIPT";
 
@@ -23,7 +23,8 @@ load          plays a session that is made from a number, and writes what came o
 const SERVE_OPTIONS: &str = "--listen P    the port to listen at, on all addresses: 1 to 65535
 --vcl FILE    the file with the VCL; its name doesn't begin with a hyphen
 --workers N   how many connections are served side by side: 1 to 64
---conns K     how many connections are served before the program ends: 1 to 1000000; no limit when not given";
+--conns K     how many connections are served before the program ends: 1 to 1000000; no limit when not given
+--cli P       the port of the console, on this machine's loopback address: 1 to 65535; none when not given";
 
 const LIMITS: &str =
     "--room N      the bytes that the stored objects may have: 0 to 1073741824; 268435456 when not given
@@ -38,7 +39,7 @@ leading zero.";
 
 const SERVE_ENDS: &str =
     "Ends with status 0 where the run was whole, 2 for other words than these, 4 where the VCL's file can't be read, 5 where
-writing failed, 6 for want of memory, 7 where the port can't be listened at or accepting failed, 8 where the VCL's file
+writing failed, 6 for want of memory, 7 where a port can't be listened at or accepting failed, 8 where the VCL's file
 is missing or its text is refused, and 9 where the history is full.";
 
 const REPLAY_ENDS: &str =

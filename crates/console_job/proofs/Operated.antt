@@ -1,0 +1,90 @@
+-- What a console was opened with, what it did and how it was taken down, put together.
+use Rattle.std.proofs.Common.{◌≡◌, ℕ, List, [], ◌∷◌, false, length, Option, Some, None, refl, ap, ◌∙◌, subst, arith}
+use Rattle.std.specs.Prelude.{All, IfSome}
+use Rattle.std.proofs.lemmas.List.Elements.{All-nil, All-cons}
+use Rattle.cache_law.specs.Beginning.{Beginning}
+use Rattle.cache_law.specs.declared.call.Entry.{Entry}
+use Rattle.vmod_host.specs.declared.signature.Stored.{Stored}
+use Rattle.world.specs.declared.file.File.{File}
+use Rattle.wire.specs.Calls.{joined_count}
+use Rattle.wire.specs.Tapes.{Tape}
+use Rattle.wire.specs.Telling.{LinkTold}
+use Rattle.shared_cache.specs.Sharing.{CallerKnows}
+use Rattle.crew.specs.Besides.{IsDone, WasDone, places_beside}
+use Rattle.console_link.specs.Talks.{Stand}
+use Rattle.console_link.specs.declared.talk.ConsoleTalk.{ConsoleTalk}
+use Rattle.console_job.specs.Opening.{IsConsoleAt, IsGone, IsOpen, IsTakenDown, talks_of}
+use Rattle.console_job.specs.Operating.{AllServed, Did, HasOperated, MayOperate, OperatorsTold, places_of_talks}
+use Rattle.console_job.specs.declared.job.ConsoleBook.{ConsoleBook}
+use Rattle.console_job.specs.declared.job.ConsoleJob.{ConsoleJob}
+
+joined_twice : (before n : ℕ) → joined_count before (joined_count 0 n) ≡ joined_count before n
+joined_twice before n = omega arith
+
+-- the places beside the workers are those of the talks' lines
+pub places_at : {L T S D K : Type 0} (done : Option (ConsoleBook T S D K L)) → places_beside (λ (book : ConsoleBook T S D K L). places_of_talks book.talks.items) done ≡ places_of_talks (talks_of done)
+places_at None = refl
+places_at (Some book) = refl
+
+module _ {L T S D K : Type 0} (shelved : S → Option (List File)) (tell : L → LinkTold) (faults : S → ℕ) (readings : K → Option Tape) (given : T → ℕ) where
+  -- what a console does, with what it was opened with
+  abbrev pub Does : ConsoleJob T S D K → ConsoleBook T S D K L → CallerKnows → CallerKnows → Type 0
+  Does job book first last = Did job.vmods.stored (shelved job.shelf) tell faults readings given job book first last
+
+  closed_each : (stored : List Stored) (files : Option (List File)) (x y : Stand) (talks : List ConsoleTalk) (links : List L) → AllServed stored files tell x y talks links
+      → All (λ (link : L). (tell link).is_open ≡ false) links
+  closed_each stored files x y [] [] all = All-nil (λ (link : L). (tell link).is_open ≡ false)
+  closed_each stored files x y [] (link ∷ links) all = absurd all
+  closed_each stored files x y (talk ∷ talks) [] all = absurd all
+  closed_each stored files x y (talk ∷ talks) (link ∷ links) all =
+      All-cons (λ (l : L). (tell l).is_open ≡ false) link links all.1.closed (closed_each stored files all.0 y talks links all.2)
+
+  -- its links were ended
+  pub all_closed : (beginning : Beginning) (history : List Entry) (job : Option (ConsoleJob T S D K)) (done : Option (ConsoleBook T S D K L)) → IsDone Does beginning history job done
+      → IfSome done (λ book. All (λ (link : L). (tell link).is_open ≡ false) book.links.items)
+  all_closed beginning history None None is = tt
+  all_closed beginning history None (Some book) is = absurd is
+  all_closed beginning history (Some job) None is = absurd is
+  all_closed beginning history (Some job) (Some book) is =
+      closed_each job.vmods.stored (shelved job.shelf) (record { known = is.first; readings = readings job.kit.clock; faults = faults job.shelf })
+      (record { known = is.last; readings = readings book.kit.clock; faults = faults book.shelf }) book.talks.items book.links.items is.did.served
+
+  module _ (stored : List Stored) (files : Option (List File)) (beginning : Beginning) (history : List Entry) where
+    has_operated : (job : ConsoleJob T S D K) (book : ConsoleBook T S D K L) (before after : OperatorsTold L D K) → IsOpen stored files shelved faults readings given job
+        → WasDone Does beginning history job book → IsTakenDown faults given book before after
+        → HasOperated stored files tell readings beginning history before after book.talks.items
+    has_operated job book before after open was down =
+        let left : Stand = record { known = was.last; readings = readings book.kit.clock; faults = faults book.shelf } in
+        let begun : ℕ → Stand = λ n. record { known = was.first; readings = readings job.kit.clock; faults = n } in
+        record {
+          first = was.first;
+          number = was.number;
+          begins = was.begins;
+          unseen = was.unseen;
+          last = was.last;
+          front = was.front;
+          opened = readings job.kit.clock;
+          untold = open.untold;
+          kit = book.kit;
+          faults = faults book.shelf;
+          links = book.links.items;
+          served = subst (λ (s : List Stored). AllServed s files tell (begun 0) left book.talks.items book.links.items) open.functions
+              (subst (λ (f : Option (List File)). AllServed job.vmods.stored f tell (begun 0) left book.talks.items book.links.items) open.shelf
+              (subst (λ (n : ℕ). AllServed job.vmods.stored (shelved job.shelf) tell (begun n) left book.talks.items book.links.items) open.no_fault was.did.served));
+          links_are = down.links;
+          kits_are = down.kits;
+          given_are = down.given ∙ (ap (λ (n : ℕ). joined_count before.given n) (was.did.given ∙ ap (λ (n : ℕ). joined_count n (length book.talks.items)) open.nobody)
+              ∙ joined_twice before.given (length book.talks.items));
+          faults_are = down.shelves;
+        }
+
+    -- where there was a port for it, it was at work
+    pub may_operate : (port : Option ℕ) (job : Option (ConsoleJob T S D K)) (done : Option (ConsoleBook T S D K L)) (before after : OperatorsTold L D K)
+        → IsConsoleAt (IsOpen stored files shelved faults readings given) port job → IsDone Does beginning history job done → IsGone faults given done before after
+        → MayOperate stored files tell readings beginning history port before after (talks_of done)
+    may_operate None None None before after open is gone = (refl, gone)
+    may_operate None None (Some book) before after open is gone = absurd is
+    may_operate None (Some job) done before after open is gone = absurd open
+    may_operate (Some port) None done before after open is gone = absurd open
+    may_operate (Some port) (Some job) None before after open is gone = absurd is
+    may_operate (Some port) (Some job) (Some book) before after open is gone = has_operated job book before after open is gone
