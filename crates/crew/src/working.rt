@@ -32,67 +32,69 @@ pub(crate) struct Worked<H, N, A: Quota, B: Ledger, D> {
 // All workers work side by side, until each has left.
 fn work_together<
     R: Threads + Wait + Sync,
-    C: CacheCore + Send,
+    P: Sync,
     L: Listener + Send,
-    S: Service<L::Link, SharedCache<C>> + Sync,
+    S: Service<L::Link, P> + Sync,
     A: Quota + Send,
     B: Ledger + Send,
 >(
     rt: &R,
     service: &S,
-    cache: &SharedCache<C>,
+    site: &P,
     door: &Door<L, A, B>,
     workers: &mut Vec<Worker<S::Shift, S::Keeper, A, B>>,
 )
-    requires { All (IsReady (S.Ready service.now cache.now)) workers.old.items }
-    ensures worked { AllZip (HasWorked (S.Ready service.now cache.now) (S.Serves service.now cache.now) S.Told) workers.old.items workers.new.items }
+    requires { All (IsReady (S.Ready service.now site.now)) workers.old.items }
+    ensures worked { AllZip (HasWorked (S.Ready service.now site.now) (S.Serves service.now site.now) S.Told) workers.old.items workers.new.items }
     ensures count { (vec_len workers.new ≡ vec_len workers.old) × (length workers.new.items ≡ vec_len workers.old) }
 {
-    work(rt, service, cache, door, workers.as_mut_slice());
+    work(rt, service, site, door, workers.as_mut_slice());
 }
 
 // The same, and once the last has left the sign is raised.
 fn work_and_raise<
     R: Threads + Wait + Sync,
-    C: CacheCore + Send,
+    P: Sync,
     L: Listener + Send,
-    S: Service<L::Link, SharedCache<C>> + Sync,
+    S: Service<L::Link, P> + Sync,
     A: Quota + Send,
     B: Ledger + Send,
     X: Sign,
 >(
     rt: &R,
     service: &S,
-    cache: &SharedCache<C>,
+    site: &P,
     door: &Door<L, A, B>,
     workers: Vec<Worker<S::Shift, S::Keeper, A, B>>,
     sign: &X,
 ) -> Vec<Worker<S::Shift, S::Keeper, A, B>>
-    requires { All (IsReady (S.Ready service.now cache.now)) workers.items }
-    ensures worked { AllZip (HasWorked (S.Ready service.now cache.now) (S.Serves service.now cache.now) S.Told) workers.items result.items }
+    requires { All (IsReady (S.Ready service.now site.now)) workers.items }
+    ensures worked { AllZip (HasWorked (S.Ready service.now site.now) (S.Serves service.now site.now) S.Told) workers.items result.items }
     ensures count { (vec_len result ≡ vec_len workers) × (length result.items ≡ vec_len workers) }
 {
     let mut workers = workers;
-    work_together::<R, C, L, S, A, B>(rt, service, cache, door, &mut workers);
+    work_together::<R, P, L, S, A, B>(rt, service, site, door, &mut workers);
     sign.raise();
     workers
 }
 
-// A job is done in a thread of its own, where one can be made, beside workers who work until each has left. Where none can be made
-// the workers come first, since they leave by themselves.
+// The job is done, in a thread of its own where one can be made, beside workers who work until each has left. Where none can be made
+// the workers come first, since they leave by themselves. Their site is the job's cache.
 fn work_beside<
     R: Threads + Wait + Sync,
     C: CacheCore + Send,
+    P: Sync,
     L: Listener + Send,
-    S: Service<L::Link, SharedCache<C>> + Sync,
+    S: Service<L::Link, P> + Sync,
     A: Quota + Send,
     B: Ledger + Send,
     J: Job<C> + Send,
-    X: Sign + Sync,
+    X: Sign,
 >(
     rt: &R,
     alloc: Global,
     service: &S,
+    site: &P,
     cache: &SharedCache<C>,
     door: &Door<L, A, B>,
     workers: Vec<Worker<S::Shift, S::Keeper, A, B>>,
@@ -102,9 +104,9 @@ fn work_beside<
 ) -> ((CachePass, J::Done), Vec<Worker<S::Shift, S::Keeper, A, B>>)
 where
     J::Done: Send,
-    requires ready { All (IsReady (S.Ready service.now cache.now)) workers.items }
+    requires ready { All (IsReady (S.Ready service.now site.now)) workers.items }
     requires pass { IsPassOf cache.now pass }
-    ensures worked { AllZip (HasWorked (S.Ready service.now cache.now) (S.Serves service.now cache.now) S.Told) workers.items result.1.items }
+    ensures worked { AllZip (HasWorked (S.Ready service.now site.now) (S.Serves service.now site.now) S.Told) workers.items result.1.items }
     ensures count { (vec_len result.1 ≡ vec_len workers) × (length result.1.items ≡ vec_len workers) }
     ensures pass { IsPassOf cache.now result.0.0 }
     ensures called { HasCalled (known pass) (known result.0.0) (J.places result.0.1) }
@@ -118,11 +120,11 @@ where
                 × J.Did job result.1 (known pass) (known result.0) }
         { job.work(rt, alloc, cache, pass) },
         move || -> Vec<Worker<S::Shift, S::Keeper, A, B>>
-            requires { IsSync R.row × IsSend C.row × IsSend L.row × IsSync S.row × IsSend A.row × IsSend B.row
-                × All (IsReady (S.Ready service.now cache.now)) workers.items }
-            ensures { AllZip (HasWorked (S.Ready service.entry.now cache.entry.now) (S.Serves service.entry.now cache.entry.now) S.Told) workers.items result.items
+            requires { IsSync R.row × IsSync P.row × IsSend L.row × IsSync S.row × IsSend A.row × IsSend B.row
+                × All (IsReady (S.Ready service.now site.now)) workers.items }
+            ensures { AllZip (HasWorked (S.Ready service.entry.now site.entry.now) (S.Serves service.entry.now site.entry.now) S.Told) workers.items result.items
                 × (vec_len result ≡ vec_len workers) × (length result.items ≡ vec_len workers) }
-        { work_and_raise::<R, C, L, S, A, B, X>(rt, service, cache, door, workers, sign) },
+        { work_and_raise::<R, P, L, S, A, B, X>(rt, service, site, door, workers, sign) },
     )
 }
 
@@ -159,8 +161,8 @@ where
 {
     match job {
         Some(job) => {
-            let ((pass, done), workers) = work_beside::<R, C, W::Listener, H, A, B, J, X>(
-                rt, alloc, host, cache, door, workers, pass, job, sign,
+            let ((pass, done), workers) = work_beside::<R, C, SharedCache<C>, W::Listener, H, A, B, J, X>(
+                rt, alloc, host, cache, cache, door, workers, pass, job, sign,
             );
             Worked {
                 workers,
@@ -170,7 +172,7 @@ where
         }
         None => {
             let mut workers = workers;
-            work_together::<R, C, W::Listener, H, A, B>(rt, host, cache, door, &mut workers);
+            work_together::<R, SharedCache<C>, W::Listener, H, A, B>(rt, host, cache, door, &mut workers);
             Worked {
                 workers,
                 pass,
@@ -178,4 +180,10 @@ where
             }
         }
     }
+}
+
+fn service_at<P, L: Listener, S: Service<L::Link, P>>(service: &S, site: &P) {}
+
+fn try_j1<R: Threads, L: Listener, P: Sync, S: Service<L::Link, P> + Sync>(rt: &R, service: &S, site: &P) -> (u8, u8) {
+    thread::join(rt, move || -> u8 { 1 }, move || -> u8 { service_at::<P, L, S>(service, site); 1 })
 }
