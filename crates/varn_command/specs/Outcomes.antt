@@ -86,7 +86,7 @@ of_served one = record {
   history = one.history;
   connections = one.connections;
   tally = one.tally;
-  console = [];
+  console = one.console;
   swept = [];
   probed = [];
 }

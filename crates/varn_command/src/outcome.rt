@@ -4,6 +4,7 @@ ghost use Rattle.varn_command.specs.Outcomes.{code_of, of_played, of_served, of_
 
 use cache_law::Entry;
 use command_line::OrderError;
+use console_link::ConsoleTalk;
 use server::Tally;
 use std::alloc::Global;
 use units::{Sequence, Text};
@@ -101,13 +102,6 @@ pub enum Note {
     Place { place: u32, kind: Refusal },
 }
 
-/// A line of the console's connection, and what was sent for it.
-#[derive(Drop)]
-pub struct ConsoleLine {
-    pub line: Text,
-    pub sent: Text,
-}
-
 /// What a probe of a backend came to.
 #[derive(Drop)]
 pub struct Probed {
@@ -116,7 +110,7 @@ pub struct Probed {
 }
 
 /// How a run ended, what is to blame, the history of its cache, how many connections a server served and what was counted of them, what
-/// was kept of its console's, for each `lurk` of a session how many objects the lurker tested, and what the probes came to. What a
+/// was said at its console, for each `lurk` of a session how many objects the lurker tested, and what the probes came to. What a
 /// command doesn't have is empty.
 #[derive(Drop)]
 pub struct Outcome {
@@ -125,7 +119,7 @@ pub struct Outcome {
     pub history: Sequence<Entry>,
     pub connections: u64,
     pub tally: Tally,
-    pub console: Sequence<ConsoleLine>,
+    pub console: Sequence<ConsoleTalk>,
     pub swept: Sequence<u32>,
     pub probed: Sequence<Probed>,
 }
@@ -169,6 +163,7 @@ impl Outcome {
             keepers: _,
             connections,
             tally,
+            console,
         } = served;
         let note = match note {
             Some(note) => Some(Note::Place {
@@ -183,7 +178,7 @@ impl Outcome {
             history,
             connections,
             tally,
-            console: Sequence::new(alloc),
+            console,
             swept: Sequence::new(alloc),
             probed: Sequence::new(alloc),
         }

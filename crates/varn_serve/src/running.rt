@@ -15,7 +15,7 @@ ghost use Rattle.world.specs.Keeping.{MayAdd};
 ghost use Rattle.varn_serve.specs.Endings.{Told, has_full, verdict_of};
 ghost use Rattle.console_job.specs.Operating.{MayOperate, places_of_talks};
 ghost use Rattle.vcl_runs.specs.Languages.{language_of};
-ghost use Rattle.varn_serve.specs.Run.{Halts, limits_of, unbooted_note, unbooted_status, unserved};
+ghost use Rattle.varn_serve.specs.Run.{Halts, MayAskFor, limits_of, unbooted_note, unbooted_status, unserved};
 
 use crate::ending::{Served, Status, VclNote};
 use crate::console::{Came, came, console_at};
@@ -157,6 +157,7 @@ where
     ensures links { W.links world.new ≡ W.links world.old }
     ensures kept { W.kept world.new ≡ W.kept world.old }
     ensures ports { MayAdd (W.ports world.old) (W.ports world.new) order.now.port }
+    ensures console_ports { MayAskFor (V.ports operators.old) (V.ports operators.new) order.now.cli }
 {
     let params = Params {
         room: order.room,
