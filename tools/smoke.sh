@@ -224,6 +224,33 @@ taker=$!
 rude upload "$bearing_port" &
 upload=$!
 
+# One with a console: what is said there, by two operators one behind another.
+console_port=$(free_port)
+console_clients=$(free_port)
+VARN_STOP=$work/console_stop "$program" serve --listen "$console_clients" --vcl "$work/site.vcl" --workers 2 --cli "$console_port" \
+  > "$work/console_out" 2> "$work/console_errors" &
+console=$!
+# operator LINE..: what the console answers to these lines, in the file reply
+operator() {
+  printf '%s\n' "$@" | python3 tools/operator.py "$console_port" > "$work/reply" 2> "$work/said"
+}
+answers() { tr '\n' '|' < "$work/reply" | grep --quiet --fixed-strings -- "$1"; }
+check "a server with a console listens" listens_at "$console_clients" $console
+ask "http://127.0.0.1:$console_clients/banned"
+ask "http://127.0.0.1:$console_clients/banned"
+check "a page is kept" gets 200 'X-Cache: HIT'
+operator 'ban req.url == /banned' 'nope' quit
+check "the console answers line by line" answers '200 0       ||101 16      |Unknown request.|500 22      |Closing CLI connection|'
+ask "http://127.0.0.1:$console_clients/banned"
+check "what the console bans isn't given again" gets 200 'X-Cache: MISS'
+operator "vcl.load next $work/site.vcl" 'vcl.use next' 'vcl.load other nowhere.vcl' vcl.list
+check "a second operator loads a VCL" answers "200 13      |VCL compiled.|200 26      |VCL 'next' now active|300 23      |Cannot read nowhere.vcl|"
+ask "http://127.0.0.1:$console_clients/banned"
+check "pages are kept under another VCL" gets 200 'X-Cache: HIT'
+touch "$work/console_stop"
+wait $console
+check "a server with a console ends in order" [ $? = 0 ]
+
 # One that serves as many connections as come: a client that is idle or slow keeps no worker.
 open_port=$(free_port)
 VARN_STOP=$work/open_stop "$program" serve --listen "$open_port" --vcl "$work/site.vcl" --workers 2 \

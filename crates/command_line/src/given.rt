@@ -13,6 +13,9 @@ use units::{Text, read_number};
 /// The room and the history that aren't given.
 const USUAL: u64 = 268_435_456;
 
+/// The greatest port of a console.
+const MAX_PORT: u64 = 65_535;
+
 /// The number of connections that isn't given: the greatest history has fewer requests.
 const ENDLESS: u32 = 10_000_000;
 
@@ -136,7 +139,7 @@ impl Given {
                 Some(conns) => self.conns = Some(conns as u32),
                 None => return Ok(false),
             },
-            OptionName::Cli => match number_in(value, 1, 65_535) {
+            OptionName::Cli => match number_in(value, 1, MAX_PORT) {
                 Some(port) => self.cli = Some(port as u16),
                 None => return Ok(false),
             },

@@ -3,7 +3,7 @@ use crate::outcome::{Note, Outcome, Status};
 use crate::running::command_of;
 use command_line::{CommandName, OrderError, ServeOptions, read_load, read_order};
 use diagnostics::{order_fault, replay_fault, session_refusal, unseen_refusal, vcl_refusal};
-use std::alloc::AllocError;
+use std::alloc::{AllocError, Global};
 use system::{WordsError, tell};
 use units::Text;
 use varn_program::faulty_word;
@@ -94,6 +94,19 @@ fn explain_place<W: World>(
     say(rt, told);
 }
 
+// Which port can't be had.
+fn unheard(alloc: Global, order: &ServeOptions) -> Result<String, AllocError> {
+    let port = order.port;
+    match order.cli {
+        Some(console) => format!(in alloc;
+            "port {port} or the console's port {console} can't be listened at (it may be in use), or accepting there failed"
+        ),
+        None => format!(in alloc;
+            "port {port} can't be listened at (it may be in use), or accepting there failed"
+        ),
+    }
+}
+
 // Says what kept a server from serving.
 fn explain_server<W: World>(
     rt: &HostRuntime,
@@ -102,7 +115,6 @@ fn explain_server<W: World>(
     outcome: &Outcome,
 ) {
     let file = str::from_utf8(order.file.bytes()).unwrap_or("the file");
-    let port = order.port;
     let alloc = rt.alloc();
     match (outcome.status, outcome.note) {
         (Status::Vcl, Some(Note::Place { place, kind })) => {
@@ -110,12 +122,7 @@ fn explain_server<W: World>(
         }
         (Status::Vcl, _) => say(rt, format!(in alloc; "{file}: there is no such file")),
         (Status::ReadFault, _) => say(rt, format!(in alloc; "{file} can't be read")),
-        _ => say(
-            rt,
-            format!(in alloc;
-                "port {port} can't be listened at (it may be in use), or accepting there failed"
-            ),
-        ),
+        _ => say(rt, unheard(alloc, order)),
     }
 }
 
