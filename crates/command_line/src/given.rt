@@ -13,7 +13,7 @@ use units::{Text, read_number};
 /// The room and the history that aren't given.
 const USUAL: u64 = 268_435_456;
 
-/// The greatest port of a console.
+/// The greatest port.
 const MAX_PORT: u64 = 65_535;
 
 /// The number of connections that isn't given: the greatest history has fewer requests.
@@ -121,7 +121,7 @@ impl Given {
         ensures wrong { IfOk result (λ done. done ≡ false → (after : Told) → Puts self.old option value.now after → ⊥) }
     {
         match option {
-            OptionName::Listen => match number_in(value, 1, 65_535) {
+            OptionName::Listen => match number_in(value, 1, MAX_PORT) {
                 Some(port) => self.listen = Some(port as u16),
                 None => return Ok(false),
             },
