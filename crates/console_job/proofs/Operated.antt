@@ -6,6 +6,7 @@ use Rattle.cache_law.specs.Beginning.{Beginning}
 use Rattle.cache_law.specs.declared.call.Entry.{Entry}
 use Rattle.vmod_host.specs.declared.signature.Stored.{Stored}
 use Rattle.world.specs.declared.file.File.{File}
+use Rattle.world.specs.declared.kit.Kit.{Kit}
 use Rattle.wire.specs.Calls.{joined_count}
 use Rattle.wire.specs.Tapes.{Tape}
 use Rattle.wire.specs.Telling.{LinkTold}
@@ -20,6 +21,14 @@ use Rattle.console_job.specs.declared.job.ConsoleJob.{ConsoleJob}
 
 joined_twice : (before n : ℕ) → joined_count before (joined_count 0 n) ≡ joined_count before n
 joined_twice before n = omega arith
+
+abbrev pub operators_told : {L D K : Type 0} → Option (List L) → Option (List (Kit D K)) → ℕ → ℕ → OperatorsTold L D K
+operators_told links kits given faults = record { links = links; kits = kits; given = given; shelf_faults = faults }
+
+-- a world's side that tells the same in each part
+pub same_told : {L D K : Type 0} (links links' : Option (List L)) (kits kits' : Option (List (Kit D K))) (given given' faults faults' : ℕ) → links' ≡ links → kits' ≡ kits → given' ≡ given → faults' ≡ faults
+    → operators_told links' kits' given' faults' ≡ operators_told links kits given faults
+same_told links links' kits kits' given given' faults faults' a b c d = cc
 
 -- the places beside the workers are those of the talks' lines
 pub places_at : {L T S D K : Type 0} (done : Option (ConsoleBook T S D K L)) → places_beside (λ (book : ConsoleBook T S D K L). places_of_talks book.talks.items) done ≡ places_of_talks (talks_of done)

@@ -1,7 +1,10 @@
--- Listening left what the world was handed back as it was, and the cache may go to the workers' threads.
+-- Listening left what the world was handed back as it was, the console was at work where there is a port for it, and the cache may go to
+-- the threads of workers and console.
 use Rattle.std.proofs.Crossing.{crosses}
 use denote.Param.Send.{sendable}
+use Rattle.wire.specs.Telling.{told_by}
 use Rattle.flat_core.proofs.Crossing.{core_send}
+use Rattle.console_job.proofs.Operated.{all_closed, may_operate}
 use Rattle.varn_serve.proofs.running.serve_stocked.Goals as goal
 
 pub returns-in-Some-clause-ran : goal.returns-in-Some-clause-ran
