@@ -181,9 +181,3 @@ where
         }
     }
 }
-
-fn service_at<P, L: Listener, S: Service<L::Link, P>>(service: &S, site: &P) {}
-
-fn try_j1<R: Threads, L: Listener, P: Sync, S: Service<L::Link, P> + Sync>(rt: &R, service: &S, site: &P) -> (u8, u8) {
-    thread::join(rt, move || -> u8 { 1 }, move || -> u8 { service_at::<P, L, S>(service, site); 1 })
-}

@@ -1,5 +1,5 @@
 -- The history is the one that the closed cache gives.
-use Rattle.std.proofs.Common.{List, ℕ, ◌∙◌, ap, subst}
+use Rattle.std.proofs.Common.{◌++◌, ◌∙◌}
 use Rattle.turnstile.specs.Handles.{known}
 use Rattle.crew.proofs.Besides.{front_then, is_done, mine_beside, setting_stays}
 use Rattle.crew.proofs.Ends.{legal_of}
@@ -20,7 +20,8 @@ returns-clause-done g c =
     let seen = c.take_down-connections.ensures.grown in
     let more = c.close-history.ensures.history.grown in
     is_done g.J.Job.places g.J.Job.Did c.args.job c.employ-workers.result.done (known c.args.root) (known c.employ-workers.result.pass) c.requires.first c.employ-workers.ensures.becomes
-    beginning c.close-history.result.0 _ set (front_then _ _ _ _ _ seen.1 more.1)
+    beginning c.close-history.result.0 (seen.0 ++ more.0) set
+    (front_then (known c.employ-workers.result.pass).seen (known c.take_down-connections.new.root).seen c.close-history.result.0 seen.0 more.0 seen.1 more.1)
 
 pub returns-clause-stopped : goal.returns-clause-stopped
 returns-clause-stopped g c = rw (← c.employ-workers.ensures.listens) c.take_down-connections.ensures.stopped
