@@ -34,8 +34,7 @@ pub struct ConsoleBook<T: Listener, S: Shelf, D: Drop, K: Clock + Drop, L> {
 }
 
 impl<C: CacheCore, T: Listener, S: Shelf, D: Drop, K: Clock + Drop> Job<C>
-    for ConsoleJob<T, S, D, K>
-{
+    for ConsoleJob<T, S, D, K> {
     type Done = ConsoleBook<T, S, D, K, T::Link>;
 
     ghost use Rattle.wire.specs.Telling.{told_by};

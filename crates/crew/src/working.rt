@@ -161,7 +161,17 @@ where
 {
     match job {
         Some(job) => {
-            let ((pass, done), workers) = work_beside::<R, C, SharedCache<C>, W::Listener, H, A, B, J, X>(
+            let ((pass, done), workers) = work_beside::<
+                R,
+                C,
+                SharedCache<C>,
+                W::Listener,
+                H,
+                A,
+                B,
+                J,
+                X,
+            >(
                 rt, alloc, host, cache, cache, door, workers, pass, job, sign,
             );
             Worked {
@@ -172,7 +182,13 @@ where
         }
         None => {
             let mut workers = workers;
-            work_together::<R, SharedCache<C>, W::Listener, H, A, B>(rt, host, cache, door, &mut workers);
+            work_together::<R, SharedCache<C>, W::Listener, H, A, B>(
+                rt,
+                host,
+                cache,
+                door,
+                &mut workers,
+            );
             Worked {
                 workers,
                 pass,

@@ -3,7 +3,8 @@ use command_line::{CommandName, Fault, OptionName};
 use std::alloc::{AllocError, Global};
 use units::Text;
 
-const SERVE_TAKES: &str = "serve takes --listen, --vcl, --workers, --conns, --cli, --room and --history";
+const SERVE_TAKES: &str =
+    "serve takes --listen, --vcl, --workers, --conns, --cli, --room and --history";
 
 const LOAD_TAKES: &str = "load takes --seed and --steps";
 

@@ -40,11 +40,7 @@ fn octets(address: SocketAddr) -> [u8; 4] {
 
 impl<R: Outside> ConsoleListener<R> {
     /// A listener that has given no connection yet.
-    pub(crate) fn at(
-        rt: R,
-        port: u16,
-        sign: Arc<EndSign, Global>,
-    ) -> io::Result<ConsoleListener<R>>
+    pub(crate) fn at(rt: R, port: u16, sign: Arc<EndSign, Global>) -> io::Result<ConsoleListener<R>>
         ensures given { IfOk result (λ listener. listener.given ≡ 0) }
         ensures faults { IfOk result (λ listener. listener.faults ≡ 0) }
         ensures going { IfOk result (λ listener. listener.has_ended ≡ false) }

@@ -17,8 +17,8 @@ ghost use Rattle.console_job.specs.Operating.{MayOperate, places_of_talks};
 ghost use Rattle.vcl_runs.specs.Languages.{language_of};
 ghost use Rattle.varn_serve.specs.Run.{Halts, MayAskFor, limits_of, unbooted_note, unbooted_status, unserved};
 
-use crate::ending::{Served, Status, VclNote};
 use crate::console::{Came, came, console_at};
+use crate::ending::{Served, Status, VclNote};
 use crate::rounds::{has_full, report, tally_all, verdict};
 use boot_file::BootError;
 use cache_law::{Boot, CacheCore, Params};

@@ -130,7 +130,13 @@ pub fn world_of(alloc: Global, settings: &str, inputs: &str) -> Result<FailingWo
 // A kit of which nothing is dialed, with a clock at 0.
 fn console_kits(alloc: Global) -> Result<VecDeque<PlannedKit>, AllocError> {
     let (readings, words) = (vec![in alloc; 0]?, vec![in alloc; 0]?);
-    let kit = PlannedKit::new(alloc, VecDeque::new(alloc), Vec::new(alloc), readings, words)?;
+    let kit = PlannedKit::new(
+        alloc,
+        VecDeque::new(alloc),
+        Vec::new(alloc),
+        readings,
+        words,
+    )?;
     let mut kits = VecDeque::new(alloc);
     kits.push_back(kit)?;
     Ok(kits)
@@ -142,7 +148,11 @@ pub fn operators_of(
     settings: &str,
     inputs: &str,
 ) -> Result<FailingWorld, AllocError> {
-    let unheard = if setting(settings, "operators") == "unheard" { "0" } else { "" };
+    let unheard = if setting(settings, "operators") == "unheard" {
+        "0"
+    } else {
+        ""
+    };
     let listeners = listeners(alloc, inputs, Vec::new(alloc), 0)?;
     let failing_listens = numbers_of(alloc, unheard)?;
     let failing_shelves = Vec::new(alloc);

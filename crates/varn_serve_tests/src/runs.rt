@@ -45,9 +45,7 @@ fn run<R: Threads + Wait + Sync, G: Gate + Sync>(
     sink: &mut FailingSink,
 ) -> Result<Ran, AllocError> {
     let order = order_of(alloc, settings)?;
-    Ok(serve_with_std(
-        rt, alloc, &order, world, operators, gate, &NoSign, sink,
-    ))
+    Ok(serve_with_std(rt, alloc, &order, world, operators, gate, &NoSign, sink))
 }
 
 fn push_status(out: &mut String, served: &Ran) -> Result<(), AllocError> {
