@@ -76,7 +76,7 @@ impl<R: Outside> ConsoleListener<R> {
     }
 }
 
-impl<R: Outside> Listener for ConsoleListener<R> {
+impl<R: Outside + Send> Listener for ConsoleListener<R> {
     type Link = ConsoleLink<R>;
 
     ghost faults = { λ l. l.faults };
