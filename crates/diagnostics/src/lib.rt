@@ -12,6 +12,6 @@ mod varnish_names;
 mod words;
 
 pub use help::Help;
-pub use refusals::{session_refusal, unseen_refusal, vcl_refusal};
+pub use refusals::{journal_refusal, session_refusal, unseen_refusal, vcl_refusal};
 pub use showing::{Shown, show};
 pub use words::{order_fault, replay_fault};

@@ -132,3 +132,17 @@ pub fn session_refusal(kind: u8) -> &'static str {
         _ => "this line is refused",
     }
 }
+
+/// What was expected at a line of a journal, by the number of the kind of what is wrong with it.
+pub fn journal_refusal(kind: u8) -> &'static str {
+    match kind {
+        1 => "a line of a journal was expected here, ended by LF: the first line in the first place and no other one there, and no more than 1073741824 bytes in all",
+        2 => "a moment was expected that isn't before that of the entry before",
+        3 => "another call was expected: this caller waits for a fetch that is open",
+        4 => "an entry was expected that fits the limit of the first line, with what is reserved for the end of what is open",
+        5 => "another reply was expected: behind the lines before, this call isn't answered so",
+        6 => "the end of a segment was expected only where no round and no fetch is open",
+        7 => "the journal was expected to be closed by its last line, and nothing behind that",
+        _ => "this line is refused",
+    }
+}

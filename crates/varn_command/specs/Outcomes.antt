@@ -4,6 +4,11 @@ use Rattle.cache_law.specs.declared.call.Entry.{Entry}
 use Rattle.command_line.specs.declared.fault.OrderError.{OrderError}
 use Rattle.command_line.specs.declared.fault.OrderError.TheVariants.{Refused, NoMemory}
 use Rattle.server.specs.declared.tally.Tally.{Tally}
+use Rattle.audit_laws.specs.Faults.{kind_number}
+use Rattle.varn_audit.specs.declared.outcome.Audited.{Audited}
+use Rattle.varn_audit.specs.declared.outcome.Note.{Note as JournalNote}
+use Rattle.varn_audit.specs.declared.outcome.Status.{Status as AuditedStatus}
+use Rattle.varn_audit.specs.declared.outcome.Status.TheVariants as audited
 use Rattle.varn_program.specs.declared.outcome.Note.{Note as LineNote}
 use Rattle.varn_program.specs.declared.outcome.Outcome.{Outcome as Played}
 use Rattle.varn_program.specs.declared.outcome.Status.{Status as PlayedStatus}
@@ -38,6 +43,13 @@ status_of_served served.ListenFault = status.ListenFault
 status_of_served served.Vcl = status.Vcl
 status_of_served served.HistoryFull = status.HistoryFull
 
+abbrev pub status_of_audited : AuditedStatus → Status
+status_of_audited audited.Legal = status.Done
+status_of_audited audited.Illegal = status.Illegal
+status_of_audited audited.ReadFault = status.ReadFault
+status_of_audited audited.WriteFault = status.WriteFault
+status_of_audited audited.NoMemory = status.NoMemory
+
 -- the number that the program ends with
 abbrev pub code_of : Status → ℕ
 code_of status.Done = 0
@@ -58,6 +70,9 @@ line_note told = note.Line told.line told.kind
 
 abbrev pub place_note : VclNote → Note
 place_note told = note.Place told.place told.kind
+
+abbrev pub journal_note : JournalNote → Note
+journal_note told = note.Line told.line (kind_number told.kind)
 
 -- ---- what is handed out
 
@@ -86,6 +101,19 @@ of_served one = record {
   history = one.history;
   connections = one.connections;
   tally = one.tally;
+  console = [];
+  swept = [];
+  probed = [];
+}
+
+-- of an audit
+abbrev pub of_audited : Audited → Outcome
+of_audited one = record {
+  status = status_of_audited one.status;
+  note = option_map journal_note one.note;
+  history = [];
+  connections = 0;
+  tally = none_counted;
   console = [];
   swept = [];
   probed = [];

@@ -1,8 +1,8 @@
 // What is said on standard error of a run that wasn't whole.
 use crate::outcome::{Note, Outcome, Status};
-use crate::running::command_of;
+use crate::running::{asks_audit, command_of};
 use command_line::{CommandName, OrderError, ServeOptions, read_load, read_order};
-use diagnostics::{order_fault, replay_fault, session_refusal, unseen_refusal, vcl_refusal};
+use diagnostics::{journal_refusal, order_fault, replay_fault, session_refusal, unseen_refusal, vcl_refusal};
 use std::alloc::AllocError;
 use system::{WordsError, tell};
 use units::Text;
@@ -15,6 +15,8 @@ const NO_MEMORY: &str = "out of memory";
 const UNWRITABLE: &str = "standard output can't be written to";
 
 const UNREADABLE: &str = "the session can't be read from standard input";
+
+const UNREADABLE_JOURNAL: &str = "the journal can't be read from standard input";
 
 const HISTORY_FULL: &str = "the history is full: --history takes up to 1073741824 bytes";
 
@@ -75,6 +77,12 @@ fn explain_words(rt: &HostRuntime, words: &[Text]) {
 fn explain_line(rt: &HostRuntime, line: u32, kind: u8) {
     let cause = session_refusal(kind);
     let _ = eprintln!(rt; "line {line} kind {kind}\nline {line}: {cause}");
+}
+
+// Says at which line a journal isn't that of a lawful history, and what was expected there.
+fn explain_journal(rt: &HostRuntime, line: u32, kind: u8) {
+    let cause = journal_refusal(kind);
+    let _ = eprintln!(rt; "line {line}: {cause}");
 }
 
 // Says where the VCL is refused, and why. Its file is read once more, for a run keeps no text that it refused.
@@ -138,6 +146,8 @@ pub(crate) fn explain<W: World>(
         (Status::Done, _) => {}
         (Status::Words, _) => explain_words(rt, words),
         (Status::Session, Some(Note::Line { line, kind })) => explain_line(rt, line, kind),
+        (Status::Illegal, Some(Note::Line { line, kind })) => explain_journal(rt, line, kind),
+        (Status::ReadFault, _) if asks_audit(words) => tell(rt, UNREADABLE_JOURNAL),
         (Status::WriteFault, _) => tell(rt, UNWRITABLE),
         (Status::NoMemory, _) => tell(rt, NO_MEMORY),
         (Status::HistoryFull, _) => tell(rt, HISTORY_FULL),

@@ -1,12 +1,13 @@
 // The one form in which each command's outcome is handed out.
 ghost use Rattle.std.specs.Prelude.{◌≡◌};
-ghost use Rattle.varn_command.specs.Outcomes.{code_of, of_played, of_served, of_unasked, status_of_played, status_of_served, unasked_status};
+ghost use Rattle.varn_command.specs.Outcomes.{code_of, of_audited, of_played, of_served, of_unasked, status_of_audited, status_of_played, status_of_served, unasked_status};
 
 use cache_law::Entry;
 use command_line::OrderError;
 use server::Tally;
 use std::alloc::Global;
 use units::{Sequence, Text};
+use varn_audit::{Audited, Status as AuditedStatus};
 use varn_program::{Outcome as Played, Status as PlayedStatus};
 use varn_serve::{Served, Status as ServedStatus};
 use vcl_tree::Refusal;
@@ -79,6 +80,18 @@ impl Status {
             ServedStatus::ListenFault => Status::ListenFault,
             ServedStatus::Vcl => Status::Vcl,
             ServedStatus::HistoryFull => Status::HistoryFull,
+        }
+    }
+
+    fn of_audited(status: AuditedStatus) -> Status
+        ensures { result ≡ status_of_audited status }
+    {
+        match status {
+            AuditedStatus::Legal => Status::Done,
+            AuditedStatus::Illegal => Status::Illegal,
+            AuditedStatus::ReadFault => Status::ReadFault,
+            AuditedStatus::WriteFault => Status::WriteFault,
+            AuditedStatus::NoMemory => Status::NoMemory,
         }
     }
 
@@ -183,6 +196,28 @@ impl Outcome {
             history,
             connections,
             tally,
+            console: Sequence::new(alloc),
+            swept: Sequence::new(alloc),
+            probed: Sequence::new(alloc),
+        }
+    }
+
+    pub(crate) fn of_audited(alloc: Global, audited: Audited) -> Outcome
+        ensures { result ≡ of_audited audited }
+    {
+        let note = match audited.note {
+            Some(note) => Some(Note::Line {
+                line: note.line,
+                kind: note.kind.number(),
+            }),
+            None => None,
+        };
+        Outcome {
+            status: Status::of_audited(audited.status),
+            note,
+            history: Sequence::new(alloc),
+            connections: 0,
+            tally: Tally::none(),
             console: Sequence::new(alloc),
             swept: Sequence::new(alloc),
             probed: Sequence::new(alloc),

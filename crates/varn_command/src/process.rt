@@ -3,6 +3,7 @@ ghost use Rattle.std.specs.Prelude.{◌≡◌, ◌≤◌, ⊤, ℕ, List, Option
 ghost use Rattle.std.specs.Process.{exit_status};
 ghost use Rattle.diagnostics.specs.Helping.{help_of};
 ghost use Rattle.vcl_library.specs.Functions.{std_functions};
+ghost use Rattle.varn_audit.specs.Run.{Ends as EndsAudit};
 ghost use Rattle.varn_program.specs.Run.{Ends};
 ghost use Rattle.varn_serve.specs.Run.{is_full_status};
 ghost use Rattle.varn_command.specs.Asking.{Does};
@@ -125,6 +126,7 @@ where
       replays = λ came. (left0 left1 held0 held1 : Option (List ℕ)) × Ends std_functions start.words.items left0 left1 held0 held1 came;
       loads = λ load came. ⊤;
       serves = λ order came. (came.connections ≤ order.conns) × (is_full_status came.status ≡ came.tally.found_full);
+      audits = λ came. (left0 left1 held0 held1 : Option (List ℕ)) × EndsAudit left0 left1 held0 held1 came;
       nothing = ⊤;
     }) start.words.items outcome × (exit_status result ≡ code_of outcome.status) }
 {

@@ -11,7 +11,9 @@ ghost use Rattle.varn_program.specs.Words.{AsksReplay};
 ghost use Rattle.varn_program.specs.declared.outcome.Status.TheVariants as replay_status;
 ghost use Rattle.server.specs.Keeping.{tally_of};
 ghost use Rattle.varn_serve.specs.Run.{CameTo, EndsAs, GaveFor, IsComplete as IsWhole, RanBy, is_full_status};
-ghost use Rattle.varn_command.specs.Asking.{Does, command_of};
+ghost use Rattle.varn_audit.specs.Run.{Ends as EndsAudit};
+ghost use Rattle.varn_audit.specs.declared.outcome.Status.TheVariants as audit_status;
+ghost use Rattle.varn_command.specs.Asking.{Does, asks_audit as are_of_audit, command_of};
 ghost use Rattle.wire.specs.Causes.{Rose};
 ghost use Rattle.world.specs.Keeping.{MayAdd};
 
@@ -23,6 +25,7 @@ use std::alloc::Global;
 use std::sync::Wait;
 use std::thread::Threads;
 use units::Text;
+use varn_audit::run_audit;
 use varn_program::{Job, do_with_std};
 use varn_serve::serve_with_std;
 use wire::{Dialer, Sink, Source};
@@ -49,8 +52,19 @@ pub(crate) fn command_of(words: &[Text]) -> Option<(CommandName, &[Text])>
     }
 }
 
+/// Whether the words ask for an audit: it has no options.
+pub(crate) fn asks_audit(words: &[Text]) -> bool
+    ensures { result ≡ are_of_audit words.now }
+{
+    match words {
+        [word] => word.bytes() == b"audit".as_slice(),
+        _ => false,
+    }
+}
+
 /// Does what the words say: `serve` serves connections at the world's port, by the VCL of the world's file; `load` plays the session
-/// of a number and writes its summary; other words are those of a replay of the source's session. Texts of VCL may call the functions
+/// of a number and writes its summary; `audit` tells what the source's bytes are as a journal; other words are those of a replay of the
+/// source's session. Texts of VCL may call the functions
 /// of the module `std`. The call may wait for good.
 pub fn run<R: Threads + Wait + Sync, W: World + Send, G: Gate + Sync, S: Source, K: Sink>(
     rt: &R,
@@ -101,9 +115,16 @@ where
           × MayAdd (W.ports world.old) (W.ports world.new) order.port
           × GaveFor (W.given world.old) (W.given world.new) served.connections
           × (source.new ≡ source.old);
+      audits = λ audited. EndsAudit (S.left source.old) (S.left source.new) (K.held sink.old) (K.held sink.new) audited
+          × (audited.status ≡ audit_status.ReadFault → Rose (S.faults source.old) (S.faults source.new))
+          × (audited.status ≡ audit_status.WriteFault → Rose (K.faults sink.old) (K.faults sink.new))
+          × (world.new ≡ world.old);
       nothing = (source.new ≡ source.old) × (sink.new ≡ sink.old) × (world.new ≡ world.old);
     }) words.now result }
 {
+    if asks_audit(words) {
+        return Outcome::of_audited(alloc, run_audit(alloc, source, sink));
+    }
     match command_of(words) {
         Some((CommandName::Serve, options)) => match read_order(options) {
             Ok(order) => {
