@@ -11,7 +11,7 @@ use Rattle.journal_text.specs.declared.line.Line.TheVariants as line
 use Rattle.journal_text.specs.declared.line.Said.{Said}
 use Rattle.journal_text.specs.Grammar.{line_words, said_of}
 use Rattle.journal_text.specs.Journals.{IsLine, entries_before, lines_text, text_of}
-use Rattle.journal_text.proofs.Unique.{line_same}
+use Rattle.journal_reader.proofs.Unique.{line_same}
 use Rattle.journal_reader.specs.Histories.{AreLines, IsOwnLine}
 use Rattle.journal_reader.proofs.Feeds.{ended-first, feeds_same, no_feed_in}
 use Rattle.journal_laws.proofs.Legal.{history_same}

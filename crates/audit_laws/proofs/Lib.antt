@@ -1,4 +1,5 @@
 pub mod Agreeing
 pub mod Wholes
 pub mod Fronts
+pub mod Judging
 pub mod Singles

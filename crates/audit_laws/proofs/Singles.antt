@@ -7,7 +7,7 @@ use Rattle.journal_text.specs.declared.line.Line.{Line}
 use Rattle.journal_text.specs.declared.line.Line.TheVariants as line
 use Rattle.journal_text.specs.Grammar.{line_words}
 use Rattle.journal_text.specs.Journals.{IsLine, lines_text, text_of}
-use Rattle.journal_text.proofs.Unique.{line_same}
+use Rattle.journal_reader.proofs.Unique.{line_same}
 use Rattle.journal_reader.specs.Histories.{AreLines, IsOwnLine}
 use Rattle.journal_reader.proofs.Feeds.{feeds_same, no_feed_in}
 use Rattle.audit_laws.specs.declared.kind.Kind.{Kind}
@@ -16,6 +16,7 @@ use Rattle.audit_laws.specs.Steps.{Step, Starts, Enters, Cuts, Closes, Place, Be
 use Rattle.audit_laws.specs.Journals.{Journal, IsLawful, Reads, lines_in, most_bytes, steps_in}
 use Rattle.audit_laws.specs.Faults.{BadAt, EntryFault, HasNoFeed, HasPlace, IsLeast, LineFault, RestFault, TextFault, kind_number}
 use Rattle.audit_laws.specs.Findings.{IsFront, IsLegal, StopsAt}
+use Rattle.audit_laws.proofs.Judging.{fits_judged}
 use Rattle.audit_laws.proofs.Agreeing.{GoOn, append_none, steps_agree, text_more, text_none}
 use Rattle.audit_laws.proofs.Wholes.{journal_may, lines_same_in, steps_one}
 use Rattle.audit_laws.proofs.Fronts.{HasSteps, front_of_steps, steps_of_front, text_joined}
@@ -42,7 +43,7 @@ no_line_fault (Within params state used) (Starts first) kind m f = m
 no_line_fault (Within params state used) (Enters entry) kinds.Text m f = f
 no_line_fault (Within params state used) (Enters entry) kinds.Moment m f = let order = m.0.no_earlier in omega (arith, order, f)
 no_line_fault (Within params state used) (Enters entry) kinds.Wait m f = f m.0.waited
-no_line_fault (Within params state used) (Enters entry) kinds.Bytes m f = f m.1
+no_line_fault (Within params state used) (Enters entry) kinds.Bytes m f = f (fits_judged params state used entry m.0.answer m.1)
 no_line_fault (Within params state used) (Enters entry) kinds.Reply m f = f entry.reply m.0.answer refl
 no_line_fault (Within params state used) (Enters entry) kinds.Cut m f = f
 no_line_fault (Within params state used) (Enters entry) kinds.End m f = f

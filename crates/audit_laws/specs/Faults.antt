@@ -2,7 +2,9 @@
 use Rattle.std.specs.Prelude.{⊤, ◌≡◌, ◌≢◌, ◌⊎◌, ◌+◌, ◌-◌, ◌<◌, ◌≤◌, ℕ, List, [], ◌∷◌, ◌++◌, length}
 use Rattle.std.specs.List.{AllByRecursion}
 use Rattle.units.specs.Signs.{line_feed}
+use Rattle.cache_law.specs.declared.call.Entry.{Entry}
 use Rattle.cache_law.specs.declared.call.Reply.{Reply}
+use Rattle.cache_law.specs.declared.call.Reply.TheVariants as replies
 use Rattle.cache_law.specs.declared.setting.Params.{Params}
 use Rattle.cache_law.specs.Bases.{IsClosed}
 use Rattle.cache_law.specs.History.{Fits, HasWaited}
@@ -11,6 +13,8 @@ use Rattle.cache_law.specs.State.{State, at_moment}
 use Rattle.journal_text.specs.declared.line.Line.{Line}
 use Rattle.journal_text.specs.declared.line.Line.TheVariants as line
 use Rattle.journal_text.specs.declared.line.Said.{Said}
+use Rattle.journal_text.specs.declared.shown.Shown.{Shown}
+use Rattle.journal_text.specs.declared.shown.Shown.TheVariants as shown
 use Rattle.journal_text.specs.Grammar.{shown_of}
 use Rattle.journal_text.specs.Journals.{IsLine}
 use Rattle.audit_laws.specs.declared.kind.Kind.{Kind}
@@ -41,11 +45,21 @@ MayNotShow params state said =
     (reply : Reply) → MayAnswer (at_moment said.moment state) said.call (step_of params state said.caller said.moment said.call).reply reply
     → shown_of reply ≢ said.reply
 
--- What is wrong with what an entry says: its moment goes back; its caller waits; its call doesn't fit; no such reply may be given.
+-- Whether an entry fits is judged with the law's reply, or with the refusal that its line shows: between these alone differs what is
+-- reserved behind it.
+abbrev pub judged_by : Shown → Reply → Reply
+judged_by shown.Refused law = replies.Refused
+judged_by other law = law
+
+abbrev pub judged_entry : Params → State → Said → Entry
+judged_entry params state said =
+    record { caller = said.caller; moment = said.moment; call = said.call; reply = judged_by said.reply (step_of params state said.caller said.moment said.call).reply }
+
+-- What is wrong with what an entry says: its moment goes back; its caller waits; it doesn't fit; no such reply may be given.
 abbrev pub EntryFault : Params → State → ℕ → Said → Kind → Type 0
 EntryFault params state used said kinds.Moment = said.moment < state.moment
 EntryFault params state used said kinds.Wait = HasWaited state said.caller said.call → ⊥
-EntryFault params state used said kinds.Bytes = Fits params state used said.caller said.moment said.call → ⊥
+EntryFault params state used said kinds.Bytes = Fits params state used (judged_entry params state said) → ⊥
 EntryFault params state used said kinds.Reply = MayNotShow params state said
 EntryFault params state used said kind = ⊥
 

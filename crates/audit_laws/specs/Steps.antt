@@ -41,7 +41,7 @@ pub data Place : Type 0 where
 -- the step may come next: an entry follows and fits, and a segment is cut off where nothing is open
 abbrev pub MayStep : Place → Step → Type 0
 MayStep Before (Starts first) = ⊤
-MayStep (Within params state used) (Enters entry) = Follows params state entry × Fits params state used entry.caller entry.moment entry.call
+MayStep (Within params state used) (Enters entry) = Follows params state entry × Fits params state used entry
 MayStep (Within params state used) Cuts = IsClosed state
 MayStep (Within params state used) Closes = ⊤
 MayStep place step = ⊥

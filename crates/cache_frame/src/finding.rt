@@ -34,7 +34,7 @@ pub(crate) struct Found<M> {
 }
 
 /// What has become of the stale object that an insertion names, if it names one.
-#[derive(Clone, Copy, Debug)]
+#[derive(Clone, Copy)]
 pub(crate) enum StaleObject {
     There,
     Gone,

@@ -1,6 +1,7 @@
 // The cache, framed: a desk and a shelf, with the history of what was answered.
 ghost use Rattle.std.specs.Prelude.{◌≡◌, ◌∷◌, ◌++◌, ◌+◌, ◌*◌, ◌^◌, ◌<◌, ◌≤◌, ◌↔◌, [], true, false, length, IsTrue, IfOk, IsErrOf, IsOk, OnOk, OnErr};
 ghost use Rattle.std.specs.Vec.{vec_capacity};
+ghost use Rattle.cache_law.specs.ShownBans.{AllShown, those_open};
 ghost use Rattle.cache_law.specs.State.{at_moment};
 ghost use Rattle.cache_law.specs.Law.{answered};
 ghost use Rattle.cache_law.specs.declared.call.Reply.TheVariants.{Refused};
@@ -18,10 +19,13 @@ ghost use Rattle.cache_desk.specs.Stock.{Stock, with_stock};
 
 use crate::calls::{answer, find, open_after, open_refused, refuse};
 use crate::finding::{Asked, is_untested};
+use crate::listing::ListingShelf;
 use crate::shelf::Shelf;
 use ban_lurker::{Chore, LurkCore, Verdict};
 use cache_desk::{Answer, Desk};
-use cache_law::{Boot, CacheCore, Call, Entry, Kept, Params, StepError, Told, entry_bytes};
+use cache_law::{
+    BanLine, Boot, CacheCore, Call, Entry, Kept, Params, StepError, Told, entry_bytes,
+};
 use std::alloc::{AllocError, Global};
 use std::marker::Model;
 use std::snapshot::Snapshot;
@@ -283,7 +287,7 @@ fn is_closing(call: &Call) -> bool
 }
 
 /// How a call is answered, as far as it decides whether its entry fits.
-#[derive(Clone, Copy, Debug)]
+#[derive(Clone, Copy)]
 pub enum Answering {
     /// As the law says, or by one of several lists of bans.
     ByLaw,
@@ -359,7 +363,9 @@ fn fits_by_law<S: Shelf>(
     }
     let open = open_after(desk, shelf, caller, moment, call, &asked);
     drop(asked);
-    Ok(desk.is_numbered(call) && is_within(params.history, used, desk.entries(), call, open))
+    let numbered = desk.is_numbered(call);
+    let within = is_within(params.history, used, desk.entries(), call, open);
+    Ok(numbered && within)
 }
 
 /// Answers the call, which asked so, where there is room for its entry and for those that will close what is open behind
@@ -425,4 +431,21 @@ fn push_within_room(entries: &mut Vec<Entry>, entry: Entry)
     ensures room { vec_capacity entries.old ≤ vec_capacity entries.new }
 {
     let _ = entries.push(entry);
+}
+
+impl<S: ListingShelf> Framed<S> {
+    /// The moment of the newest entry.
+    pub fn moment(&self) -> u64
+        ensures { result ≡ (reached self.now.beginning self.now.entries).moment }
+    {
+        self.desk.moment()
+    }
+
+    /// Whether the lines show, at the moment, each ban that an object has still to be tested on. It takes no memory.
+    pub fn shows(&self, moment: u64, lines: &[BanLine]) -> bool
+        requires { (reached self.now.beginning self.now.entries).moment ≤ moment }
+        ensures { IsTrue result ↔ AllShown (those_open lines.now) (at_moment moment (reached self.now.beginning self.now.entries)).objects }
+    {
+        self.shelf.shows(moment, lines)
+    }
 }

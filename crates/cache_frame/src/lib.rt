@@ -8,9 +8,11 @@
 mod calls;
 mod finding;
 mod framed;
+mod listing;
 mod seen;
 mod shelf;
 
 pub use framed::{Answering, Framed};
+pub use listing::ListingShelf;
 pub use seen::{Placing, Seen, Use};
 pub use shelf::Shelf;

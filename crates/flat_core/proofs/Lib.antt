@@ -10,4 +10,5 @@ pub mod Standing
 pub mod Placings
 pub mod Cuts
 pub mod Struck
+pub mod Listings
 pub mod Crossing

@@ -4,4 +4,5 @@ pub mod Scans
 pub mod Banning
 pub mod Purging
 pub mod Shelf
+pub mod Listing
 pub mod Rests

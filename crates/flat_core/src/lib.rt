@@ -6,6 +6,7 @@
 #![tactic(auto)]
 
 mod banning;
+mod listing;
 mod lists;
 mod matching;
 mod purging;

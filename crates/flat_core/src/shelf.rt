@@ -5,6 +5,7 @@ ghost use Rattle.flat_core.specs.Shelf.{StandsFor, stock_in};
 ghost use Rattle.flat_core.specs.Rests.{rests_so};
 
 use crate::banning::{ban_fates, ban_lines, keep_needed};
+use crate::listing::lacks;
 use crate::lists::{is_gone, keep_in_time, put_first, settle, use_one};
 use crate::purging::{count_of_key, count_of_xkeys, drop_key, drop_xkeys, softened_all};
 use crate::room::bound_of;
@@ -13,7 +14,7 @@ use crate::stored_ban::StoredBan;
 use crate::stored_object::{Fate, StoredObject};
 use ban_expr::prepare;
 use ban_lurker::{Chore, Verdict};
-use cache_frame::{Placing, Seen, Shelf, Use};
+use cache_frame::{ListingShelf, Placing, Seen, Shelf, Use};
 use cache_law::{Ban, BanLine, Object, Query, is_in_time};
 use std::alloc::{AllocError, Global};
 use std::collections::VecDeque;
@@ -184,4 +185,10 @@ impl Shelf for FlatShelf {
     ghost counts = { λ shelf beginning entries stands. stands.issued };
 
     ghost rests = { λ shelf. rests_so shelf };
+}
+
+impl ListingShelf for FlatShelf {
+    fn shows(&self, moment: u64, lines: &[BanLine]) -> bool {
+        !lacks(&self.objects, &self.bans, moment, lines)
+    }
 }

@@ -1,9 +1,11 @@
 // A ban in memory.
 ghost use Rattle.std.specs.Prelude.{◌≡◌, not, IfOk};
-ghost use Rattle.cache_law.specs.Bans.{meets, object_only as looks_at_objects};
+ghost use Rattle.cache_law.specs.Bans.{is_shown as is_shown_by, meets, object_only as looks_at_objects};
+ghost use Rattle.cache_law.specs.ShownBans.{those_open};
 
 use ban_expr::{Prepared, object_only};
-use cache_law::{Issued, Object, RequestView};
+use ban_lines::shows;
+use cache_law::{BanLine, Issued, Object, RequestView};
 use std::alloc::{AllocError, Global};
 use std::marker::Model;
 
@@ -58,6 +60,13 @@ impl StoredBan {
         ensures { IfOk result (λ met. met ≡ meets object.now request.now self.now) }
     {
         self.ban.test(alloc, self.moment, object, Some(request))
+    }
+
+    /// Whether the lines show it.
+    pub fn is_shown(&self, lines: &[BanLine]) -> bool
+        ensures { result ≡ is_shown_by (those_open lines.now) self.now }
+    {
+        shows(lines, self.number, self.ban.ban())
     }
 
     /// The same as plain data.

@@ -4,7 +4,7 @@ use Rattle.cache_law.specs.declared.setting.Params.{Params}
 use Rattle.cache_law.specs.State.{State}
 use Rattle.journal_text.specs.declared.line.Line.{Line}
 use Rattle.journal_text.specs.Journals.{IsLine, text_of}
-use Rattle.journal_text.proofs.Unique.{line_same}
+use Rattle.journal_reader.proofs.Unique.{line_same}
 use Rattle.audit_laws.specs.declared.kind.Kind.{Kind}
 use Rattle.audit_laws.specs.declared.kind.Kind.TheVariants as kinds
 use Rattle.audit_laws.specs.Steps.{Before, Place, Step, line_for, placed, text_for}

@@ -20,7 +20,7 @@ pub record HasEntered {F : Type 0} (stands : F → Params → State → ℕ → 
   pub entry : Entry
   pub says : said_of entry ≡ said
   pub follows : Follows params state entry
-  pub fits : Fits params state used entry.caller entry.moment entry.call
+  pub fits : Fits params state used entry
   pub behind : stands next params (next_state params state entry) (used + bytes_of entry.call)
 
 -- what is said is entered, or this is the least kind of what is wrong with it

@@ -2,21 +2,21 @@
 use Rattle.std.proofs.Common.{◌≡◌, ℕ, List, [], ◌∷◌, sym, ap, ◌∙◌, subst, refl, arith}
 use Rattle.std.specs.Prelude.{Ok, Err}
 use Rattle.ban_expr.specs.declared.error.BanError.{BanError}
-use Rattle.ban_expr.proofs.Ones.{one_refusal, refusal_reads}
+use Rattle.ban_expr.proofs.Ones.{one_refusal}
 use Rattle.cache_law.specs.declared.call.Call.{Call}
 use Rattle.cache_law.specs.declared.call.Call.TheVariants.{Begin, Draw, Lookup, Pick, Insert, Ban, BanList, Purge, Xkey, SetHealth, Load, Switch, Discard, VclList, Drop, End}
 use Rattle.journal_text.specs.declared.line.Line.{Line}
 use Rattle.journal_text.specs.declared.line.Line.TheVariants as line
 use Rattle.journal_text.specs.declared.word.Word.{Word}
-use Rattle.journal_text.specs.Reader.{ban_of, bare_call}
 use Rattle.journal_text.specs.Journals.{IsReadBan, text_of}
 use Rattle.journal_text.proofs.Spelling.{word_same}
-use Rattle.journal_text.proofs.Unique.{whole_same}
+use Rattle.journal_reader.proofs.Unique.{whole_same}
 use Rattle.journal_reader.specs.declared.fault.Fault.{Fault}
 use Rattle.journal_reader.specs.declared.fault.Fault.TheVariants.{Expected, NoBan, Otherwise, Longer}
 use Rattle.journal_reader.specs.declared.fault.Refusal.{Refusal}
 use Rattle.journal_reader.specs.Fronts.{StandFirst, columns, padded}
-use Rattle.journal_reader.specs.Reading.{Read, line_at}
+use Rattle.journal_reader.specs.Reading.{Read, ban_of, bare_call, line_at}
+use Rattle.journal_reader.proofs.Only.{ban_reads}
 use Rattle.journal_reader.specs.Refusals.{IsFault, IsNoBan, IsNoBanCall, IsReadAs, IsRefusal, Parts}
 
 -- a text has one list of words
@@ -33,26 +33,6 @@ front_same bytes (v ∷ words) (w ∷ others) s k =
     let more = front_same k.0 words others (subst at tails s.2) k.2 in
     let first : v ≡ w = sym one.looks ∙ (r.0 ∙ two.looks) in
     cc
-
--- a ban that was read is no refused one
-ban_reads : (call : Call) (error : BanError) → IsReadBan call → IsNoBanCall (bare_call call) error → ⊥
-unfolding ban_of
-ban_reads (Ban ban) error r n = n.1 (refusal_reads ban.words error ban.conditions n.0 r)
-ban_reads Begin error r n = n
-ban_reads Draw error r n = n
-ban_reads (Lookup query) error r n = n
-ban_reads (Pick number target word) error r n = n
-ban_reads (Insert token object stale) error r n = n
-ban_reads BanList error r n = n
-ban_reads (Purge key) error r n = n
-ban_reads (Xkey keys soft) error r n = n
-ban_reads (SetHealth backend health) error r n = n
-ban_reads (Load source) error r n = n
-ban_reads (Switch name) error r n = n
-ban_reads (Discard name) error r n = n
-ban_reads VclList error r n = n
-ban_reads (Drop token) error r n = n
-ban_reads End error r n = n
 
 -- the call of a line whose ban was read
 said_of : Line → Call

@@ -1,5 +1,5 @@
 -- What is written of a line is read.
-use Rattle.std.proofs.Common.{◌≡◌, ℕ, ℤ, pos, negsuc, ◌+◌, ◌-◌, ◌<◌, ◌^◌, Bool, true, false, List, [], ◌∷◌, ◌++◌, length, map, sym, subst, refl, arith, lt-ltb, append_assoc}
+use Rattle.std.proofs.Common.{◌≡◌, ℕ, ℤ, pos, negsuc, ◌+◌, ◌-◌, ◌<◌, ◌^◌, Bool, true, false, List, [], ◌∷◌, ◌++◌, length, map, sym, ap, subst, refl, arith, lt-ltb, append_assoc}
 use Rattle.std.specs.Prelude.{Option, Some, None, Ok, FitsSigned, codes}
 use Rattle.std.specs.Int.{w64}
 use Rattle.std.specs.List.{flat_map}
@@ -32,13 +32,24 @@ use Rattle.journal_text.specs.declared.shown.Shown.TheVariants as shown
 use Rattle.journal_text.specs.declared.shown.ShownBan.{ShownBan}
 use Rattle.journal_text.specs.declared.word.Word.{Word}
 use Rattle.journal_text.specs.declared.word.Word.TheVariants.{Key, Short, Middle, Long, Signed, Quoted}
-use Rattle.journal_text.specs.Words.{IsWord, AreWords}
+use Rattle.journal_text.specs.Words.{IsWord, AreWords, loose}
 use Rattle.journal_text.specs.Grammar.{texts_words, field_words, fields_words, item_words, count_words, vary_words, member_words, members_words, timing_words, content_words, marker_words, front_words, object_words, options_words, query_words, target_words, call_words, ban_line_words, vcl_line_words, shown_words, line_words, truth_word, number_or_absent, time_or_absent, text_or_absent, kind_key, health_key, state_key}
 use Rattle.journal_reader.specs.declared.fault.Wanted.{Wanted}
 use Rattle.journal_reader.specs.declared.fault.Wanted.TheVariants as wanted
-use Rattle.journal_text.specs.Reader.{loose, ban_of, bare_call, bare, marker_of}
-use Rattle.journal_text.proofs.Back.{looks, looks_joined, parts_of}
-use Rattle.journal_reader.specs.Reading.{long_at, middle_at, short_at, signed_at, key_of, text_at, truth_at, truth_of, named, number_or_absent_at, time_or_absent_at, text_or_absent_at, is_absent, equals_at, items_at, quoted_at, list_at, texts_at, field_at, fields_at, item_at, star_behind, count_at, vary_at, member_at, kind_of, kind_at, target_at, time_at, timing_at, content_at, object_of, object_kind_of, object_kind_at, object_at, options_at, query_at, health_of, health_at, source_at, lookup_at, pick_at, insert_at, ban_at, purge_at, xkey_at, set_health_at, load_at, switch_at, discard_at, drop_at, plain_call_of, plain_call_at, vcl_call_at, key_call_at, call_at, ban_line_at, state_of, state_at, vcl_line_at, numbered_of, numbered_kind_of, numbered_kind_at, numbered_at, began_at, grace_at, miss_at, picked_at, bans_at, is_set_at, loaded_at, vcls_at, refusal_of, plain_of, plain_reply_at, vcl_reply_at, reply_at, said_at, first_at, first_line_at, entry_line_at, mark_of, line_at, Read}
+use Rattle.journal_reader.specs.Reading.{long_at, middle_at, short_at, signed_at, key_of, text_at, truth_at, truth_of, named, number_or_absent_at, time_or_absent_at, text_or_absent_at, is_absent, equals_at, items_at, quoted_at, list_at, texts_at, field_at, fields_at, item_at, star_behind, count_at, vary_at, member_at, kind_of, kind_at, target_at, time_at, timing_at, content_at, object_of, object_kind_of, object_kind_at, object_at, options_at, query_at, health_of, health_at, source_at, lookup_at, pick_at, insert_at, ban_at, purge_at, xkey_at, set_health_at, load_at, switch_at, discard_at, drop_at, plain_call_of, plain_call_at, vcl_call_at, key_call_at, call_at, ban_line_at, state_of, state_at, vcl_line_at, numbered_of, numbered_kind_of, numbered_kind_at, numbered_at, began_at, grace_at, miss_at, picked_at, bans_at, is_set_at, loaded_at, vcls_at, refusal_of, plain_of, plain_reply_at, vcl_reply_at, reply_at, said_at, first_at, first_line_at, entry_line_at, mark_of, line_at, ban_of, bare, bare_call, marker_of, Read}
+
+-- words as they look, before others
+abbrev pub looks : List Word → List Word → List Word
+looks [] rest = rest
+looks (word ∷ words) rest = loose word ∷ looks words rest
+
+looks_joined : (a b rest : List Word) → looks (a ++ b) rest ≡ looks a (looks b rest)
+looks_joined [] b rest = refl
+looks_joined (word ∷ a) b rest = ap (λ r. loose word ∷ r) (looks_joined a b rest)
+
+parts_of : (a b : List Word) → AreWords (a ++ b) → AreWords a × AreWords b
+parts_of [] b h = (tt, h)
+parts_of (word ∷ a) b h = let r = parts_of a b h.1 in ((h.0, r.0), r.1)
 
 pub middle_back : (n : ℕ) (rest : List Word) → n < 2 ^ 32 → middle_at (Long n ∷ rest) ≡ Ok (n, rest)
 unfolding middle_at

@@ -13,7 +13,7 @@ use Rattle.journal_text.specs.Words.{AreWords, behind, line_text, word_text}
 use Rattle.journal_text.specs.Grammar.{line_words}
 use Rattle.journal_text.specs.Journals.{IsLine, lines_text, text_of}
 use Rattle.journal_text.proofs.Spelling.{Form, IsDigit, IsKeyByte, form_of, key_all, number_digits, named, counted, below, between}
-use Rattle.journal_text.proofs.Unique.{line_same}
+use Rattle.journal_reader.proofs.Unique.{line_same}
 use Rattle.journal_reader.specs.Histories.{AreLines}
 
 -- no LF stands in a text

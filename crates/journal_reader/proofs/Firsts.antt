@@ -14,8 +14,7 @@ use Rattle.units.specs.Quoted.{IsQuoted, IsQuotedAt, quote_of}
 use Rattle.units.proofs.Pieces.{chosen, place_of, quoted_same, quote_back}
 use Rattle.journal_text.specs.declared.word.Word.{Word}
 use Rattle.journal_text.specs.declared.word.Word.TheVariants.{Key, Short, Middle, Long, Signed, Quoted}
-use Rattle.journal_text.specs.Words.{IsWord, is_key, is_key_byte, word_text}
-use Rattle.journal_text.specs.Reader.{loose}
+use Rattle.journal_text.specs.Words.{IsWord, is_key, is_key_byte, loose, word_text}
 use Rattle.journal_text.proofs.Spelling.{Form, HasNoBlank, Starts, digits_no_blank, form_of, fronts_same, key_all, key_no_blank, number_digits, number_starts, named, counted, below, between}
 use Rattle.journal_reader.specs.Fronts.{IsParted, is_blank}
 

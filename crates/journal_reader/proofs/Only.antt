@@ -9,22 +9,20 @@ use Rattle.cache_law.specs.declared.call.Call.TheVariants.{Begin, Draw, Lookup, 
 use Rattle.journal_text.specs.declared.line.Line.{Line}
 use Rattle.journal_text.specs.declared.line.Line.TheVariants as line
 use Rattle.journal_text.specs.declared.word.Word.{Word}
-use Rattle.journal_text.specs.Words.{AreWords, behind, line_text, word_text}
+use Rattle.journal_text.specs.Words.{AreWords, behind, line_text, loose, word_text}
 use Rattle.journal_text.specs.Grammar.{line_words}
-use Rattle.journal_text.specs.Reader.{ban_of, bare, bare_call, loose}
 use Rattle.journal_text.specs.Journals.{HasReadBan, IsLine, IsReadBan, text_of}
-use Rattle.journal_text.proofs.Back.{looks}
 use Rattle.journal_text.proofs.Spelling.{word_same}
-use Rattle.journal_text.proofs.Unique.{line_same, whole_same}
 use Rattle.journal_reader.specs.declared.fault.Fault.{Fault}
 use Rattle.journal_reader.specs.declared.fault.Fault.TheVariants.{Expected, NoBan, Otherwise, Longer}
 use Rattle.journal_reader.specs.declared.fault.ReadError.{ReadError}
 use Rattle.journal_reader.specs.declared.fault.ReadError.TheVariants as errors
 use Rattle.journal_reader.specs.declared.fault.Refusal.{Refusal}
 use Rattle.journal_reader.specs.Fronts.{AreFront, StandFirst, padded}
-use Rattle.journal_reader.specs.Reading.{Read, line_at}
+use Rattle.journal_reader.specs.Reading.{Read, ban_of, bare, bare_call, line_at}
 use Rattle.journal_reader.specs.Refusals.{IsErrorOf, IsFault, IsNoBan, IsNoBanCall, IsReadAs, IsRefusal, Parts, agreed}
-use Rattle.journal_reader.proofs.Back.{line_back}
+use Rattle.journal_reader.proofs.Back.{line_back, looks}
+use Rattle.journal_reader.proofs.Unique.{HasWords, line_same, whole_same, words_in}
 
 -- words, each with a blank behind it
 spaced : List Word → List ℕ
@@ -59,18 +57,6 @@ same_front bytes (v ∷ words) (w ∷ all) s h e =
     let more = same_front s.0 words all s.2 h.1 tails in
     let one : v ≡ loose w = sym first.looks ∙ r.0 in
     cc
-
--- the words of a line, of which there is at least one
-record HasWords (one : Line) : Type 0 where
-  pub first : Word
-  pub rest : List Word
-  pub joined : line_words one ≡ first ∷ rest
-
-words_in : (one : Line) → HasWords one
-words_in (line.First first) = record { first = _; rest = _; joined = refl }
-words_in (line.Entry said) = record { first = _; rest = _; joined = refl }
-words_in line.Cut = record { first = _; rest = _; joined = refl }
-words_in line.Close = record { first = _; rest = _; joined = refl }
 
 -- what the words of a line's text say
 said_by : (text : List ℕ) (one : Line) (words : List Word) (places : List ℕ) → IsLine text one → AreFront (padded text) words places → line_at words ≡ Ok (bare one, [])
@@ -113,7 +99,7 @@ bare_twice line.Cut = refl
 bare_twice line.Close = refl
 
 -- a ban that was read is no refused one
-ban_reads : (call : Call) (error : BanError) → IsReadBan call → IsNoBanCall (bare_call call) error → ⊥
+pub ban_reads : (call : Call) (error : BanError) → IsReadBan call → IsNoBanCall (bare_call call) error → ⊥
 unfolding ban_of
 ban_reads (Ban ban) error r n = n.1 (refusal_reads ban.words error ban.conditions n.0 r)
 ban_reads Begin error r n = n

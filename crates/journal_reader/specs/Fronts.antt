@@ -3,8 +3,7 @@ use Rattle.std.specs.Prelude.{◌≡◌, ◌≢◌, ◌+◌, ◌==◌, ℕ, Bool
 use Rattle.std.specs.List.{AllByRecursion}
 use Rattle.units.specs.Signs.{blank}
 use Rattle.journal_text.specs.declared.word.Word.{Word}
-use Rattle.journal_text.specs.Words.{IsWord, word_text}
-use Rattle.journal_text.specs.Reader.{loose}
+use Rattle.journal_text.specs.Words.{IsWord, loose, word_text}
 
 -- a line as it is cut into words: each word has a blank behind it
 abbrev pub padded : List ℕ → List ℕ

@@ -7,11 +7,13 @@ use Rattle.directors.specs.declared.target.Member.{Member}
 use Rattle.directors.specs.declared.target.Target.{Target}
 use Rattle.freshness.specs.declared.times.Timing.{Timing}
 use Rattle.http_heads.specs.declared.fields.Field.{Field}
+use Rattle.cache_law.specs.declared.ban.Ban.{Ban as BanWords}
 use Rattle.cache_law.specs.declared.call.Call.{Call}
 use Rattle.cache_law.specs.declared.call.Call.TheVariants.{Begin, Draw, Lookup, Pick, Insert, Ban, BanList, Purge, Xkey, SetHealth, Load, Switch, Discard, VclList, Drop, End}
 use Rattle.cache_law.specs.declared.call.Options.{Options}
 use Rattle.cache_law.specs.declared.call.Query.{Query}
 use Rattle.cache_law.specs.declared.object.Content.{Content}
+use Rattle.cache_law.specs.declared.object.Marker.{Marker}
 use Rattle.cache_law.specs.declared.object.Object.{Object}
 use Rattle.cache_law.specs.declared.object.Object.TheVariants.{Ordinary, HitForMiss, HitForPass}
 use Rattle.cache_law.specs.declared.object.VaryItem.{VaryItem}
@@ -30,7 +32,6 @@ use Rattle.journal_text.specs.declared.shown.Shown.TheVariants as shown
 use Rattle.journal_text.specs.declared.shown.ShownBan.{ShownBan}
 use Rattle.journal_text.specs.declared.word.Word.{Word}
 use Rattle.journal_text.specs.declared.word.Word.TheVariants.{Key, Long, Signed, Quoted}
-use Rattle.journal_text.specs.Reader.{marker_of}
 use Rattle.journal_reader.specs.declared.fault.Halt.{Halt}
 use Rattle.journal_reader.specs.declared.fault.Halt.TheVariants as halt
 use Rattle.journal_reader.specs.declared.fault.Stop.{Stop}
@@ -208,6 +209,9 @@ content_at words = do
   Ok (record { key = key; vary = chosen.1; varies_always = chosen.0; status = status; reason = reason; fields = fields; body = body; xkeys = [] }, rest)
 
 -- Of a marker there is less: what else is written has to be as the writer puts it, which is told behind the words.
+unfoldable pub marker_of : Content → Timing → Marker
+marker_of content timing = record { key = content.key; vary = content.vary; status = content.status; origin = timing.origin; ttl = timing.ttl }
+
 unfoldable pub object_of : ObjectKind → Content → Timing → List (List ℕ) → Object
 object_of objects.OfResponse content timing xkeys = Ordinary (record { timing = timing; content = record content { xkeys = xkeys } })
 object_of objects.OfMiss content timing xkeys = HitForMiss (marker_of content timing)
@@ -283,10 +287,13 @@ insert_at words = do
   Ok (Insert token object stale, rest)
 
 -- a ban of these words, whose conditions are still to be read
+unfoldable pub ban_of : List (List ℕ) → BanWords
+ban_of words = record { words = words; conditions = [] }
+
 unfoldable pub ban_at : List Word → Read Call
 ban_at words = do
   (texts, rest) ← texts_at words
-  Ok (Ban (record { words = texts; conditions = [] }), rest)
+  Ok (Ban (ban_of texts), rest)
 
 unfoldable pub purge_at : List Word → Read Call
 purge_at words = do
@@ -528,6 +535,15 @@ unfoldable pub line_at : List Word → Read Line
 line_at words =
     if bytes_eq (key_of words) (codes "e") then entry_line_at (drop 1 words)
     else (if bytes_eq (key_of words) (codes "varn") then first_line_at (drop 1 words) else named wanted.Line (mark_of (key_of words)) words)
+
+-- a line without the conditions of its ban
+abbrev pub bare_call : Call → Call
+bare_call (Ban ban) = Ban (ban_of ban.words)
+bare_call call = call
+
+abbrev pub bare : Line → Line
+bare (line.Entry said) = line.Entry (record said { call = bare_call said.call })
+bare other = other
 
 -- what a reading function gives, of which want of memory alone is free
 abbrev pub Gives : {X : Type 0} → Result X Halt → List Word → Read X → Type 0

@@ -9,7 +9,6 @@ use Rattle.journal_text.specs.declared.line.Line.{Line}
 use Rattle.journal_text.specs.declared.line.Line.TheVariants as line
 use Rattle.journal_text.specs.declared.word.Word.{Word}
 use Rattle.journal_text.specs.Journals.{HasReadBan, text_of}
-use Rattle.journal_text.specs.Reader.{bare}
 use Rattle.journal_reader.specs.declared.fault.Fault.{Fault}
 use Rattle.journal_reader.specs.declared.fault.Fault.TheVariants.{Expected, NoBan, Otherwise, Longer}
 use Rattle.journal_reader.specs.declared.fault.ReadError.{ReadError}
@@ -17,7 +16,7 @@ use Rattle.journal_reader.specs.declared.fault.ReadError.TheVariants as errors
 use Rattle.journal_reader.specs.declared.fault.Refusal.{Refusal}
 use Rattle.journal_reader.specs.declared.fault.Stop.{Stop}
 use Rattle.journal_reader.specs.Fronts.{AreFront, padded}
-use Rattle.journal_reader.specs.Reading.{Read, line_at}
+use Rattle.journal_reader.specs.Reading.{Read, bare, line_at}
 
 -- how many bytes two texts have in common from their beginning on
 abbrev pub agreed : List ℕ → List ℕ → ℕ

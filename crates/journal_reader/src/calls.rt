@@ -46,7 +46,7 @@ fn insert(cursor: &mut Cursor<'_>, alloc: Global) -> Result<Call, Halt>
 }
 
 // A ban of these words, whose conditions are still to be read.
-#[tactic(auto, unfolding(crate::specs::Reading::ban_at))]
+#[tactic(auto, unfolding(crate::specs::Reading::ban_at, crate::specs::Reading::ban_of))]
 fn ban(cursor: &mut Cursor<'_>, alloc: Global) -> Result<Call, Halt>
     ensures { Gives result cursor.new (ban_at cursor.old) }
 {

@@ -1,7 +1,6 @@
 // Objects, targets and queries.
 ghost use Rattle.std.specs.Prelude.{◌≡◌, IfOk};
-ghost use Rattle.journal_text.specs.Reader.{marker_of as marker_made};
-ghost use Rattle.journal_reader.specs.Reading.{Gives, content_at, kind_at, object_at, object_kind_at, object_of as object_made, options_at, query_at, source_at, target_at, timing_at, vary_at};
+ghost use Rattle.journal_reader.specs.Reading.{Gives, content_at, kind_at, marker_of as marker_made, object_at, object_kind_at, object_of as object_made, options_at, query_at, source_at, target_at, timing_at, vary_at};
 
 use crate::cursor::Cursor;
 use crate::fault::{Halt, Wanted};
@@ -94,7 +93,7 @@ fn object_kind(cursor: &mut Cursor<'_>) -> Result<ObjectKind, Halt>
 }
 
 // What a marker keeps.
-#[tactic(auto, unfolding(journal_text::specs::Reader::marker_of))]
+#[tactic(auto, unfolding(crate::specs::Reading::marker_of))]
 fn marker_of(content: Content, timing: Timing) -> Marker
     ensures { result ≡ marker_made content timing }
 {

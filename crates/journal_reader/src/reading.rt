@@ -7,9 +7,8 @@ ghost use Rattle.journal_text.specs.declared.word.Word.{Word as JournalWord};
 ghost use Rattle.journal_text.specs.Words.{AreWords};
 ghost use Rattle.journal_text.specs.Grammar.{line_words};
 ghost use Rattle.journal_text.specs.Journals.{IsLine, IsReadBan, text_of};
-ghost use Rattle.journal_text.specs.Reader.{bare_call};
 ghost use Rattle.journal_reader.specs.declared.fault.ReadError.TheVariants as errors;
-ghost use Rattle.journal_reader.specs.Reading.{line_at};
+ghost use Rattle.journal_reader.specs.Reading.{bare_call, line_at};
 ghost use Rattle.journal_reader.specs.Refusals.{IsBanFault, IsErrorOf, IsFoundBy, IsNoBan, IsNoBanCall, IsParting, IsReadAs, Parts, Tells, agreed as agreed_by, no_ban};
 
 use crate::cursor::Cursor;

@@ -5,8 +5,7 @@ ghost use Rattle.std.specs.Fmt.{decimal};
 ghost use Rattle.units.specs.Numbers.{IsNumber};
 ghost use Rattle.units.specs.Signs.{blank, quote_mark};
 ghost use Rattle.journal_text.specs.declared.word.Word.{Word as Spelled};
-ghost use Rattle.journal_text.specs.Words.{IsWord, is_key as is_key_text, is_key_byte as is_byte_of_key, word_text};
-ghost use Rattle.journal_text.specs.Reader.{loose};
+ghost use Rattle.journal_text.specs.Words.{IsWord, is_key as is_key_text, is_key_byte as is_byte_of_key, loose, word_text};
 ghost use Rattle.journal_reader.specs.Fronts.{IsFirst, IsParted, StandFirst, is_blank};
 
 use journal_text::Word;

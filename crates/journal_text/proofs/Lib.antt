@@ -1,4 +1,2 @@
 pub mod Behind
 pub mod Spelling
-pub mod Back
-pub mod Unique

@@ -15,8 +15,7 @@ use Rattle.units.proofs.Numerals.{spelled}
 use Rattle.units.proofs.Pieces.{quoted_same, quote_back}
 use Rattle.journal_text.specs.declared.word.Word.{Word}
 use Rattle.journal_text.specs.declared.word.Word.TheVariants.{Key, Short, Middle, Long, Signed, Quoted}
-use Rattle.journal_text.specs.Words.{word_text, behind, line_text, is_key, is_key_byte, IsWord, AreWords}
-use Rattle.journal_text.specs.Reader.{loose}
+use Rattle.journal_text.specs.Words.{word_text, behind, line_text, is_key, is_key_byte, loose, IsWord, AreWords}
 
 -- what is known of each byte of a key, and of each digit
 pub record IsKeyByte (byte : ℕ) : Type 0 where

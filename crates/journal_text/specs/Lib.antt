@@ -1,4 +1,3 @@
 pub mod Words
 pub mod Grammar
 pub mod Journals
-pub mod Reader

@@ -1,5 +1,5 @@
 -- The words of a journal's lines: keys, numbers and quoted texts, with one blank between two.
-use Rattle.std.specs.Prelude.{◌≡◌, ◌<◌, ◌^◌, ◌&&◌, ◌||◌, nat_lt, ℕ, Bool, true, false, List, [], ◌∷◌, ◌++◌, slice_index, FitsSigned}
+use Rattle.std.specs.Prelude.{◌≡◌, ◌<◌, ◌^◌, ◌&&◌, ◌||◌, nat_lt, ℕ, pos, negsuc, Bool, true, false, List, [], ◌∷◌, ◌++◌, slice_index, FitsSigned}
 use Rattle.std.specs.List.{AllByRecursion, flat_map, list_all}
 use Rattle.std.specs.Int.{w64}
 use Rattle.std.specs.Fmt.{decimal, signed_decimal}
@@ -49,3 +49,13 @@ IsWord (Quoted text) = (i : ℕ) → slice_index text i < 256
 
 abbrev pub AreWords : List Word → Type 0
 AreWords words = AllByRecursion IsWord words
+
+-- a word as it looks: a number that isn't below zero is one of 64 bits
+abbrev pub loose : Word → Word
+loose (Key text) = Key text
+loose (Short n) = Long n
+loose (Middle n) = Long n
+loose (Long n) = Long n
+loose (Signed (pos n)) = Long n
+loose (Signed (negsuc n)) = Signed (negsuc n)
+loose (Quoted text) = Quoted text

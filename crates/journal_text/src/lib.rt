@@ -1,11 +1,10 @@
-//! The journal of a run: how a history is written as lines of text, and how a line is read.
+//! The journal of a run: how a history is written as lines of text.
 //!
-//! Contract for the layer above: what is written of an entry is the one text that `specs/Grammar.antt` gives it, and a text
-//! is read as a line exactly where it is the text of one, which is then the line that is read.
+//! Contract for the layer above: what is written of an entry is the one text that `specs/Grammar.antt` gives it, with numbers
+//! within the range of their types.
 #![tactic(auto)]
 
 mod calls;
-mod laws;
 mod line;
 mod parts;
 mod putting;
@@ -17,7 +16,6 @@ mod word;
 mod words;
 mod writer;
 
-pub use laws::one_line;
 pub use line::{First, Line, Said};
 pub use showing::show;
 pub use shown::{Shown, ShownBan};

@@ -1,5 +1,5 @@
 -- A session has one text, one scene, one history and one ending.
-use Rattle.std.proofs.Common.{◌≡◌, ◌≢◌, false, inl, inr, ℕ, List, [], ◌∷◌, ◌++◌, Option, Some, None, refl, sym, ◌∙◌, ap, subst, append_assoc}
+use Rattle.std.proofs.Common.{◌≡◌, ◌≢◌, false, inl, inr, ℕ, List, [], ◌∷◌, ◌++◌, Option, Some, None, refl, sym, ◌∙◌, ap, subst, append_assoc, length, length-append, arith}
 use Rattle.std.proofs.lemmas.List.{append-nil, append_cancel_left, map-append}
 use Rattle.std.proofs.lemmas.Bool.{true≢false}
 use Rattle.std.specs.List.{flat_map}
@@ -13,7 +13,7 @@ use Rattle.cache_law.specs.declared.call.Call.TheVariants.{Insert, BanList}
 use Rattle.cache_law.specs.Beginning.{Beginning}
 use Rattle.cache_law.specs.Law.{step_of, MayAnswer}
 use Rattle.cache_law.specs.Core.{FitsBehind}
-use Rattle.cache_law.specs.History.{FollowAll, Legal, WithinAll, next_state, reached, bytes_of_all}
+use Rattle.cache_law.specs.History.{Fits, FollowAll, Legal, WithinAll, next_state, reached, bytes_of_all}
 use Rattle.cache_law.proofs.Histories.{reached-push, bytes_of_all-push}
 use Rattle.replay.specs.declared.policy.Request.{Request}
 use Rattle.replay.specs.declared.policy.Want.TheVariants.{Ask}
@@ -188,29 +188,30 @@ module _ (plan : Plan) (one_want : HasOneWant plan.wants) (script : Script) wher
   module _ (Sure : List Entry → List Entry → Type 0)
       (on : (before : List Entry) (entry : Entry) (more : List Entry) → Sure before (entry ∷ more) → Sure (before ++ entry ∷ []) more)
       (one_entry : (before : List Entry) (entry other : Entry) (more others : List Entry) → Sure before (entry ∷ more) → Sure before (other ∷ others) → other.caller ≡ entry.caller → other.moment ≡ entry.moment → other.call ≡ entry.call → other ≡ entry)
-      (fits : (before : List Entry) (entry : Entry) (more : List Entry) → Sure before (entry ∷ more) → FitsBehind plan.beginning before entry.caller entry.moment entry.call) where
-    -- no call that doesn't fit is entered, and no other move made
-    stuck_full : (scene : Scene) (left : List Event) (history : List Entry) → WantsTooMuch plan history scene → IsStuck plan one_want Sure on one_entry scene left history
-    stuck_full scene left history full (hears (events.Moment moment)) new others more next split sure = let turn = full.runs.turn in let none = next.0.nobody_runs in absurd (cc)
-    stuck_full scene left history full (hears (events.Request request)) new others more next split sure = let turn = full.runs.turn in let none = next.0.nobody_runs in absurd (cc)
-    stuck_full scene left history full (hears (events.Reply number heard)) new others more next split sure = let turn = full.runs.turn in let none = next.1.nobody_runs in absurd (cc)
-    stuck_full scene left history full (hears (events.Aside (asides.Lurk count))) new others more next split sure = let turn = full.runs.turn in let none = next.0.nobody_runs in absurd (cc)
-    stuck_full scene left history full (hears (events.Aside (asides.Probe backend good))) new others more next split sure = absurd next
-    stuck_full scene left history full (calls entry) new others more next split sure =
+      (Ends : List Entry → Type 0)
+      (fits : (before : List Entry) (entry : Entry) (more : List Entry) → Ends before → Sure before (entry ∷ more) → FitsBehind plan.beginning before entry.caller entry.moment entry.call) where
+    -- where a run ends no call that doesn't fit is entered, and no other move made
+    stuck_full : (scene : Scene) (left : List Event) (history : List Entry) → Ends history → WantsTooMuch plan history scene → IsStuck plan one_want Sure on one_entry scene left history
+    stuck_full scene left history over full (hears (events.Moment moment)) new others more next split sure = let turn = full.runs.turn in let none = next.0.nobody_runs in absurd (cc)
+    stuck_full scene left history over full (hears (events.Request request)) new others more next split sure = let turn = full.runs.turn in let none = next.0.nobody_runs in absurd (cc)
+    stuck_full scene left history over full (hears (events.Reply number heard)) new others more next split sure = let turn = full.runs.turn in let none = next.1.nobody_runs in absurd (cc)
+    stuck_full scene left history over full (hears (events.Aside (asides.Lurk count))) new others more next split sure = let turn = full.runs.turn in let none = next.0.nobody_runs in absurd (cc)
+    stuck_full scene left history over full (hears (events.Aside (asides.Probe backend good))) new others more next split sure = absurd next
+    stuck_full scene left history over full (calls entry) new others more next split sure =
         let same = same_round plan one_want scene full.round next.0 (Ask full.call) (Ask entry.call) full.runs next.1 in
         let call : entry.call ≡ full.call = cc in
         let who : entry.caller ≡ full.round.request.client = next.2 ∙ ap (λ (r : Round). r.request.client) same.0 in
         full.full (subst (λ (x : Call). FitsBehind plan.beginning history full.round.request.client scene.moment x) call
         (subst (λ (x : ℕ). FitsBehind plan.beginning history full.round.request.client x entry.call) next.3
-        (subst (λ (x : ℕ). FitsBehind plan.beginning history x entry.moment entry.call) who (fits history entry more sure))))
-    stuck_full scene left history full (fetches number backend request) new others more next split sure =
+        (subst (λ (x : ℕ). FitsBehind plan.beginning history x entry.moment entry.call) who (fits history entry more over sure))))
+    stuck_full scene left history over full (fetches number backend request) new others more next split sure =
         let same = same_round plan one_want scene full.round next.0 _ _ full.runs next.1 in absurd (cc)
-    stuck_full scene left history full (sends client response) new others more next split sure =
+    stuck_full scene left history over full (sends client response) new others more next split sure =
         let same = same_round plan one_want scene full.round next.0 _ _ full.runs next.1 in absurd (cc)
-    stuck_full scene left history full (parks token) new others more next split sure =
+    stuck_full scene left history over full (parks token) new others more next split sure =
         let same = same_round plan one_want scene full.round next.0 _ _ full.runs next.1 in absurd (cc)
-    stuck_full scene left history full wakes new others more next split sure = let turn = full.runs.turn in let none = next.1 in absurd (cc)
-    stuck_full scene left history full ends new others more next split sure =
+    stuck_full scene left history over full wakes new others more next split sure = let turn = full.runs.turn in let none = next.1 in absurd (cc)
+    stuck_full scene left history over full ends new others more next split sure =
         let same = same_round plan one_want scene full.round next.0 _ _ full.runs next.1 in absurd (cc)
 
     -- no idle event is heard
@@ -221,23 +222,23 @@ module _ (plan : Plan) (one_want : HasOneWant plan.wants) (script : Script) wher
         let same : only.0 ≡ event = cc in
         not_heard scene new event idle (subst (λ (x : Event). Hears scene x new) same only.2)
 
-    stuck_why : (history : List Entry) (scene : Scene) (heard left : List Event) (ending : Option ReplayError) → IsWhy plan script history scene heard left ending → IsStuck plan one_want Sure on one_entry scene left history
+    stuck_why : (history : List Entry) (scene : Scene) (heard left : List Event) (ending : Option ReplayError) → Ends history → IsWhy plan script history scene heard left ending → IsStuck plan one_want Sure on one_entry scene left history
     unfolding IsWhy
-    stuck_why history scene heard left None why = stuck_at_rest plan one_want Sure on one_entry scene left history why.0 why.1
-    stuck_why history scene heard left (Some (Unanswered line)) why = stuck_at_rest plan one_want Sure on one_entry scene left history why.0 why.1
-    stuck_why history scene heard left (Some (Idle line)) why = stuck_idle scene why.1.event left (events_in why.2) history why.6 why.7 why.8
-    stuck_why history scene heard left (Some HistoryFull) why = stuck_full scene left history why
-    stuck_why history scene heard left (Some WriteFault) why = absurd why
-    stuck_why history scene heard left (Some NoMemory) why = absurd why
+    stuck_why history scene heard left None over why = stuck_at_rest plan one_want Sure on one_entry scene left history why.0 why.1
+    stuck_why history scene heard left (Some (Unanswered line)) over why = stuck_at_rest plan one_want Sure on one_entry scene left history why.0 why.1
+    stuck_why history scene heard left (Some (Idle line)) over why = stuck_idle scene why.1.event left (events_in why.2) history why.6 why.7 why.8
+    stuck_why history scene heard left (Some HistoryFull) over why = stuck_full scene left history over why
+    stuck_why history scene heard left (Some WriteFault) over why = absurd why
+    stuck_why history scene heard left (Some NoMemory) over why = absurd why
 
-    one_end : (history other : List Entry) (before now before2 now2 : Option (List ℕ)) (ending ending2 : Option ReplayError) (e : Ended plan script history before now ending) (f : Ended plan script other before2 now2 ending2) → Sure [] history → Sure [] other → (f.run.moves ≡ e.run.moves) × (f.scene ≡ e.scene)
-    one_end history other before now before2 now2 ending ending2 e f sure sure2 =
+    one_end : (history other : List Entry) (before now before2 now2 : Option (List ℕ)) (ending ending2 : Option ReplayError) (e : Ended plan script history before now ending) (f : Ended plan script other before2 now2 ending2) → Ends history → Ends other → Sure [] history → Sure [] other → (f.run.moves ≡ e.run.moves) × (f.scene ≡ e.scene)
+    one_end history other before now before2 now2 ending ending2 e f over over2 sure sure2 =
         let all : flat_map events_of e.run.moves ++ e.left ≡ flat_map events_of f.run.moves ++ f.left =
         ap (λ (xs : List Event). xs ++ e.left) e.run.reads ∙ (sym e.split ∙ (f.split ∙ ap (λ (xs : List Event). xs ++ f.left) (sym f.run.reads))) in
         one_way plan one_want Sure on one_entry (opening_scene plan) e.scene f.scene e.run.moves f.run.moves e.left f.left e.run.path f.run.path all
         (subst (λ (es : List Entry). Sure [] es) (sym e.run.enters) sure) (subst (λ (es : List Entry). Sure [] es) (sym f.run.enters) sure2)
-        (subst (λ (h : List Entry). IsStuck plan one_want Sure on one_entry e.scene e.left h) (sym e.run.enters) (stuck_why history e.scene e.heard e.left ending e.why))
-        (subst (λ (h : List Entry). IsStuck plan one_want Sure on one_entry f.scene f.left h) (sym f.run.enters) (stuck_why other f.scene f.heard f.left ending2 f.why))
+        (subst (λ (h : List Entry). IsStuck plan one_want Sure on one_entry e.scene e.left h) (sym e.run.enters) (stuck_why history e.scene e.heard e.left ending over e.why))
+        (subst (λ (h : List Entry). IsStuck plan one_want Sure on one_entry f.scene f.left h) (sym f.run.enters) (stuck_why other f.scene f.heard f.left ending2 over2 f.why))
 
   -- one scene and what is left there tell the ending
   same_ending : (history other : List Entry) (scene scene2 : Scene) (heard heard2 left left2 : List Event) (ending ending2 : Option ReplayError) → scene2 ≡ scene → heard2 ≡ heard → left2 ≡ left → IsWhy plan script history scene heard left ending → IsWhy plan script other scene2 heard2 left2 ending2 → ending2 ≡ ending
@@ -279,10 +280,15 @@ module _ (plan : Plan) (one_want : HasOneWant plan.wants) (script : Script) wher
         subst (λ (t : List ℕ). Appends before2 now2 t) text f.holds,
       )
 
--- these entries stand behind those before them in a legal history
-record IsLegalWithin (beginning : Beginning) (all before more : List Entry) : Type 0 where
-  legal : AreLegal beginning before more
-  within : IsWithin all before more
+-- behind the whole list no entry stands
+no_more : (all before : List Entry) (entry : Entry) (more : List Entry) → before ≡ all → IsWithin all before (entry ∷ more) → ⊥
+no_more all before entry more whole is = omega (arith, ap length is.1, length-append before ((entry ∷ more) ++ is.0), ap length whole)
+
+-- an entry to which the law leaves one answer fits by the law
+lawful_fits : (beginning : Beginning) (before : List Entry) (entry : Entry) (more : List Entry) → IsLawful beginning before (entry ∷ more) → FitsBehind beginning before entry.caller entry.moment entry.call
+lawful_fits beginning before entry more is =
+    subst (λ (r : Reply). Fits beginning.params (reached beginning before) (bytes_of_all before) (record entry { reply = r }))
+    (told (at_moment entry.moment (reached beginning before)) entry.call _ entry.reply is.legal.follow.0.answer is.kept.0.0 is.kept.0.1) is.legal.within.0
 
 legal_of : (plan : Plan) (script : Script) (history : List Entry) (before now : Option (List ℕ)) (ending : Option ReplayError) → IsOwnEnding ending → EndsSo plan script history before now ending → Legal plan.beginning history
 legal_of plan script history before now None own e = e.legal
@@ -296,20 +302,20 @@ pub one_ending : (plan : Plan) → HasOneWant plan.wants → OneEnding plan
 one_ending plan one_want script history other before now before2 now2 ending ending2 so too own own2 (inl same) =
     let e = ended plan script history before now ending own so in
     let f = ended plan script other before2 now2 ending2 own2 too in
-    let legal = legal_of plan script history before now ending own so in
-    let sure : IsLegalWithin plan.beginning history [] history = record { legal = all_legal plan.beginning history legal; within = within_all history history refl } in
+    let sure : IsWithin history [] history = within_all history history refl in
     one_told plan one_want script history other before now before2 now2 ending ending2 e f
-    (one_end plan one_want script (IsLegalWithin plan.beginning history)
-    (λ before entry more is. record { legal = legal_on plan.beginning before entry more is.legal; within = within_on history before entry more is.within })
-    (λ before entry other more others s t who when what. within_one history before entry other more others s.within t.within)
-    (λ before entry more is. is.legal.within.0)
-    history other before now before2 now2 ending ending2 e f sure (subst (λ (h : List Entry). IsLegalWithin plan.beginning history [] h) (sym same) sure))
+    (one_end plan one_want script (IsWithin history) (within_on history)
+    (λ before entry other more others s t who when what. within_one history before entry other more others s t)
+    (λ (before : List Entry). before ≡ history)
+    (λ before entry more whole is. absurd (no_more history before entry more whole is))
+    history other before now before2 now2 ending ending2 e f refl same sure (subst (λ (h : List Entry). IsWithin history [] h) (sym same) sure))
 one_ending plan one_want script history other before now before2 now2 ending ending2 so too own own2 (inr kept) =
     let e = ended plan script history before now ending own so in
     let f = ended plan script other before2 now2 ending2 own2 too in
     one_told plan one_want script history other before now before2 now2 ending ending2 e f
     (one_end plan one_want script (IsLawful plan.beginning) (lawful_on plan.beginning) (lawful_one plan.beginning)
-    (λ before entry more is. is.legal.within.0)
-    history other before now before2 now2 ending ending2 e f
+    (λ (before : List Entry). Unit {0})
+    (λ before entry more over is. lawful_fits plan.beginning before entry more is)
+    history other before now before2 now2 ending ending2 e f tt tt
     (record { legal = all_legal plan.beginning history (legal_of plan script history before now ending own so); kept = kept.0 })
     (record { legal = all_legal plan.beginning other (legal_of plan script other before2 now2 ending2 own2 too); kept = kept.1 }))

@@ -1,4 +1,4 @@
-use Rattle.journal_text.proofs.Unique.{line_same}
+use Rattle.journal_reader.proofs.Unique.{line_same}
 use Rattle.journal_reader.proofs.laws.one_text.Goals as goal
 
 pub returns : goal.returns

@@ -124,7 +124,7 @@ invariant_of-self-2 g c =
       at_ = search rules;
       fits = c.in-Ok.ensures.fits;
     } in
-    let done : Done g.S.Shelf.Stands made = record { new = c.answer_within-answered.new.desk; kept = c.answer_within-answered.new.shelf; answer = c.in-Ok-answered.answer; joined = c.in-Ok-answered.ensures.ok beginning c.self.inside.entries.items refl (made_stands g.S.Shelf.Stands made) (later g.S.Shelf.Stands made); refuses = c.answer_within-answered.ensures.refuses } in
+    let done : Done g.S.Shelf.Stands made = record { new = c.answer_within-answered.new.desk; kept = c.answer_within-answered.new.shelf; answer = c.in-Ok-answered.answer; joined = c.in-Ok-answered.ensures.ok beginning c.self.inside.entries.items refl (made_stands g.S.Shelf.Stands made) (later g.S.Shelf.Stands made); refuses = c.in-Ok-answered.ensures.refuses } in
     let bytes : c.entry_bytes.result ≡ bytes_of c.args.call = omega (arith, made.fits.within.0) in
     let items : c.push_within_room.new.entries.items ≡ c.self.inside.entries.items ++ entry_of c.args.caller c.max-moment.result c.args.call c.in-Ok-answered.answer.kept ∷ [] = search rules in
     let room = room_behind g.S.Shelf.Stands made done _ _ (vec_capacity c.answer_within-answered.new.entries) (vec_capacity c.push_within_room.new.entries) c.in-Ok-answered.ensures.left (ap length c.answer_within-answered.ensures.same) refl c.push_within_room.ensures.room c.answer_within-answered.ensures.larger in
@@ -152,7 +152,7 @@ returns-clause-told g c =
       at_ = search rules;
       fits = c.in-Ok.ensures.fits;
     } in
-    let done : Done g.S.Shelf.Stands made = record { new = c.answer_within-answered.new.desk; kept = c.answer_within-answered.new.shelf; answer = c.in-Ok-answered.answer; joined = c.in-Ok-answered.ensures.ok beginning c.self.inside.entries.items refl (made_stands g.S.Shelf.Stands made) (later g.S.Shelf.Stands made); refuses = c.answer_within-answered.ensures.refuses } in
+    let done : Done g.S.Shelf.Stands made = record { new = c.answer_within-answered.new.desk; kept = c.answer_within-answered.new.shelf; answer = c.in-Ok-answered.answer; joined = c.in-Ok-answered.ensures.ok beginning c.self.inside.entries.items refl (made_stands g.S.Shelf.Stands made) (later g.S.Shelf.Stands made); refuses = c.in-Ok-answered.ensures.refuses } in
     let bytes : c.entry_bytes.result ≡ bytes_of c.args.call = omega (arith, made.fits.within.0) in
     let items : c.push_within_room.new.entries.items ≡ c.self.inside.entries.items ++ entry_of c.args.caller c.max-moment.result c.args.call c.in-Ok-answered.answer.kept ∷ [] = search rules in
     rw (← c.self.view_is, items) (entered g.S.Shelf.Stands made done c.len-place.result (search rules))
@@ -178,7 +178,7 @@ returns-clause-legal g c =
       at_ = search rules;
       fits = c.in-Ok.ensures.fits;
     } in
-    let done : Done g.S.Shelf.Stands made = record { new = c.answer_within-answered.new.desk; kept = c.answer_within-answered.new.shelf; answer = c.in-Ok-answered.answer; joined = c.in-Ok-answered.ensures.ok beginning c.self.inside.entries.items refl (made_stands g.S.Shelf.Stands made) (later g.S.Shelf.Stands made); refuses = c.answer_within-answered.ensures.refuses } in
+    let done : Done g.S.Shelf.Stands made = record { new = c.answer_within-answered.new.desk; kept = c.answer_within-answered.new.shelf; answer = c.in-Ok-answered.answer; joined = c.in-Ok-answered.ensures.ok beginning c.self.inside.entries.items refl (made_stands g.S.Shelf.Stands made) (later g.S.Shelf.Stands made); refuses = c.in-Ok-answered.ensures.refuses } in
     let bytes : c.entry_bytes.result ≡ bytes_of c.args.call = omega (arith, made.fits.within.0) in
     let items : c.push_within_room.new.entries.items ≡ c.self.inside.entries.items ++ entry_of c.args.caller c.max-moment.result c.args.call c.in-Ok-answered.answer.kept ∷ [] = search rules in
     rw (← c.self.view_is, items) (legal_behind _ _ _ _ _ _ _ (entered g.S.Shelf.Stands made done _ refl))

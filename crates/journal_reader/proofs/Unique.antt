@@ -1,6 +1,6 @@
 -- A text is one line.
 use Rattle.std.proofs.Common.{◌≡◌, ◌⊎◌, inl, inr, ℕ, List, [], ◌∷◌, map, sym, ap, ◌∙◌, subst, refl}
-use Rattle.std.specs.Prelude.{Option, Some, None}
+use Rattle.std.specs.Prelude.{Ok, Err}
 use Rattle.ban_expr.specs.Reading.{Reads}
 use Rattle.ban_expr.proofs.Ones.{one_reading}
 use Rattle.cache_law.specs.declared.ban.Ban.{Ban as BanWords}
@@ -11,24 +11,24 @@ use Rattle.journal_text.specs.declared.line.Line.TheVariants as line
 use Rattle.journal_text.specs.declared.line.Said.{Said}
 use Rattle.journal_text.specs.declared.shown.Shown.{Shown}
 use Rattle.journal_text.specs.declared.word.Word.{Word}
-use Rattle.journal_text.specs.Words.{AreWords, line_text}
+use Rattle.journal_text.specs.Words.{AreWords, line_text, loose}
 use Rattle.journal_text.specs.Grammar.{line_words}
-use Rattle.journal_text.specs.Reader.{loose, line_at, bare, bare_call, ban_of}
 use Rattle.journal_text.specs.Journals.{IsLine, HasReadBan, IsReadBan, text_of}
 use Rattle.journal_text.proofs.Spelling.{words_same}
-use Rattle.journal_text.proofs.Back.{looks, line_back}
+use Rattle.journal_reader.specs.Reading.{Read, ban_of, bare, bare_call, line_at}
+use Rattle.journal_reader.proofs.Back.{looks, line_back}
 
 looks_map : (words : List Word) → looks words [] ≡ map loose words
 looks_map [] = refl
 looks_map (word ∷ words) = ap (λ r. loose word ∷ r) (looks_map words)
 
 -- the words of a line, of which there is at least one
-record HasWords (one : Line) : Type 0 where
+pub record HasWords (one : Line) : Type 0 where
   pub first : Word
   pub rest : List Word
   pub joined : line_words one ≡ first ∷ rest
 
-words_in : (one : Line) → HasWords one
+pub words_in : (one : Line) → HasWords one
 words_in (line.First first) = record { first = _; rest = _; joined = refl }
 words_in (line.Entry said) = record { first = _; rest = _; joined = refl }
 words_in line.Cut = record { first = _; rest = _; joined = refl }
@@ -126,9 +126,9 @@ whole_same line.Close (line.First other) e h k = e
 whole_same line.Close line.Cut e h k = e
 whole_same line.Close line.Close e h k = e
 
-found_of : Option (Line × List Word) → Line
-found_of None = line.Close
-found_of (Some found) = found.0
+found_of : Read Line → Line
+found_of (Ok found) = found.0
+found_of (Err stop) = line.Close
 
 pub line_same : (text : List ℕ) (some other : Line) → IsLine text some → IsLine text other → some ≡ other
 unfolding found_of
@@ -138,5 +138,7 @@ line_same text some other h k =
     let looks_same : map loose (line_words some) ≡ map loose (line_words other) =
     loose_same (line_words some) (line_words other) a.first b.first a.rest b.rest a.joined b.joined h.words k.words (sym h.written ∙ k.written) in
     let words = looks_map (line_words some) ∙ (looks_same ∙ sym (looks_map (line_words other))) in
-    let found : Some (bare some, []) ≡ Some (bare other, []) = sym (line_back some h.words) ∙ (ap line_at words ∙ line_back other k.words) in
+    let one : Read Line = Ok (bare some, []) in
+    let two : Read Line = Ok (bare other, []) in
+    let found : one ≡ two = sym (line_back some h.words) ∙ (ap line_at words ∙ line_back other k.words) in
     whole_same some other (ap found_of found) h.bans k.bans

@@ -1,5 +1,0 @@
-use Rattle.journal_text.proofs.Unique.{line_same}
-use Rattle.journal_text.proofs.laws.one_line.Goals as goal
-
-pub returns : goal.returns
-returns c = λ text some other h k. line_same text some other h k
