@@ -33,6 +33,10 @@ cp examples/sessions/grace.transcript "$work/here/site.transcript"
 sed -n 's/^    \(192\.0\.2\.7 - - .*\)$/\1/p' docs/OPERATING.md > "$work/here/site.log"
 export PATH=$work/bin:$PATH PROGRAM=$program
 
+free_port() {
+  python3 -c 'import socket; s = socket.socket(); s.bind(("127.0.0.1", 0)); print(s.getsockname()[1])'
+}
+
 failed=0
 tell() { printf '%-5s %s\n' "$1" "$2"; }
 # runs STATUS COMMAND: the command ends so in the reader's folder
@@ -51,7 +55,7 @@ runs() {
 # serves COMMAND: it serves, and each curl command that it prints is answered
 serves() {
   local port
-  port=$(python3 -c 'import socket; s = socket.socket(); s.bind(("127.0.0.1", 0)); print(s.getsockname()[1])')
+  port=$(free_port)
   : > "$work/served"
   (cd "$top" && PORT=$port exec bash -c "exec $1") >> "$work/served" 2>&1 &
   serving=$!
@@ -75,6 +79,23 @@ serves() {
   serving=
 }
 
+# operates COMMAND: a server has a console at the port that the command names
+operates() {
+  printf 'vcl 4.1;\nbackend default none;\n' > "$work/none.vcl"
+  local console
+  console=$(free_port)
+  varn serve --listen "$(free_port)" --vcl "$work/none.vcl" --workers 1 --cli "$console" > /dev/null 2> "$work/served" &
+  serving=$!
+  for _ in {1..300}; do
+    grep -q '^console at' "$work/served" && break
+    sleep 0.1
+  done
+  runs 0 "${1/-T 6082/-T $console}"
+  kill "$serving" 2> /dev/null
+  wait "$serving" 2> /dev/null
+  serving=
+}
+
 # The commands of the pages, each once: indented lines, and those that stand between backquotes with a word behind them.
 commands() {
   grep -hE '^    (varn|out|tools|examples|contrib|bench|\.ci|cd|rt|curl)[/ ]' README.md docs/*.md | sed 's/^ *//'
@@ -89,7 +110,7 @@ while read -r command; do
       tell - "$command (not run: it takes long)" ;;
     'varn serve' | 'varn load' | 'varn replay' | *[[\ ][A-Z]\ * | *SESSION*) tell - "$command (not run: a form)" ;;
     examples/serve.sh*) serves "$command" ;;
-    contrib/varnadm\ *) tell - "$command (not run: no server has a console here; tools/varnadm_test.py tries it)" ;;
+    contrib/varnadm\ -T\ 6082\ *) operates "$command" ;;
     'tools/varn_top.py LOG') runs 0 "tools/varn_top.py --once site.log | grep -q '^ *1 *0  /a$'" ;;
     'tools/port_vcl.py FILE') runs 1 "${command/FILE/examples/port/blog.vcl}" ;;
     varn* | out/try/varn* | contrib/check-vcl\ * | tools/examples.py\ *) runs 0 "$command" ;;
@@ -102,11 +123,9 @@ while read -r command; do
   esac
 done < <(commands | sort -u)
 
-# What the pages say of these files. The VCL of probes has an attribute without an effect so far, which the tool tells.
+# What the pages say of these files.
 runs 0 'contrib/check-vcl examples/vcl/*.vcl examples/port/*.varn.vcl contrib/*.vcl'
-# shellcheck disable=SC2016
-runs 0 'tools/port_vcl.py $(ls examples/vcl/*.vcl | grep -v probes) examples/port/*.varn.vcl contrib/*.vcl'
-runs 0 'tools/port_vcl.py --places examples/vcl/probes.vcl | grep -c . | grep -qx 1'
+runs 0 'tools/port_vcl.py examples/vcl/*.vcl examples/port/*.varn.vcl contrib/*.vcl'
 runs 0 'cd examples/port && ../../tools/port_vcl.py --places *.vcl | cmp - places'
 runs 0 'tools/examples.py'
 case $program in

@@ -227,6 +227,10 @@ taker=$!
 rude upload "$bearing_port" &
 upload=$!
 
+# Those with a console have a script of their own.
+python3 tools/console_smoke.py "$program" > "$work/operators" 2>&1 &
+operators=$!
+
 # One that serves as many connections as come: a client that is idle or slow keeps no worker.
 open_port=$(free_port)
 VARN_STOP=$work/open_stop "$program" serve --listen "$open_port" --vcl "$work/site.vcl" --workers 2 \
@@ -398,6 +402,11 @@ check "a client that asks for leave to send a body gets it" bears leave $leave
 check "descriptors run out and come back" bears crowd $crowd
 check "a request that drips in is ended after half a minute" bears drip $drip
 check "a client that takes nothing is ended after half a minute" bears taker $taker
+
+wait $operators
+ended=$?
+grep -v '^ok' "$work/operators" > "$work/reply"
+check "operators at a console: $(tail -1 "$work/operators")" [ $ended = 0 ]
 
 # stopped PROCESS OUT ERRORS: the process ends in time, with 0 and a line of rounds
 stopped() {

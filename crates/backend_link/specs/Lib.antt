@@ -1,4 +1,5 @@
 pub mod Replies
 pub mod Exchanges
 pub mod Said
+pub mod Streams
 pub mod WholeReplies

@@ -6,6 +6,7 @@ ghost use Rattle.message_reader.specs.Inputs.{Hears};
 ghost use Rattle.backend_link.specs.Exchanges.{Conversed, answer_of, exchange_of, asks_head};
 ghost use Rattle.backend_link.specs.Replies.{BehindInterim, ReplyAt};
 ghost use Rattle.backend_link.specs.Said.{SaidBy};
+ghost use Rattle.backend_link.specs.Streams.{EndsByFraming, LeavesStream, says_close as closing};
 
 use crate::replies::read_reply;
 use http_bodies::{Framing, frame, kind_of_reply};
@@ -81,20 +82,31 @@ pub fn answered(outcome: Result<(ResponseHead, Text), Stop>) -> Exchange
 }
 
 // Whether a message with these fields ends its connection (RFC 9112, section 9.6).
-fn says_close(fields: &Fields) -> bool {
+fn says_close(fields: &Fields) -> bool
+    ensures { result ≡ closing fields.now }
+{
     is_listed(fields, b"Connection", b"close")
 }
 
-// Whether another exchange may follow this reply over the same stream: it ends by its framing, nothing stands behind it, and the
-// backend keeps the stream open (RFC 9112, section 9.3).
-fn leaves_stream(head: &ResponseHead, to_head: bool, held: &Intake) -> bool {
+// Whether the reply's body ends by its framing, and not with the connection.
+fn ends_by_framing(head: &ResponseHead, to_head: bool) -> bool
+    ensures { result ≡ true → EndsByFraming to_head head.now }
+{
     match frame(&head.fields, kind_of_reply(head.status, to_head)) {
-        Ok(framing) => framing != Framing::UntilEnd
-            && held.bytes().is_empty()
-            && head.version == 11
-            && !says_close(&head.fields),
-        Err(_) => false,
+        Ok(Framing::UntilEnd) | Err(_) => false,
+        Ok(_) => true,
     }
+}
+
+// Whether another exchange may follow this reply over the same stream.
+fn leaves_stream(request: &BackendRequest, head: &ResponseHead, held: &Intake) -> bool
+    ensures { result ≡ true → LeavesStream request.now head.now held.now }
+{
+    head.version == 11
+        && held.bytes().is_empty()
+        && !says_close(&request.head.fields)
+        && !says_close(&head.fields)
+        && ends_by_framing(head, asks_for_head(request))
 }
 
 // Reads the reply to a request. The link is told where its stream may serve another exchange.
@@ -115,7 +127,7 @@ fn receive<L: Link>(
     let to_head = asks_for_head(request);
     let reply = read_reply(alloc, link, &mut held, &mut room, to_head);
     if let Ok((head, _)) = &reply {
-        if !says_close(&request.head.fields) && leaves_stream(head, to_head, &held) {
+        if leaves_stream(request, head, &held) {
             link.allow_reuse();
         }
     }

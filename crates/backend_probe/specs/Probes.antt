@@ -1,5 +1,5 @@
 -- What is asked of a probed backend, and what its answer says of it (Varnish Reference Manual, VCL-Probe).
-use Rattle.std.specs.Prelude.{◌≡◌, ◌≢◌, ℕ, ℤ, pos, Bool, false, List, [], Option, Some, codes, unsigned_abs}
+use Rattle.std.specs.Prelude.{◌≡◌, ◌≢◌, ℕ, ℤ, pos, Bool, false, List, [], Option, Some, None, codes, unsigned_abs}
 use Rattle.std.specs.Ordering.{int_eq}
 use Rattle.http_heads.specs.declared.exchange.Backend.{Backend}
 use Rattle.http_heads.specs.declared.exchange.BackendRequest.{BackendRequest}
@@ -10,7 +10,7 @@ use Rattle.http_heads.specs.Fields.{MayStand, replaced}
 use Rattle.vcl_attributes.specs.declared.probe_attributes.Probe.{Probe}
 use Rattle.wire.specs.Tapes.{Tape, Tells}
 use Rattle.wire.specs.Telling.{LinkTold, DialerTold}
-use Rattle.wire.specs.declared.time_limits.TimeLimits.{TimeLimits}
+use Rattle.wire.specs.declared.dial_limits.DialLimits.{DialLimits}
 use Rattle.backend_link.specs.Exchanges.{Exchanged}
 use Rattle.backend_probe.specs.declared.probing.Probed.{Probed}
 
@@ -31,12 +31,13 @@ pub record IsGetOf (probe : Probe) (request : BackendRequest) : Type 0 where
   pub body : request.body ≡ []
 
 -- each part of the exchange, and the whole of it, has the probe's time
-abbrev pub within : Probe → TimeLimits
+abbrev pub within : Probe → DialLimits
 within probe = record {
   connecting = unsigned_abs probe.timeout;
   first_byte = unsigned_abs probe.timeout;
   between_bytes = unsigned_abs probe.timeout;
   whole = Some (unsigned_abs probe.timeout);
+  most_open = None;
 }
 
 -- a reply came with this status

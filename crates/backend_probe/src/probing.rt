@@ -10,7 +10,7 @@ use backend_link::exchange;
 use http_heads::{Backend, BackendRequest, Exchange, Got};
 use std::alloc::{AllocError, Global};
 use vcl_attributes::Probe;
-use wire::{Clock, Dialer, TimeLimits};
+use wire::{Clock, DialLimits, Dialer};
 
 /// What came of a probe: the exchange with the moment of its end, and whether it is good.
 #[derive(Drop)]
@@ -31,15 +31,16 @@ fn server_of(probe: &Probe) -> Result<Backend, AllocError>
 }
 
 // All of a probe's exchange is to be over within its time.
-fn within(probe: &Probe) -> TimeLimits
+fn within(probe: &Probe) -> DialLimits
     ensures { result ≡ within probe.now }
 {
     let millis = probe.timeout.unsigned_abs();
-    TimeLimits {
+    DialLimits {
         connecting: millis,
         first_byte: millis,
         between_bytes: millis,
         whole: Some(millis),
+        most_open: None,
     }
 }
 

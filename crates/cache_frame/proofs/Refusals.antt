@@ -1,5 +1,5 @@
 -- A refused insertion leaves room for what closes the rest: its fetch is closed.
-use Rattle.std.proofs.Common.{◌≡◌, ◌+◌, ◌≤◌, ℕ, true, List, length, inr, refl, ap, sym, arith}
+use Rattle.std.proofs.Common.{◌+◌, ◌≤◌, ℕ, true, length, inr, ap, arith}
 use Rattle.std.proofs.lemmas.Bool.{false≢true}
 use Rattle.cache_law.specs.declared.call.Call.{Call}
 use Rattle.cache_law.specs.declared.call.Call.TheVariants.{Insert}

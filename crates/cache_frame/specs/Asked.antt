@@ -6,7 +6,7 @@ use Rattle.cache_law.specs.State.{State}
 use Rattle.cache_frame.specs.declared.finding.Asked.{Asked}
 use Rattle.cache_frame.specs.declared.finding.Asked.TheVariants.{Lookup, Insert, Nothing}
 use Rattle.cache_frame.specs.declared.finding.Found.{Found}
-use Rattle.cache_frame.specs.declared.finding.StaleObject.TheVariants.{There, Gone, Untested}
+use Rattle.cache_frame.specs.declared.finding.StaleObject.TheVariants.{Gone, Untested}
 
 -- what a lookup found in an open round
 abbrev pub found_in : {M : Type 0} → Asked M → Option (Found M)

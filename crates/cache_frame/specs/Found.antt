@@ -1,9 +1,8 @@
 -- What a lookup finds, by what its shelf's scan saw and by what is open on the desk, and what it answers then.
-use Rattle.std.specs.Prelude.{◌≡◌, ◌≤◌, ◌≢◌, ℕ, Bool, true, false, List, [], ◌∷◌, ◌+◌, Option, Some, None, if◌then◌else◌}
+use Rattle.std.specs.Prelude.{◌≡◌, ◌≤◌, ℕ, Bool, true, false, List, Option, Some, None}
 use Rattle.cache_law.specs.declared.object.Object.{Object}
 use Rattle.cache_law.specs.declared.object.Object.TheVariants.{Ordinary, HitForMiss, HitForPass}
 use Rattle.cache_law.specs.declared.object.ObjectView.{ObjectView}
-use Rattle.cache_law.specs.declared.state.OpenFetch.{OpenFetch}
 use Rattle.cache_law.specs.declared.call.Query.{Query}
 use Rattle.cache_law.specs.declared.call.Call.{Call}
 use Rattle.cache_law.specs.declared.call.Call.TheVariants.{Lookup, Insert}
@@ -12,7 +11,7 @@ use Rattle.cache_law.specs.declared.call.Reply.{Reply}
 use Rattle.cache_law.specs.declared.call.Reply.TheVariants as replies
 use Rattle.cache_law.specs.Beginning.{Beginning}
 use Rattle.cache_law.specs.Lookup.{raised, scanned}
-use Rattle.cache_law.specs.State.{State, Held, at_moment, has_fetch, has_round, is_gone, least_token, those_in_time, with_wait}
+use Rattle.cache_law.specs.State.{State, Held, at_moment, has_fetch, is_gone, those_in_time, with_wait}
 use Rattle.cache_law.specs.Law.{Step, leaving, busy, wait_in, looked_up}
 use Rattle.cache_law.specs.History.{reached}
 use Rattle.cache_frame.specs.Asked.{found_in, is_untested}

@@ -1,11 +1,11 @@
 -- What each call owes that is made of a shelf: that the shelf stands again for what the entries reach, once the entry of
 -- the call is among them. A shelf stands for the law's bans and objects behind some entries; how, it says itself.
-use Rattle.std.specs.Prelude.{◌≡◌, ◌≤◌, ℕ, Bool, true, false, List, [], ◌∷◌, ◌++◌, Option, Some, None}
+use Rattle.std.specs.Prelude.{◌≡◌, ◌≤◌, ℕ, Bool, true, false, List, [], ◌∷◌, ◌++◌, Option}
 use Rattle.cache_law.specs.declared.object.Object.{Object}
 use Rattle.cache_law.specs.declared.ban.BanLine.{BanLine}
 use Rattle.cache_law.specs.declared.call.Query.{Query}
 use Rattle.cache_law.specs.declared.call.Call.{Call}
-use Rattle.cache_law.specs.declared.call.Call.TheVariants.{Begin, Draw, Lookup, Pick, Insert, Ban, BanList, Purge, Xkey, SetHealth, Load, Switch, Discard, VclList, Drop, End}
+use Rattle.cache_law.specs.declared.call.Call.TheVariants.{Lookup, Insert, Ban, Purge, Xkey}
 use Rattle.cache_law.specs.declared.call.Entry.{Entry}
 use Rattle.cache_law.specs.declared.call.Reply.{Reply}
 use Rattle.cache_law.specs.declared.call.Reply.TheVariants as replies
@@ -14,7 +14,7 @@ use Rattle.cache_law.specs.State.{State, Held, at_moment, has_fetch, is_gone, th
 use Rattle.cache_law.specs.Law.{MayAnswer, step_of}
 use Rattle.cache_law.specs.Beginning.{Beginning}
 use Rattle.cache_law.specs.History.{next_state, reached}
-use Rattle.cache_law.specs.Bases.{AreAlike, IsBase, IsClosed, IsSound}
+use Rattle.cache_law.specs.Bases.{AreAlike, IsBase, IsSound}
 use Rattle.cache_law.specs.ShownBans.{ShowsBans}
 use Rattle.cache_desk.specs.Stock.{Stock, stock_at, stock_of, with_stock}
 use Rattle.cache_frame.specs.declared.seen.Placing.{Placing}

@@ -5,8 +5,8 @@ use Rattle.cache_law.specs.declared.call.Entry.{Entry}
 use Rattle.cache_law.specs.declared.call.Reply.TheVariants.{Refused}
 use Rattle.cache_law.specs.Beginning.{Beginning}
 use Rattle.cache_law.specs.History.{next_state, reached}
-use Rattle.cache_law.specs.State.{State, at_moment}
-use Rattle.cache_law.specs.Law.{Step, MayAnswer, behind, refused, step_of}
+use Rattle.cache_law.specs.State.{at_moment}
+use Rattle.cache_law.specs.Law.{MayAnswer, refused, step_of}
 use Rattle.cache_desk.specs.declared.answer.Answer.{Answer}
 use Rattle.cache_desk.specs.Desk.{DeskState, bare}
 use Rattle.cache_frame.specs.Framed.{StandFor}

@@ -1,9 +1,7 @@
 // What a call does to the desk and to the shelf.
-ghost use Rattle.std.specs.Prelude.{◌≡◌, ◌≤◌, ◌+◌, ◌*◌, ◌<◌, ◌^◌, ℕ, List, Option, Some, true, false, length, if◌then◌else◌, IfNone, IfOk, IfSome, IsOk, OnErr, OnOk};
+ghost use Rattle.std.specs.Prelude.{◌≡◌, ◌≤◌, ◌+◌, ◌*◌, ◌<◌, ◌^◌, ℕ, Option, Some, true, false, length, if◌then◌else◌, IfNone, IfOk, IfSome, IsOk, OnErr, OnOk};
 ghost use Rattle.cache_law.specs.declared.call.Call.TheVariants.{Lookup as LookupCall, Insert as InsertCall, Ban as BanCall, BanList as BanListCall, Purge as PurgeCall, Xkey as XkeyCall};
-ghost use Rattle.cache_law.specs.declared.call.Entry.{Entry as HistoryEntry};
 ghost use Rattle.cache_law.specs.declared.object.Object.{Object as Made};
-ghost use Rattle.cache_law.specs.Beginning.{Beginning};
 ghost use Rattle.cache_law.specs.Core.{is_kept, is_lookup};
 ghost use Rattle.cache_law.specs.History.{is_numbered};
 ghost use Rattle.cache_law.specs.Law.{answered, refused};

@@ -1,14 +1,18 @@
 // What is asked of a core.
 use ban_lurker::LurkCore;
+use cache_frame::{Framed, Shelf};
 use cache_law::{CacheCore, Call, Entry, Kept, Params, StepError, Told};
 use core_rows::{call, core_of, core_within, history_shown, shown, step};
-use flat_core::FlatCore;
 use row_settings::{has, number};
 use std::alloc::{AllocError, Global};
 use std::mem;
 
 /// What a core is, or how it steps. A core whose history is told is gone; one that is reopened goes on.
-pub fn said(alloc: Global, core: &mut FlatCore, row: &str) -> Result<String, AllocError> {
+pub fn said<S: Shelf>(
+    alloc: Global,
+    core: &mut Framed<S>,
+    row: &str,
+) -> Result<String, AllocError> {
     let (word, rest) = row.split_once(' ').unwrap_or((row, ""));
     match word {
         "core" => renew(alloc, core, rest),
@@ -24,7 +28,7 @@ pub fn said(alloc: Global, core: &mut FlatCore, row: &str) -> Result<String, All
 }
 
 // A new core by the settings `room` and `history`, which keeps segments where the row has that word.
-fn renew(alloc: Global, core: &mut FlatCore, row: &str) -> Result<String, AllocError> {
+fn renew<S: Shelf>(alloc: Global, core: &mut Framed<S>, row: &str) -> Result<String, AllocError> {
     let params = Params {
         room: number(row, "room", 0),
         history: number(row, "history", 0),
@@ -34,13 +38,13 @@ fn renew(alloc: Global, core: &mut FlatCore, row: &str) -> Result<String, AllocE
     Ok(String::new(alloc))
 }
 
-fn told_history(alloc: Global, core: &mut FlatCore) -> Result<String, AllocError> {
+fn told_history<S: Shelf>(alloc: Global, core: &mut Framed<S>) -> Result<String, AllocError> {
     let told = mem::replace(core, core_of(alloc, 0, 0)?);
     history_shown(alloc, told.into_history().as_slice())
 }
 
 // How many entries a core had, which goes on with none. Nothing may be open.
-fn reopened(alloc: Global, core: &mut FlatCore) -> Result<String, AllocError> {
+fn reopened<S: Shelf>(alloc: Global, core: &mut Framed<S>) -> Result<String, AllocError> {
     let told = mem::replace(core, core_of(alloc, 0, 0)?);
     if !told.is_idle() {
         *core = told;
@@ -59,12 +63,12 @@ fn reopened(alloc: Global, core: &mut FlatCore) -> Result<String, AllocError> {
 }
 
 // What the lurker of a core finds, which is asked for so many objects.
-fn lurked(alloc: Global, core: &mut FlatCore, row: &str) -> Result<String, AllocError> {
+fn lurked<S: Shelf>(alloc: Global, core: &mut Framed<S>, row: &str) -> Result<String, AllocError> {
     let count = number(row, "count", 0).min(9) as u32;
     format!(in alloc; "{}", core.lurk(alloc, count)?)
 }
 
-fn stepped(alloc: Global, core: &mut FlatCore, row: &str) -> Result<String, AllocError> {
+fn stepped<S: Shelf>(alloc: Global, core: &mut Framed<S>, row: &str) -> Result<String, AllocError> {
     let (caller, rest) = row.split_once(' ').unwrap_or((row, ""));
     let (reading, words) = rest.split_once(' ').unwrap_or((rest, ""));
     let (Ok(caller), Ok(reading)) = (caller.parse::<u32>(), reading.parse::<u64>()) else {
@@ -76,9 +80,9 @@ fn stepped(alloc: Global, core: &mut FlatCore, row: &str) -> Result<String, Allo
     }
 }
 
-fn step_shown(
+fn step_shown<S: Shelf>(
     alloc: Global,
-    core: &mut FlatCore,
+    core: &mut Framed<S>,
     caller: u32,
     reading: u64,
     call: Call,

@@ -2,7 +2,7 @@
 use Rattle.std.proofs.Common.{◌≡◌, inl, inr, ◌≤◌, ◌-◌, ◌+◌, ℕ, Bool, true, false, List, [], ◌∷◌, length, take, drop, get_or, Option, Some, None, Result, Ok, Err, refl, sym, ◌∙◌, ap, subst, arith}
 use Rattle.std.proofs.lemmas.Grind.{common_steps}
 use Rattle.command_line.specs.declared.name.OptionName.{OptionName}
-use Rattle.command_line.specs.declared.name.OptionName.TheVariants.{Listen, Vcl, Workers, Conns, Room, History, Seed, Steps}
+use Rattle.command_line.specs.declared.name.OptionName.TheVariants.{Listen, Vcl, Workers, Conns, Cli, Room, History, Seed, Steps}
 use Rattle.command_line.specs.declared.name.CommandName.{CommandName}
 use Rattle.command_line.specs.declared.name.CommandName.TheVariants.{Serve, Load}
 use Rattle.command_line.specs.declared.order.LoadOptions.{LoadOptions}
@@ -55,6 +55,7 @@ puts_one given Listen value a b x y = x.2 ∙ (ap (λ (n : ℕ). record given { 
 puts_one given Vcl value a b x y = x.1 ∙ sym y.1
 puts_one given Workers value a b x y = x.2 ∙ (ap (λ (n : ℕ). record given { workers = Some n }) (one_number _ _ value x.0 y.0 x.1 y.1) ∙ sym y.2)
 puts_one given Conns value a b x y = x.2 ∙ (ap (λ (n : ℕ). record given { conns = Some n }) (one_number _ _ value x.0 y.0 x.1 y.1) ∙ sym y.2)
+puts_one given Cli value a b x y = x.2 ∙ (ap (λ (n : ℕ). record given { cli = Some n }) (one_number _ _ value x.0 y.0 x.1 y.1) ∙ sym y.2)
 puts_one given Room value a b x y = x.2 ∙ (ap (λ (n : ℕ). record given { room = Some n }) (one_number _ _ value x.0 y.0 x.1 y.1) ∙ sym y.2)
 puts_one given History value a b x y = x.2 ∙ (ap (λ (n : ℕ). record given { history = Some n }) (one_number _ _ value x.0 y.0 x.1 y.1) ∙ sym y.2)
 puts_one given Seed value a b x y = x.2 ∙ (ap (λ (n : ℕ). record given { seed = Some n }) (one_number _ _ value x.0 y.0 x.1 y.1) ∙ sym y.2)

@@ -3,7 +3,7 @@ use Rattle.std.specs.Prelude.{◌≡◌, ◌≢◌, ◌≤◌, ℕ, Bool, List, 
 use Rattle.std.specs.Str.{bytes_eq}
 use Rattle.units.specs.Numbers.{IsNumber}
 use Rattle.command_line.specs.declared.name.OptionName.{OptionName}
-use Rattle.command_line.specs.declared.name.OptionName.TheVariants.{Listen, Vcl, Workers, Conns, Room, History, Seed, Steps}
+use Rattle.command_line.specs.declared.name.OptionName.TheVariants.{Listen, Vcl, Workers, Conns, Cli, Room, History, Seed, Steps}
 use Rattle.command_line.specs.declared.name.CommandName.{CommandName}
 use Rattle.command_line.specs.declared.name.CommandName.TheVariants.{Serve, Load}
 use Rattle.command_line.specs.declared.given.Given.{Given}
@@ -17,6 +17,7 @@ named word =
     if bytes_eq word (codes "--vcl") then Some Vcl else
     if bytes_eq word (codes "--workers") then Some Workers else
     if bytes_eq word (codes "--conns") then Some Conns else
+    if bytes_eq word (codes "--cli") then Some Cli else
     if bytes_eq word (codes "--room") then Some Room else
     if bytes_eq word (codes "--history") then Some History else
     if bytes_eq word (codes "--seed") then Some Seed else
@@ -48,13 +49,14 @@ IsFile (first ∷ more) = (first ≢ 45) × IsUtf8 (first ∷ more)
 -- ---- what options give, one behind another
 
 abbrev pub nothing : Given
-nothing = record { listen = None; file = None; workers = None; conns = None; room = None; history = None; seed = None; steps = None }
+nothing = record { listen = None; file = None; workers = None; conns = None; cli = None; room = None; history = None; seed = None; steps = None }
 
 abbrev pub has : Given → OptionName → Bool
 has given Listen = is_some given.listen
 has given Vcl = is_some given.file
 has given Workers = is_some given.workers
 has given Conns = is_some given.conns
+has given Cli = is_some given.cli
 has given Room = is_some given.room
 has given History = is_some given.history
 has given Seed = is_some given.seed
@@ -66,6 +68,7 @@ Puts given Listen value after = (port : ℕ) × IsWithin 1 65535 value port × (
 Puts given Vcl value after = IsFile value × (after ≡ record given { file = Some value })
 Puts given Workers value after = (workers : ℕ) × IsWithin 1 64 value workers × (after ≡ record given { workers = Some workers })
 Puts given Conns value after = (conns : ℕ) × IsWithin 1 1000000 value conns × (after ≡ record given { conns = Some conns })
+Puts given Cli value after = (port : ℕ) × IsWithin 1 65535 value port × (after ≡ record given { cli = Some port })
 Puts given Room value after = (room : ℕ) × IsWithin 0 1073741824 value room × (after ≡ record given { room = Some room })
 Puts given History value after = (history : ℕ) × IsWithin 0 1073741824 value history × (after ≡ record given { history = Some history })
 Puts given Seed value after = (seed : ℕ) × IsWithin 0 2147483647 value seed × (after ≡ record given { seed = Some seed })
@@ -95,12 +98,13 @@ usual = 268435456
 abbrev pub endless : ℕ
 endless = 10000000
 
--- The order of a server is what was given; the number of connections, the room and the history may be wanting.
+-- The order of a server is what was given; the number of connections, the console's port, the room and the history may be wanting.
 pub record IsOrder (given : Given) (order : ServeOptions) : Type 0 where
   pub port : given.listen ≡ Some order.port
   pub file : given.file ≡ Some order.file
   pub workers : given.workers ≡ Some order.workers
   pub conns : order.conns ≡ unwrap_or given.conns endless
+  pub cli : order.cli ≡ given.cli
   pub room : order.room ≡ unwrap_or given.room usual
   pub history : order.history ≡ unwrap_or given.history usual
 

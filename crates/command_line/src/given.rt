@@ -1,5 +1,5 @@
 // What options give.
-ghost use Rattle.std.specs.Prelude.{◌≡◌, ◌↔◌, ℕ, List, IsTrue, true, false, MatchOption, MatchResult, IfOk, IfErr};
+ghost use Rattle.std.specs.Prelude.{◌≡◌, ◌↔◌, ℕ, IsTrue, true, false, MatchOption, MatchResult, IfOk};
 ghost use Rattle.command_line.specs.declared.given.Given.{Given as Told};
 ghost use Rattle.command_line.specs.Words.{IsFile, IsLoad, IsWithin, IsOrder, Puts, has, nothing};
 ghost use Rattle.command_line.specs.Faults.{IsMissing, missing_of_load, missing_of_serve, option_at};
@@ -13,6 +13,9 @@ use units::{Text, read_number};
 /// The room and the history that aren't given.
 const USUAL: u64 = 268_435_456;
 
+/// The greatest port.
+const MAX_PORT: u64 = 65_535;
+
 /// The number of connections that isn't given: the greatest history has fewer requests.
 const ENDLESS: u32 = 10_000_000;
 
@@ -23,6 +26,7 @@ pub(crate) struct Given {
     pub file: Option<Text>,
     pub workers: Option<u32>,
     pub conns: Option<u32>,
+    pub cli: Option<u16>,
     pub room: Option<u64>,
     pub history: Option<u64>,
     pub seed: Option<u32>,
@@ -62,6 +66,7 @@ impl Given {
             file: None,
             workers: None,
             conns: None,
+            cli: None,
             room: None,
             history: None,
             seed: None,
@@ -78,6 +83,7 @@ impl Given {
             OptionName::Vcl => self.file.is_some(),
             OptionName::Workers => self.workers.is_some(),
             OptionName::Conns => self.conns.is_some(),
+            OptionName::Cli => self.cli.is_some(),
             OptionName::Room => self.room.is_some(),
             OptionName::History => self.history.is_some(),
             OptionName::Seed => self.seed.is_some(),
@@ -115,7 +121,7 @@ impl Given {
         ensures wrong { IfOk result (λ done. done ≡ false → (after : Told) → Puts self.old option value.now after → ⊥) }
     {
         match option {
-            OptionName::Listen => match number_in(value, 1, 65_535) {
+            OptionName::Listen => match number_in(value, 1, MAX_PORT) {
                 Some(port) => self.listen = Some(port as u16),
                 None => return Ok(false),
             },
@@ -131,6 +137,10 @@ impl Given {
             },
             OptionName::Conns => match number_in(value, 1, 1_000_000) {
                 Some(conns) => self.conns = Some(conns as u32),
+                None => return Ok(false),
+            },
+            OptionName::Cli => match number_in(value, 1, MAX_PORT) {
+                Some(port) => self.cli = Some(port as u16),
                 None => return Ok(false),
             },
             OptionName::Room => match number_in(value, 0, 1_073_741_824) {
@@ -162,6 +172,7 @@ impl Given {
             file,
             workers,
             conns,
+            cli,
             room,
             history,
             ..
@@ -180,6 +191,7 @@ impl Given {
             file,
             workers,
             conns: conns.unwrap_or(ENDLESS),
+            cli,
             room: room.unwrap_or(USUAL),
             history: history.unwrap_or(USUAL),
         })

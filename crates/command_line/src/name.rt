@@ -32,6 +32,7 @@ pub enum OptionName {
     Vcl,
     Workers,
     Conns,
+    Cli,
     Room,
     History,
     Seed,
@@ -60,6 +61,9 @@ impl OptionName {
         }
         if is_word(word, b"--conns") {
             return Some(OptionName::Conns);
+        }
+        if is_word(word, b"--cli") {
+            return Some(OptionName::Cli);
         }
         if is_word(word, b"--room") {
             return Some(OptionName::Room);

@@ -1,5 +1,5 @@
 // Options, read in their order.
-ghost use Rattle.std.specs.Prelude.{◌≡◌, ◌+◌, ◌<◌, ◌^◌, length, IfOk, IfErr, OnOk};
+ghost use Rattle.std.specs.Prelude.{◌+◌, ◌<◌, ◌^◌, length, IfOk, IfErr, OnOk};
 ghost use Rattle.command_line.specs.declared.order.ServeOptions.{ServeOptions as Asked};
 ghost use Rattle.command_line.specs.declared.order.LoadOptions.{LoadOptions as AskedLoad};
 ghost use Rattle.command_line.specs.declared.name.CommandName.TheVariants.{Load, Serve};

@@ -90,7 +90,8 @@ fn discard(alloc: Global, words: &str) -> Result<Option<Call>, AllocError> {
     Ok(Some(Call::Discard { name }))
 }
 
-// `request=NAME` is the ban `req.http.NAME == 1`, `ttl_over=60000` is `obj.ttl > 60s`; else it has no condition.
+// `request=NAME` is the ban `req.http.NAME == 1`, `object=NAME` is `obj.http.NAME == 1`, `ttl_over=60000` is `obj.ttl > 60s`; else it has
+// no condition.
 fn ban_call(alloc: Global, words: &str) -> Result<Option<Call>, AllocError> {
     let ban = Shared::new(alloc, ban(alloc, words)?)?;
     Ok(Some(Call::Ban(ban)))
@@ -112,16 +113,20 @@ fn conditions(alloc: Global, words: &str) -> Result<Sequence<Condition>, AllocEr
         })?;
     }
     if let Some(name) = value(words, "request") {
-        conditions.push(on_request(alloc, name)?)?;
+        let name = Text::of(alloc, name.as_bytes())?;
+        conditions.push(is_one(alloc, TextField::RequestHeader(name))?)?;
+    }
+    if let Some(name) = value(words, "object") {
+        let name = Text::of(alloc, name.as_bytes())?;
+        conditions.push(is_one(alloc, TextField::ObjectHeader(name))?)?;
     }
     Ok(conditions)
 }
 
-fn on_request(alloc: Global, name: &str) -> Result<Condition, AllocError> {
-    let name = Text::of(alloc, name.as_bytes())?;
+fn is_one(alloc: Global, field: TextField) -> Result<Condition, AllocError> {
     let argument = Text::of(alloc, b"1")?;
     Ok(Condition::OnText {
-        field: TextField::RequestHeader(name),
+        field,
         operator: TextOperator::Equal,
         argument,
     })

@@ -1,10 +1,8 @@
 -- Callers whose passes were all joined again: each entry is of one of them.
-use Rattle.std.proofs.Common.{◌≡◌, ℕ, zero, suc, ◌+◌, ◌<◌, ◌≤◌, ◌==◌, Bool, true, false, List, [], ◌∷◌, ◌++◌, length, if◌then◌else◌, refl, sym, ◌∙◌, subst, inl, inr, arith}
+use Rattle.std.proofs.Common.{◌≡◌, ℕ, zero, suc, ◌+◌, ◌<◌, ◌≤◌, List, [], ◌∷◌, ◌++◌, length, refl, sym, ◌∙◌, subst, inl, inr, arith}
 use Rattle.std.specs.Prelude.{slice_index_or}
 use Rattle.std.specs.List.{All, Contains}
-use Rattle.std.proofs.lemmas.List.Elements.{All-nil, All-cons}
-use borrow.Author.Tests.{eqb-false}
-use Rattle.turnstile.specs.Knowledge.{Meets, mine, places_from, ended_numbers}
+use Rattle.turnstile.specs.Knowledge.{Meets, ended_numbers}
 use Rattle.cache_law.specs.declared.call.Entry.{Entry}
 use Rattle.shared_cache.specs.Sharing.{CallerKnows, caller_of}
 use Rattle.crew.specs.Places.{times, AllAbove, AtMostOnce}
@@ -40,27 +38,22 @@ once_more ns n above once = λ m.
     (λ same. let nobody : times m ns ≡ 0 = subst (λ (x : ℕ). times x ns ≡ 0) (sym same) none in omega arith)
     (λ other. omega arith))
 
-module _ {E : Type 0} (caller : E → ℕ) where
-  lacks_by : (e : E) (n at : ℕ) (rest : List ℕ) (b : Bool) → (caller e == n) ≡ b → (if b then at ∷ rest else rest) ≡ [] → (caller e ≡ n → ⊥) × (rest ≡ [])
-  lacks_by e n at rest true is none = absurd (cc)
-  lacks_by e n at rest false is none = (eqb-false (caller e) n is, none)
-
-  lacks : (n at : ℕ) (history : List E) → places_from caller n at history ≡ [] → All (λ e. caller e ≡ n → ⊥) history
-  lacks n at [] none = All-nil (λ (e : E). caller e ≡ n → ⊥)
-  lacks n at (e ∷ es) none =
-      let here = lacks_by e n at (places_from caller n (at + 1) es) (caller e == n) refl none in
-      All-cons (λ (x : E). caller x ≡ n → ⊥) e es here.0 (lacks n (at + 1) es here.1)
-
--- Each entry's caller is one of the numbers, once, where these are all that were split off, and were joined again, and the first
--- pass made no call.
+-- Each entry's caller is the first pass's number or one of the others, once, where these are all that were split off, and were joined
+-- again.
 pub each_counted : (history : List Entry) (k : CallerKnows) (ns : List ℕ) → Meets caller_of k history → k.number ≡ k.first → k.made ≡ ns → ended_numbers k ≡ ns
-    → mine caller_of k ≡ [] → AtMostOnce ns → All (λ e. times (caller_of e) ns ≡ 1) history
-each_counted history k ns meets first made ended silent once =
+    → AllAbove k.number ns → AtMostOnce ns → All (λ e. times (caller_of e) (k.number ∷ ns) ≡ 1) history
+each_counted history k ns meets first made ended above once =
     let whole = meets.whole first (λ n has. subst (λ (ms : List ℕ). Contains ms n) (made ∙ sym ended) has) in
-    let nobody = lacks caller_of k.number 0 history (meets.mine ∙ silent) in
-    λ i d low. elim (whole i d low) [
-      | inl own ↦ absurd (nobody i d low own)
-      | inr joined ↦ let some = contains_times ns (caller_of (slice_index_or history i d)) (subst (λ (ms : List ℕ). Contains ms (caller_of (slice_index_or history i d))) ended joined) in
-          let most = once (caller_of (slice_index_or history i d)) in
-          omega arith
+    let none = above_none ns k.number above in
+    λ i d low.
+    let c = caller_of (slice_index_or history i d) in
+    elim (whole i d low) [
+      | inl own ↦ either c k.number (λ (x : ℕ). x + times c ns ≡ 1)
+          (λ same. let nobody : times c ns ≡ 0 = subst (λ (m : ℕ). times m ns ≡ 0) (sym same) none in omega arith)
+          (λ other. absurd (other own))
+      | inr joined ↦ let some = contains_times ns c (subst (λ (ms : List ℕ). Contains ms c) ended joined) in
+          let most = once c in
+          either c k.number (λ (x : ℕ). x + times c ns ≡ 1)
+          (λ same. let nobody : times c ns ≡ 0 = subst (λ (m : ℕ). times m ns ≡ 0) (sym same) none in absurd (omega arith))
+          (λ other. omega arith)
     ]

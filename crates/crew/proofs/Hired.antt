@@ -6,6 +6,7 @@ use Rattle.cache_law.specs.declared.call.Entry.{Entry}
 use Rattle.cache_law.specs.Beginning.{Beginning}
 use Rattle.turnstile.specs.declared.handles.Pass.{Pass}
 use Rattle.turnstile.specs.Handles.{known}
+use Rattle.turnstile.specs.Knowledge.{opened, saw}
 use Rattle.shared_cache.specs.Sharing.{CallerKnows}
 use Rattle.wire.specs.Telling.{LinkTold}
 use Rattle.world.specs.declared.kit.Kit.{Kit}
@@ -69,6 +70,9 @@ module _ {H N E A B D K : Type 0} (IsPass : Pass Entry Beginning → Type 0) (Un
           numbers = all.hires.numbers;
           left = all_left IsPass Unused pass_of kit_of Told b places_of (Tells b) Ready Serves passes calls
               (λ old new opening events serves begun. tells old new opening events b serves begun) (longer b) all.first.can_begin.first all.hires.numbers all.olds ws hired all.worked;
-          knows = all.hires.knows ∙ ap (λ (z : CallerKnows). record z { upto = k.upto; made = z.made ++ all.hires.numbers }) all.first.knows;
+          knows = all.knows
+              ∙ (ap (λ (z : CallerKnows). saw z k.seen) (all.hires.knows ∙ ap (λ (z : CallerKnows). record z { upto = all.hired.upto; made = z.made ++ all.hires.numbers }) all.first.knows)
+              ∙ ap (λ (u : ℕ). record (opened 0 b) { upto = u; seen = k.seen; made = all.hires.numbers }) (sym (ap (λ (z : CallerKnows). z.upto) all.knows)));
+          above = all.hires.above;
           once = all.hires.once;
         }

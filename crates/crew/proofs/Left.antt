@@ -19,7 +19,7 @@ use Rattle.workers.specs.declared.worker.Worker.{Worker}
 use Rattle.crew.specs.Hiring.{AllFronts, ended_of}
 use Rattle.crew.specs.Leaving.{AllLeft, HaveLeft}
 use Rattle.crew.specs.Parts.{all_came, all_places}
-use Rattle.crew.specs.Places.{EachOnce}
+use Rattle.crew.specs.Places.{EachOnce, AllAbove}
 use Rattle.crew.specs.Running.{Ran}
 use Rattle.crew.proofs.Counting.{places_among}
 use Rattle.crew.proofs.Joining.{fronts_longer}
@@ -103,7 +103,7 @@ module _ {H N E A B D K : Type 0} (IsPass : Pass Entry Beginning → Type 0) (Un
         → now ≡ record k { seen = now.seen; ended = k.ended ++ map (λ (p : Post H N). ended_of (known (pass_of p.shift))) ps } → mine caller_of now ≡ mine caller_of k
         → (history : List Entry) → Meets caller_of now history → Legal left.beginning history → (before after : Option (List (Kit D K))) (keepers : List N) (connections : ℕ)
         → Adds before after (map (λ (p : Post H N). kit_of p.shift) ps) → keepers ≡ map (λ (p : Post H N). p.keeper) ps
-        → connections ≡ sum_by (λ (w : Worker H N A B). w.accepted.amount) ws → Ran Unused Told places_of Tells left.beginning history before after keepers connections
+        → connections ≡ sum_by (λ (w : Worker H N A B). w.accepted.amount) ws → Ran Unused Told places_of Tells left.beginning history before after keepers connections (mine caller_of k)
     ran_here k now ws ps left same fronts knows quiet history meets legal before after keepers connections kits are count =
         let b = left.beginning in
         let ended : now.ended ≡ map (λ (p : Post H N). ended_of (known (pass_of p.shift))) ps =
@@ -119,8 +119,8 @@ module _ {H N E A B D K : Type 0} (IsPass : Pass Entry Beginning → Type 0) (Un
         let ends : ended_numbers now ≡ left.numbers =
         ap (λ (es : List Ended). map (λ (e : Ended). e.number) es) ended
         ∙ numbers_are IsPass Unused pass_of kit_of Told (Some b) places_of (Tells b) left.numbers ws ps left.left same in
-        let silent : mine caller_of now ≡ [] = quiet ∙ ap (λ (z : CallerKnows). mine caller_of z) left.knows in
-        let once = once_in_all history now left.numbers meets (number ∙ sym first) made ends silent left.once in
+        let above = subst (λ (n : ℕ). AllAbove n left.numbers) (sym number) left.above in
+        let once = once_in_all history now left.numbers meets (number ∙ sym first) made ends above left.once in
         let at : all_places places_of (all_came g.parts) ≡ places_among caller_of 0 history left.numbers =
         places_are Unused Told places_of (Tells b history) history g.parts g.whole ∙ ap (λ (ns : List ℕ). places_among caller_of 0 history ns) (sym g.numbers) in
         record {
@@ -130,7 +130,8 @@ module _ {H N E A B D K : Type 0} (IsPass : Pass Entry Beginning → Type 0) (Un
           kits_are = subst (λ (ks : List (Kit D K)). Adds before after ks) g.kits kits;
           keepers_are = are ∙ g.keepers;
           count_is = count ∙ g.count;
-          each_once = subst (λ (ns : List ℕ). EachOnce history ns) (sym at) once;
+          each_once = subst (λ (ps : List ℕ). EachOnce history (ps ++ all_places places_of (all_came g.parts))) quiet
+              (subst (λ (ns : List ℕ). EachOnce history (mine caller_of now ++ ns)) (sym at) once);
         }
 
     -- what all of them did is a run, over each legal history that the first pass meets once theirs were joined into it
@@ -140,9 +141,9 @@ module _ {H N E A B D K : Type 0} (IsPass : Pass Entry Beginning → Type 0) (Un
         → (beginning : Beginning) (history : List Entry) → now.setting ≡ Some beginning → Meets caller_of now history → Legal beginning history
         → (before after : Option (List (Kit D K))) (keepers : List N) (connections : ℕ) → Adds before after (map (λ (p : Post H N). kit_of p.shift) ps)
         → keepers ≡ map (λ (p : Post H N). p.keeper) ps → connections ≡ sum_by (λ (w : Worker H N A B). w.accepted.amount) ws
-        → Ran Unused Told places_of Tells beginning history before after keepers connections
+        → Ran Unused Told places_of Tells beginning history before after keepers connections (mine caller_of k)
     ran k now ws ps left same fronts knows quiet beginning history set meets legal before after keepers connections kits are count =
         let begun : now.setting ≡ Some left.beginning = ap (λ (z : CallerKnows). z.setting) knows ∙ ap (λ (z : CallerKnows). z.setting) left.knows in
         let is : left.beginning ≡ beginning = same_some now.setting left.beginning beginning begun set in
-        subst (λ (b : Beginning). Ran Unused Told places_of Tells b history before after keepers connections) is
+        subst (λ (b : Beginning). Ran Unused Told places_of Tells b history before after keepers connections (mine caller_of k)) is
         (ran_here k now ws ps left same fronts knows quiet history meets (subst (λ (b : Beginning). Legal b history) (sym is) legal) before after keepers connections kits are count)

@@ -8,3 +8,4 @@ pub mod Runs
 pub mod Hired
 pub mod Left
 pub mod Ends
+pub mod Besides

@@ -15,7 +15,7 @@ use Rattle.workers.specs.declared.worker.Worker.{Worker}
 use Rattle.crew.specs.Hiring.{ended_of}
 use Rattle.crew.specs.Leaving.{AllLeft, AllWhole}
 use Rattle.crew.specs.Parts.{Part, all_came, all_places}
-use Rattle.crew.specs.Places.{EachOnce, AtMostOnce}
+use Rattle.crew.specs.Places.{EachOnce, AllAbove, AtMostOnce}
 use Rattle.crew.proofs.Callers.{each_counted}
 use Rattle.crew.proofs.Counting.{each_once, places_among}
 
@@ -48,7 +48,9 @@ module _ {H N E A B D K : Type 0} (IsPass : Pass Entry Beginning → Type 0) (Un
       ap (λ (m : ℕ). m ∷ map (λ (e : Ended). e.number) (map (λ (p : Post H N). ended_of (known (pass_of p.shift))) ss)) here
       ∙ ap (λ (ms : List ℕ). n ∷ ms) (numbers_are ns ws ss left.1 tail)
 
--- each place of the history is counted once among those of the numbers, where all their passes were joined into the first, which made no call
+-- each place of the history is counted once among those of the first pass and of the numbers, where all their passes were joined into it
 pub once_in_all : (history : List Entry) (k : CallerKnows) (ns : List ℕ) → Meets caller_of k history → k.number ≡ k.first → k.made ≡ ns → ended_numbers k ≡ ns
-    → mine caller_of k ≡ [] → AtMostOnce ns → EachOnce history (places_among caller_of 0 history ns)
-once_in_all history k ns meets first made ended silent once = each_once caller_of history ns (each_counted history k ns meets first made ended silent once)
+    → AllAbove k.number ns → AtMostOnce ns → EachOnce history (mine caller_of k ++ places_among caller_of 0 history ns)
+once_in_all history k ns meets first made ended above once =
+    subst (λ (ps : List ℕ). EachOnce history (ps ++ places_among caller_of 0 history ns)) meets.mine
+    (each_once caller_of history (k.number ∷ ns) (each_counted history k ns meets first made ended above once))

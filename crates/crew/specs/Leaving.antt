@@ -5,7 +5,7 @@ use Rattle.cache_law.specs.declared.call.Entry.{Entry}
 use Rattle.cache_law.specs.Beginning.{Beginning}
 use Rattle.turnstile.specs.declared.handles.Pass.{Pass}
 use Rattle.turnstile.specs.Handles.{known}
-use Rattle.turnstile.specs.Knowledge.{mine, opened}
+use Rattle.turnstile.specs.Knowledge.{mine, opened, saw}
 use Rattle.shared_cache.specs.Sharing.{CallerKnows, caller_of}
 use Rattle.wire.specs.Telling.{LinkTold}
 use Rattle.world.specs.declared.kit.Kit.{Kit}
@@ -14,7 +14,7 @@ use Rattle.workers.specs.declared.post.Post.{Post}
 use Rattle.workers.specs.declared.worker.Worker.{Worker}
 use Rattle.crew.specs.Opening.{IsFirst}
 use Rattle.crew.specs.Hiring.{Hires}
-use Rattle.crew.specs.Places.{AtMostOnce}
+use Rattle.crew.specs.Places.{AllAbove, AtMostOnce}
 use Rattle.crew.specs.Parts.{Part, AllTold, PartTold, HasPlaces, all_events, all_places}
 
 -- Below, this is told of connections over a history.
@@ -49,22 +49,26 @@ module _ {H N E A B D K : Type 0} (IsPass : Pass Entry Beginning → Type 0) (Un
 
 module _ {H N E A B D K : Type 0} (IsPass : Pass Entry Beginning → Type 0) (Unused : Kit D K → Type 0) (pass_of : H → Pass Entry Beginning) (kit_of : H → Kit D K)
     (Told : N → List E → Type 0) (places_of : List E → List ℕ) (Tells : Beginning → List Entry → ℕ → Kit D K → Kit D K → LinkTold → List E → Type 0) where
-  -- All workers have left whose passes were split off from the first one, which knows nothing else.
+  -- All workers have left whose passes were split off from the first one, which knows nothing else but what it has seen.
   pub record HaveLeft (k : CallerKnows) (workers : List (Worker H N A B)) : Type 0 where
     pub beginning : Beginning
     pub numbers : List ℕ
     pub left : AllLeft IsPass Unused pass_of kit_of Told (Some beginning) places_of (Tells beginning) numbers workers
-    pub knows : k ≡ record (opened 0 beginning) { upto = k.upto; made = numbers }
+    pub knows : k ≡ record (opened 0 beginning) { upto = k.upto; seen = k.seen; made = numbers }
+    pub above : AllAbove 0 numbers
     pub once : AtMostOnce numbers
 
 module _ {H N E A B D K : Type 0} (IsPass : Pass Entry Beginning → Type 0) (Unused : Kit D K → Type 0) (pass_of : H → Pass Entry Beginning) (kit_of : H → Kit D K)
     (Told : N → List E → Type 0) (Ready : H → Type 0) (Serves : H → H → LinkTold → List E → Type 0) where
-  -- Workers were hired whose passes were split off from the first one, which knows nothing else, and each has worked.
+  -- Workers were hired whose passes were split off from the first one, which knows nothing else but what it has seen since, and each
+  -- has worked.
   pub record HaveWorked (k : CallerKnows) (workers : List (Worker H N A B)) : Type 0 where
     pub before : CallerKnows
     pub first : IsFirst before
+    pub hired : CallerKnows
     pub olds : List (Worker H N A B)
-    pub hires : Hires IsPass Unused pass_of kit_of Told before.setting 0 before k olds
+    pub hires : Hires IsPass Unused pass_of kit_of Told before.setting 0 before hired olds
+    pub knows : k ≡ saw hired k.seen
     pub worked : AllZip (HasWorked Ready Serves Told) olds workers
 
 module _ {N E D K : Type 0} (Unused : Kit D K → Type 0) (Told : N → List E → Type 0) (places_of : List E → List ℕ) (Tells : ℕ → Kit D K → Kit D K → LinkTold → List E → Type 0) where

@@ -4,4 +4,5 @@ pub mod Parts
 pub mod Opening
 pub mod Hiring
 pub mod Leaving
+pub mod Besides
 pub mod Running

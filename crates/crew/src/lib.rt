@@ -8,10 +8,12 @@
 
 mod hiring;
 mod host;
+mod job;
 mod rejoining;
 mod room;
 mod running;
 mod working;
 
 pub use host::Host;
+pub use job::{Job, Sign};
 pub use running::{Outcome, serve_all};

@@ -1,5 +1,6 @@
 // Passes that are joined again, and kits and keepers that are handed back.
-ghost use Rattle.std.specs.Prelude.{◌≡◌, ◌+◌, ◌≤◌, ◌++◌, ◌∷◌, [], All, map, vec_len, vec_capacity};
+ghost use Rattle.std.specs.Prelude.{◌≡◌, ◌+◌, ◌≤◌, ◌++◌, List, [], All, map, vec_len, vec_capacity};
+ghost use Rattle.cache_law.specs.declared.call.Entry.{Entry as HistoryEntry};
 ghost use Rattle.wire.specs.Talks.{Adds};
 ghost use Rattle.turnstile.specs.Handles.{known};
 ghost use Rattle.turnstile.specs.Knowledge.{mine};
@@ -33,6 +34,7 @@ pub(crate) fn rejoin<W: World, C: CacheCore, H: Host<C, W::Dialer, W::Clock, Lin
     ensures fronts { AllFronts (known root.new).seen (map (λ post. known (H.pass_of post.shift)) posts.items) }
     ensures known { known root.new ≡ record (known root.old) { seen = (known root.new).seen; ended = (known root.old).ended ++ map (λ post. ended_of (known (H.pass_of post.shift))) posts.items } }
     ensures mine { mine caller_of (known root.new) ≡ mine caller_of (known root.old) }
+    ensures grown { (rest : List HistoryEntry) × ((known root.new).seen ≡ (known root.old).seen ++ rest) }
     ensures kits { Adds (W.kits world.old) (W.kits world.new) (map (λ post. H.kit_of post.shift) posts.items) }
     ensures links { W.links world.new ≡ W.links world.old }
     ensures kept { W.kept world.new ≡ W.kept world.old }

@@ -9,21 +9,25 @@ use units::Text;
 const NAME: &str = "varn: a shared HTTP cache, steered by VCL, whose behaviour is proved";
 
 const SERVE: &str =
-    "varn serve --listen P --vcl FILE --workers N [--conns K] [--room N] [--history N]";
+    "varn serve --listen P --vcl FILE --workers N [--conns K] [--cli P] [--room N] [--history N]";
 
 const REPLAY: &str = "varn replay [--room N] [--history N] < SESSION > TRANSCRIPT";
 
 const LOAD: &str = "varn load --seed N --steps M";
 
+const AUDIT: &str = "varn audit < JOURNAL";
+
 const COMMANDS: &str =
     "serve         serves connections over one cache, and at the end writes how many requests they had
 replay        plays a session from standard input and writes its transcript to standard output
-load          plays a session that is made from a number, and writes what came of it";
+load          plays a session that is made from a number, and writes what came of it
+audit         tells whether the journal on standard input is that of a lawful history, and else its first bad line";
 
 const SERVE_OPTIONS: &str = "--listen P    the port to listen at, on all addresses: 1 to 65535
 --vcl FILE    the file with the VCL; its name doesn't begin with a hyphen
 --workers N   how many connections are served side by side: 1 to 64
---conns K     how many connections are served before the program ends: 1 to 1000000; no limit when not given";
+--conns K     how many connections are served before the program ends: 1 to 1000000; no limit when not given
+--cli P       the port of the console, on this machine's loopback address: 1 to 65535; none when not given";
 
 const LIMITS: &str =
     "--room N      the bytes that the stored objects may have: 0 to 1073741824; 268435456 when not given
@@ -38,7 +42,7 @@ leading zero.";
 
 const SERVE_ENDS: &str =
     "Ends with status 0 where the run was whole, 2 for other words than these, 4 where the VCL's file can't be read, 5 where
-writing failed, 6 for want of memory, 7 where the port can't be listened at or accepting failed, 8 where the VCL's file
+writing failed, 6 for want of memory, 7 where a port can't be listened at or accepting failed, 8 where the VCL's file
 is missing or its text is refused, and 9 where the history is full.";
 
 const REPLAY_ENDS: &str =
@@ -49,6 +53,15 @@ const LOAD_ENDS: &str =
     "Ends with status 0 where the run was whole, 2 for other words than these, 3 where the session can't be played, 5 where
 writing failed, 6 for want of memory, and 9 where the history is full.";
 
+const AUDIT_TELLS: &str =
+    "Writes `legal N` of the journal of a lawful history of N entries, and else `line L kind K`: the first bad line, and the least
+number of what is wrong there. 1: it is no line, or has no place there; 2: its moment goes back; 3: its caller waits; 4: it doesn't
+fit the limit; 5: its call isn't answered so; 6: something is open where a segment ends; 7: the journal isn't closed there, or is already.";
+
+const AUDIT_ENDS: &str =
+    "Ends with status 0 where the journal is that of a lawful history, 2 for other words than these, 4 where reading failed, 5 where
+writing failed, 6 for want of memory, and 10 where the journal is none.";
+
 /// What help is asked for.
 #[derive(Clone, Copy, Debug, PartialEq, Eq)]
 pub enum Help {
@@ -56,6 +69,7 @@ pub enum Help {
     Serve,
     Replay,
     Load,
+    Audit,
     Version,
 }
 
@@ -75,6 +89,8 @@ fn topic_of(command: &Text) -> Option<Help>
         Some(Help::Replay)
     } else if is_word(command, b"load") {
         Some(Help::Load)
+    } else if is_word(command, b"audit") {
+        Some(Help::Audit)
     } else {
         None
     }
@@ -112,7 +128,7 @@ impl fmt::Display for Help {
         match self {
             Help::Program => write!(
                 f,
-                "{NAME}\n\nusage: {SERVE}\n       {REPLAY}\n       {LOAD}\n       varn serve --help\n       varn replay --help\n       varn load --help\n       varn --help\n       varn --version\n\n{COMMANDS}\n\n{SERVE_OPTIONS}\n{LIMITS}\n{LOAD_OPTIONS}\n\n{ORDER}"
+                "{NAME}\n\nusage: {SERVE}\n       {REPLAY}\n       {LOAD}\n       {AUDIT}\n       varn serve --help\n       varn replay --help\n       varn load --help\n       varn audit --help\n       varn --help\n       varn --version\n\n{COMMANDS}\n\n{SERVE_OPTIONS}\n{LIMITS}\n{LOAD_OPTIONS}\n\n{ORDER}"
             ),
             Help::Serve => write!(
                 f,
@@ -120,6 +136,7 @@ impl fmt::Display for Help {
             ),
             Help::Replay => write!(f, "usage: {REPLAY}\n\n{LIMITS}\n\n{ORDER}\n{REPLAY_ENDS}"),
             Help::Load => write!(f, "usage: {LOAD}\n\n{LOAD_OPTIONS}\n\n{ORDER}\n{LOAD_ENDS}"),
+            Help::Audit => write!(f, "usage: {AUDIT}\n\n{AUDIT_TELLS}\n{AUDIT_ENDS}"),
             Help::Version => f.write_str("varn 0.1"),
         }
     }

@@ -3,7 +3,8 @@ use command_line::{CommandName, Fault, OptionName};
 use std::alloc::{AllocError, Global};
 use units::Text;
 
-const SERVE_TAKES: &str = "serve takes --listen, --vcl, --workers, --conns, --room and --history";
+const SERVE_TAKES: &str =
+    "serve takes --listen, --vcl, --workers, --conns, --cli, --room and --history";
 
 const LOAD_TAKES: &str = "load takes --seed and --steps";
 
@@ -16,6 +17,7 @@ fn name_of(option: OptionName) -> &'static str {
         OptionName::Vcl => "--vcl",
         OptionName::Workers => "--workers",
         OptionName::Conns => "--conns",
+        OptionName::Cli => "--cli",
         OptionName::Room => "--room",
         OptionName::History => "--history",
         OptionName::Seed => "--seed",
@@ -33,7 +35,7 @@ fn taken_by(command: CommandName) -> &'static str {
 // What stands behind an option.
 fn expected(name: &str) -> &'static str {
     match name {
-        "--listen" => "a port from 1 to 65535 is expected",
+        "--listen" | "--cli" => "a port from 1 to 65535 is expected",
         "--vcl" => "the name of a file is expected, in UTF-8, that doesn't begin with a hyphen",
         "--workers" => "a number from 1 to 64 is expected",
         "--conns" => "a number from 1 to 1000000 is expected",

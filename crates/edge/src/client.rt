@@ -25,6 +25,8 @@ pub(crate) enum News {
     Ready,
     /// No request is whole yet.
     Nothing,
+    /// No request is whole yet, and more may be there to read.
+    More,
     /// The client has ended the connection, or the system has.
     Over,
 }
@@ -178,7 +180,7 @@ impl Client {
         }
     }
 
-    /// Reads what came, until a request is whole. A client that waits for leave to send a body gets it.
+    /// Reads what came, as long as others can wait, until a request is whole. A client that waits for leave to send a body gets it.
     pub fn read_on(&mut self, alloc: Global, room: &mut [u8], now: u64) -> News {
         for turn in 0..MOST_READS {
             if let Some(news) = self.read_once(alloc, room, now) {
@@ -188,7 +190,7 @@ impl Client {
                 return news;
             }
         }
-        News::Over
+        News::More
     }
 
     /// How many bytes wait until the client takes them.

@@ -193,6 +193,8 @@ impl<R: Outside> Holding<R> {
         ensures bound { WritesAtMost result piece.now }
     {
         let client = self.client.as_mut().ok_or(Failed)?;
+        // What came behind the request that is answered has its time from now on.
+        client.since = self.edge.now(&self.rt);
         write_in_time(&self.rt, &self.edge, client, &mut self.taking, piece)
     }
 
@@ -228,16 +230,18 @@ impl<R: Outside> Holding<R> {
         match client.read_on(alloc, &mut [0u8; ROOM], now) {
             News::Ready => true,
             News::Over => self.end(false),
-            News::Nothing => self.is_stretch && self.end(true),
+            News::Nothing | News::More => self.is_stretch && self.end(true),
         }
     }
 
-    // Whether a request of which something came isn't whole in its time.
-    fn is_too_slow(&self) -> bool {
-        match &self.client {
-            Some(client) => client.is_late(self.edge.now(&self.rt), u64::MAX),
+    // Whether a request of which something came isn't whole in its time. Then a read answers at once: it fails.
+    fn is_too_slow(&mut self) -> bool {
+        let now = self.edge.now(&self.rt);
+        self.is_late = match &self.client {
+            Some(client) => client.is_late(now, u64::MAX),
             None => true,
-        }
+        };
+        self.is_late
     }
 
     // Waits for the next request for a while. Whether a read answers at once.
@@ -251,14 +255,13 @@ impl<R: Outside> Holding<R> {
             return true;
         };
         if has_news(client.stream.as_raw_fd(), millis) {
-            return self.look();
+            return self.look() || self.is_too_slow();
         }
         self.waited = self.waited.saturating_add(u64::from(millis));
         if self.is_stretch || is_idle && self.waited >= IDLE_MILLIS {
             return self.end(self.is_stretch);
         }
-        self.is_late = !is_idle && self.is_too_slow();
-        self.is_late
+        self.is_too_slow()
     }
 
     /// Gives the loop the connection back, which goes on with it or ends it; and whether a read failed.

@@ -29,8 +29,10 @@ const EHOSTUNREACH: i32 = 113;
 pub(crate) enum Remedy {
     /// Nobody waits any more.
     Wait,
-    /// One came, but a signal interrupted the call, or the connection or its network was over before it was taken.
+    /// A signal interrupted the call.
     AskAgain,
+    /// One came, but the connection or its network was over before it was taken.
+    PassOver,
     /// The system is short of descriptors or memory, which others may give back.
     Pause,
     /// No later call can go well.
@@ -43,9 +45,9 @@ pub(crate) fn remedy_for(error: &io::Error) -> Remedy {
     match error.raw_os_error() {
         None | Some(EMFILE | ENFILE | ENOBUFS | ENOMEM) => Remedy::Pause,
         Some(EAGAIN) => Remedy::Wait,
+        Some(EINTR) => Remedy::AskAgain,
         Some(
-            EINTR
-            | ECONNABORTED
+            ECONNABORTED
             | ECONNRESET
             | ENETDOWN
             | ENETUNREACH
@@ -57,7 +59,7 @@ pub(crate) fn remedy_for(error: &io::Error) -> Remedy {
             | EOPNOTSUPP
             | EPERM
             | ETIMEDOUT,
-        ) => Remedy::AskAgain,
+        ) => Remedy::PassOver,
         Some(_) => Remedy::GiveUp,
     }
 }

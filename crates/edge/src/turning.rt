@@ -34,6 +34,9 @@ const LOOK_MILLIS: u64 = 250;
 /// How many milliseconds are let pass where the system is short of something.
 const PAUSE_MILLIS: u64 = 100;
 
+/// How many milliseconds pass at least until it is told again how many connections couldn't be accepted.
+const TELL_MILLIS: u64 = 60_000;
+
 /// How many connections are accepted at most until others have their turn.
 const MOST_ACCEPTED: u32 = 64;
 
@@ -72,6 +75,12 @@ pub(crate) struct Turning<R: Outside> {
     /// Whether connections may wait at the listener.
     has_more: bool,
     is_short: bool,
+    /// How often accept(2) failed, though later calls can go well.
+    passed: u64,
+    /// How often, when that was told last.
+    told: u64,
+    /// When it may be told again.
+    tell_from: u64,
     /// Whether nobody asks for connections any more. What came back before that has come.
     is_retired: bool,
     /// When all places were looked at last.
@@ -104,10 +113,23 @@ fn address_of(from: &SocketAddr) -> [u8; 4] {
     }
 }
 
+// Says how many connections couldn't be accepted.
+fn tell_count<R: Outside>(rt: &R, count: u64) -> Result<(), AllocError> {
+    let line = format!(in rt.alloc();
+        "calls of accept(2) that failed and were passed over, so far: {count}"
+    )?;
+    tell(rt, line.as_str());
+    Ok(())
+}
+
 // Whether a client took less than 1,000 bytes a second of what waits, over 30 s. Where it took more these begin anew.
 fn is_slow(client: &mut Client, mark: &mut u64, now: u64) -> bool {
     if now.saturating_sub(client.since) < TAKING_MILLIS {
         return false;
+    }
+    // The system tells of room only once a third of its own is free, which takes a slow client longer.
+    if client.bring_out().is_err() {
+        return true;
     }
     let untaken = client.untaken() as u64;
     let taken = mark.saturating_sub(untaken);
@@ -132,6 +154,9 @@ impl<R: Outside> Turning<R> {
             resume: 0,
             has_more: false,
             is_short: false,
+            passed: 0,
+            told: 0,
+            tell_from: 0,
             is_retired: false,
             looked: 0,
             gathered: 0,
@@ -258,8 +283,13 @@ impl<R: Outside> Turning<R> {
     fn remedy(&mut self, error: &io::Error) -> bool {
         match remedy_for(error) {
             Remedy::AskAgain => return true,
+            Remedy::PassOver => {
+                self.passed = self.passed.saturating_add(1);
+                return true;
+            }
             Remedy::Wait => self.has_more = false,
             Remedy::Pause => {
+                self.passed = self.passed.saturating_add(1);
                 self.tell_shortage(true);
                 self.resume = self.now.saturating_add(PAUSE_MILLIS);
             }
@@ -286,6 +316,16 @@ impl<R: Outside> Turning<R> {
             tell(&self.rt, "connections are accepted again");
         }
         self.is_short = is_short;
+    }
+
+    // Says how many connections couldn't be accepted so far, at once and then once a minute at most.
+    fn tell_passed(&mut self) {
+        if self.passed > self.told && self.now >= self.tell_from {
+            self.told = self.passed;
+            self.tell_from = self.now.saturating_add(TELL_MILLIS);
+            // There is nobody to tell where there is no memory for the line.
+            let _ = tell_count(&self.rt, self.passed);
+        }
     }
 
     // Accepts no more, since the run is to end or the system failed.
@@ -331,6 +371,11 @@ impl<R: Outside> Turning<R> {
         match news {
             News::Ready => self.give(index),
             News::Nothing => self.keep_within(),
+            News::More => {
+                self.keep_within();
+                // Asked anew, the system tells of what is there.
+                self.await_news(index, Interest::READABLE);
+            }
             News::Over => self.release(index),
         }
     }
@@ -416,7 +461,8 @@ impl<R: Outside> Turning<R> {
         }
     }
 
-    // Puts a connection back to its place. One over which no further request may come is closed.
+    // Puts a connection back to its place. One over which no further request may come is closed; a request that has begun has its time
+    // from now on.
     fn settle(&mut self, handed: Handed) {
         let Handed {
             index,
@@ -424,9 +470,7 @@ impl<R: Outside> Turning<R> {
             goes_on,
         } = handed;
         client.tidy(self.alloc);
-        if client.held() == 0 {
-            client.since = self.now;
-        }
+        client.since = self.now;
         self.gathered = self.gathered.saturating_add(client.held());
         let is_registered = self
             .poll
@@ -599,6 +643,7 @@ impl<R: Outside> Turning<R> {
         if !self.is_closed {
             self.look_for_end();
         }
+        self.tell_passed();
         let idle_millis = self.idle_millis();
         for index in 0..self.places.len() {
             if self.is_late(index, idle_millis) {

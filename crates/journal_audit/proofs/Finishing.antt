@@ -9,14 +9,16 @@ use Rattle.audit_laws.specs.declared.kind.Kind.{Kind}
 use Rattle.audit_laws.specs.declared.kind.Kind.TheVariants as kinds
 use Rattle.audit_laws.specs.Steps.{Before, Closed, Place, Step, Within, lines_for, placed, text_for}
 use Rattle.audit_laws.specs.Journals.{most_bytes}
-use Rattle.audit_laws.specs.Faults.{BadAt, HasNoFeed, IsLeast, RestFault, TextFault, kind_number}
+use Rattle.audit_laws.specs.Faults.{HasNoFeed, IsLeast, RestFault, TextFault, kind_number}
 use Rattle.audit_laws.specs.Findings.{IsLegal}
 use Rattle.audit_laws.proofs.Agreeing.{append_none}
 use Rattle.audit_laws.proofs.Wholes.{journal_of, lines_same_in}
 use Rattle.journal_audit.specs.declared.course.Course.{Course}
 use Rattle.journal_audit.specs.declared.going.Found.{Found}
 use Rattle.journal_audit.specs.declared.going.Found.TheVariants as found
-use Rattle.journal_audit.specs.Feeding.{EndsCourse, IsBadFrom, IsFound, IsGoing, IsOn, cuts_in, entries_in}
+use Rattle.journal_audit.specs.declared.fault.Expected.TheVariants as expected
+use Rattle.journal_audit.specs.declared.fault.Fault.{Fault}
+use Rattle.journal_audit.specs.Feeding.{EndsCourse, IsBadFrom, IsBadSo, IsExpectedOf, IsFound, IsGoing, IsOn, cuts_in, entries_in}
 use Rattle.std.proofs.lemmas.Bool.{false≢true, true≢false}
 use Rattle.std.proofs.lemmas.Bool.Decides.{eqb_tells}
 use Rattle.journal_audit.specs.declared.phase.Phase.{Phase}
@@ -40,8 +42,8 @@ has_feed [] rest none = none.0 refl
 has_feed (byte ∷ front) rest none = has_feed front rest none.1
 
 -- what was bad stays so
-bad_more : (line : ℕ) (kind : Kind) (bytes part : List ℕ) → IsBadFrom line kind bytes → IsBadFrom line kind (bytes ++ part)
-bad_more line kind bytes part bad =
+bad_more : (line : ℕ) (fault : Fault) (bytes part : List ℕ) → IsBadFrom line fault bytes → IsBadFrom line fault (bytes ++ part)
+bad_more line fault bytes part bad =
     record {
       steps = bad.steps;
       legal = bad.legal;
@@ -67,7 +69,7 @@ going_more stands course held bytes part free going =
 -- a part without LF is held
 pub holds_more : {F : Type 0} (stands : F → Params → State → ℕ → Type 0) (found_ : Found F) (held held' bytes part : List ℕ) → HasNoFeed part → held' ≡ held ++ part → IsFound stands found_ held bytes → IsFound stands found_ held' (bytes ++ part)
 holds_more stands (found.Going course) held held' bytes part free e going = subst (λ (h : List ℕ). IsGoing stands course h (bytes ++ part)) (sym e) (going_more stands course held bytes part free going)
-holds_more stands (found.Bad line kind) held held' bytes part free e bad = bad_more line kind bytes part bad
+holds_more stands (found.Bad line fault) held held' bytes part free e bad = bad_more line fault bytes part bad
 
 -- a line ends
 ends_going : {F : Type 0} (stands : F → Params → State → ℕ → Type 0) (course : Course F) (held bytes : List ℕ) (next : Found F) (going : IsGoing stands course held bytes) → EndsCourse stands going.steps held next
@@ -80,7 +82,7 @@ ends_going stands course held bytes (found.Going next) going ends =
       joined = whole ∙ (ap (λ (t : List ℕ). text_for going.steps ++ (t ++ 10 ∷ [])) ends.read.written ∙ (sym (text_push going.steps ends.step) ∙ sym (append_none (text_for (going.steps ++ ends.step ∷ [])))));
       free = tt;
     }
-ends_going stands course held bytes (found.Bad line kind) going ends =
+ends_going stands course held bytes (found.Bad line fault) going ends =
     record {
       steps = going.steps;
       legal = going.on.legal;
@@ -99,8 +101,8 @@ pub line_ends : {F : Type 0} (stands : F → Params → State → ℕ → Type 0
 line_ends stands course held held' bytes next going none ends =
     subst (λ (h : List ℕ). IsFound stands next h (bytes ++ 10 ∷ [])) (sym none) (ends_going stands course held bytes next going (ends going.steps going.on))
 
-pub bad_ends : {F : Type 0} (stands : F → Params → State → ℕ → Type 0) (line : ℕ) (kind : Kind) (bytes : List ℕ) → IsBadFrom line kind bytes → IsBadFrom line kind (bytes ++ 10 ∷ [])
-bad_ends stands line kind bytes bad = bad_more line kind bytes (10 ∷ []) bad
+pub bad_ends : {F : Type 0} (stands : F → Params → State → ℕ → Type 0) (line : ℕ) (fault : Fault) (bytes : List ℕ) → IsBadFrom line fault bytes → IsBadFrom line fault (bytes ++ 10 ∷ [])
+bad_ends stands line fault bytes bad = bad_more line fault bytes (10 ∷ []) bad
 
 -- At the end.
 
@@ -115,33 +117,41 @@ rest_fault place room text more kind free fault = record { holds = inr (inr (tex
         subst (λ (t : List ℕ). TextFault place room t other) (sym same.0) f.4
 
 -- bytes behind which no more come are bad where they were
-pub bad_at : (line : ℕ) (kind : Kind) (bytes : List ℕ) → IsBadFrom line kind bytes → BadAt bytes line kind
-bad_at line kind bytes bad =
+pub bad_at : (line : ℕ) (fault : Fault) (bytes : List ℕ) → IsBadFrom line fault bytes → IsBadSo bytes line fault.kind fault.expected
+bad_at line fault bytes bad =
     let within = bad.within in
     record {
-      steps = bad.steps;
-      rest = bad.text ++ 10 ∷ bad.more;
-      legal = bad.legal;
-      writable = bad.writable;
-      within = omega (arith, within);
-      joined = bad.joined;
-      place = bad.bad.place;
-      fault = rest_fault (placed Before bad.steps) (most_bytes - length (text_for bad.steps)) bad.text bad.more kind bad.free bad.bad.fault;
+      bad = record {
+        steps = bad.steps;
+        rest = bad.text ++ 10 ∷ bad.more;
+        legal = bad.legal;
+        writable = bad.writable;
+        within = omega (arith, within);
+        joined = bad.joined;
+        place = bad.bad.place;
+        fault = rest_fault (placed Before bad.steps) (most_bytes - length (text_for bad.steps)) bad.text bad.more fault.kind bad.free bad.bad.least;
+      };
+      expects = λ text more e free.
+          let same = feeds_same text bad.text more bad.more free bad.free (sym e) in
+          subst (λ (t : List ℕ). IsExpectedOf fault.expected (placed Before bad.steps) t) (sym same.0) bad.bad.expects;
     }
 
 -- a text without its LF
-pub unended : {F : Type 0} (stands : F → Params → State → ℕ → Type 0) (course : Course F) (held bytes : List ℕ) → held ≢ [] → IsGoing stands course held bytes → BadAt bytes (course.lines + 1) kinds.Text
+pub unended : {F : Type 0} (stands : F → Params → State → ℕ → Type 0) (course : Course F) (held bytes : List ℕ) → held ≢ [] → IsGoing stands course held bytes → IsBadSo bytes (course.lines + 1) kinds.Text expected.LineFeed
 unended stands course held bytes some going =
     let room = going.on.room_is in
     record {
-      steps = going.steps;
-      rest = held;
-      legal = going.on.legal;
-      writable = going.on.writable;
-      within = omega (arith, room);
-      joined = going.joined;
-      place = ap (λ (n : ℕ). n + 1) going.on.lines_are;
-      fault = text_is_least (RestFault (placed Before going.steps) (most_bytes - length (text_for going.steps)) held) (inr (inl (some, going.free, refl)));
+      bad = record {
+        steps = going.steps;
+        rest = held;
+        legal = going.on.legal;
+        writable = going.on.writable;
+        within = omega (arith, room);
+        joined = going.joined;
+        place = ap (λ (n : ℕ). n + 1) going.on.lines_are;
+        fault = text_is_least (RestFault (placed Before going.steps) (most_bytes - length (text_for going.steps)) held) (inr (inl (some, going.free, refl)));
+      };
+      expects = λ text more e free one is_. tt;
     }
 
 no_close : (place : Place) (room : ℕ) → place ≢ Closed → IsLeast (RestFault place room []) kinds.End
@@ -154,18 +164,21 @@ no_close place room open_ = record { holds = inl (refl, open_, refl); least = λ
 
 -- no end
 pub unclosed : {F : Type 0} (stands : F → Params → State → ℕ → Type 0) (course : Course F) (held bytes : List ℕ) → held ≡ [] → ((place : Place) → IsAt stands course.phase place → place ≢ Closed) → IsGoing stands course held bytes
-    → BadAt bytes (course.lines + 1) kinds.End
+    → IsBadSo bytes (course.lines + 1) kinds.End expected.Close
 unclosed stands course held bytes none open_ going =
     let room = going.on.room_is in
     record {
-      steps = going.steps;
-      rest = [];
-      legal = going.on.legal;
-      writable = going.on.writable;
-      within = omega (arith, room);
-      joined = going.joined ∙ ap (λ (h : List ℕ). text_for going.steps ++ h) none;
-      place = ap (λ (n : ℕ). n + 1) going.on.lines_are;
-      fault = no_close (placed Before going.steps) (most_bytes - length (text_for going.steps)) (open_ (placed Before going.steps) going.on.there);
+      bad = record {
+        steps = going.steps;
+        rest = [];
+        legal = going.on.legal;
+        writable = going.on.writable;
+        within = omega (arith, room);
+        joined = going.joined ∙ ap (λ (h : List ℕ). text_for going.steps ++ h) none;
+        place = ap (λ (n : ℕ). n + 1) going.on.lines_are;
+        fault = no_close (placed Before going.steps) (most_bytes - length (text_for going.steps)) (open_ (placed Before going.steps) going.on.there);
+      };
+      expects = λ text more e free one is_. tt;
     }
 
 -- the end

@@ -4,6 +4,9 @@ use Rattle.cache_law.specs.declared.setting.Params.{Params}
 use Rattle.cache_law.specs.State.{State}
 use Rattle.journal_text.specs.declared.line.Line.{Line}
 use Rattle.journal_text.specs.Journals.{IsLine, text_of}
+use Rattle.journal_reader.specs.declared.fault.ReadError.TheVariants as errors
+use Rattle.journal_reader.specs.declared.fault.Refusal.{Refusal}
+use Rattle.journal_reader.specs.Refusals.{IsErrorOf}
 use Rattle.journal_reader.proofs.Unique.{line_same}
 use Rattle.audit_laws.specs.declared.kind.Kind.{Kind}
 use Rattle.audit_laws.specs.declared.kind.Kind.TheVariants as kinds
@@ -12,28 +15,33 @@ use Rattle.audit_laws.specs.Journals.{most_bytes}
 use Rattle.audit_laws.specs.Faults.{HasPlace, IsLeast, LineFault, TextFault}
 use Rattle.journal_audit.specs.declared.course.Course.{Course}
 use Rattle.journal_audit.specs.Counts.{cut_weight, entry_weight}
-use Rattle.journal_audit.specs.Feeding.{IsBadLine, IsOn, IsOneOn}
-use Rattle.journal_audit.specs.Following.{HasStepped, IsAt, ReadFault}
+use Rattle.journal_audit.specs.declared.fault.Expected.{Expected}
+use Rattle.journal_audit.specs.declared.fault.Expected.TheVariants as expected
+use Rattle.journal_audit.specs.declared.fault.Fault.{Fault}
+use Rattle.journal_audit.specs.Feeding.{IsBadLine, IsExpectedOf, IsOn, IsOneOn}
+use Rattle.journal_audit.specs.Following.{HasStepped, IsAt, IsExpected, IsLineFault, ReadFault}
 use Rattle.journal_audit.proofs.Lining.{text_is_least}
 use Rattle.journal_audit.proofs.Pushing.{cuts_push, entries_push, may_push, placed_push, text_push, writable_push}
 
 -- the text is too long
 pub too_long : {F : Type 0} (stands : F → Params → State → ℕ → Type 0) (course : Course F) (steps : List Step) (text : List ℕ) → IsOn stands course steps → course.room ≤ length text
-    → IsBadLine steps text (course.lines + 1) kinds.Text
+    → IsBadLine steps text (course.lines + 1) (record { kind = kinds.Text; expected = expected.FewerBytes })
 too_long stands course steps text on long =
     let room = on.room_is in
     record {
       place = ap (λ (n : ℕ). n + 1) on.lines_are;
-      fault = text_is_least (TextFault (placed Before steps) (most_bytes - length (text_for steps)) text) (inl (refl, omega (arith, long, room)));
+      expects = λ one is_. tt;
+      least = text_is_least (TextFault (placed Before steps) (most_bytes - length (text_for steps)) text) (inl (refl, omega (arith, long, room)));
     }
 
 -- the text is no line
-pub no_line : {F : Type 0} (stands : F → Params → State → ℕ → Type 0) (course : Course F) (steps : List Step) (text : List ℕ) → IsOn stands course steps → ((one : Line) → IsLine text one → ⊥)
-    → IsBadLine steps text (course.lines + 1) kinds.Text
-no_line stands course steps text on none =
+pub no_line : {F : Type 0} (stands : F → Params → State → ℕ → Type 0) (course : Course F) (steps : List Step) (text : List ℕ) (refusal : Refusal) → IsOn stands course steps → ((one : Line) → IsLine text one → ⊥) → IsErrorOf text (errors.Refused refusal)
+    → IsBadLine steps text (course.lines + 1) (record { kind = kinds.Text; expected = expected.Line refusal })
+no_line stands course steps text refusal on none refused =
     record {
       place = ap (λ (n : ℕ). n + 1) on.lines_are;
-      fault = text_is_least (TextFault (placed Before steps) (most_bytes - length (text_for steps)) text) (inr (inl (refl, λ one is has. none one is)));
+      expects = refused;
+      least = text_is_least (TextFault (placed Before steps) (most_bytes - length (text_for steps)) text) (inr (inl (refl, λ one is has. none one is)));
     }
 
 text_fault : (place : Place) (room : ℕ) (text : List ℕ) (one : Line) (kind : Kind) → IsLine text one → length text + 1 ≤ room → IsLeast (ReadFault place one) kind → IsLeast (TextFault place room text) kind
@@ -48,14 +56,26 @@ text_fault place room text one kind is fits fault = record { holds = up fault.ho
     down other (inr (inl f)) = inl (f.0, λ has. f.1 one is has)
     down other (inr (inr f)) = inr (subst (λ (l : Line). LineFault place l other) (line_same text f.0 one f.1 is) f.2)
 
+-- what was expected of a line was expected of its text
+expected_of : (place : Place) (text : List ℕ) (one : Line) (expected_ : Expected) → IsLine text one → IsExpected expected_ place one → IsExpectedOf expected_ place text
+expected_of place text one expected_ is expects = by_case expected_ expects
+  where
+    same : (expected_ : Expected) → IsExpected expected_ place one → (other : Line) → IsLine text other → IsExpected expected_ place other
+    same expected_ expects other is_ = subst (λ (l : Line). IsExpected expected_ place l) (line_same text one other is is_) expects
+
+    by_case : (expected_ : Expected) → IsExpected expected_ place one → IsExpectedOf expected_ place text
+    by_case (expected.Line refusal) expects = absurd expects
+    by_case expected_ expects = same expected_ expects
+
 -- the line has a fault
-pub bad_line : {F : Type 0} (stands : F → Params → State → ℕ → Type 0) (course : Course F) (steps : List Step) (text : List ℕ) (one : Line) (kind : Kind) → IsOn stands course steps → IsLine text one → length text < course.room
-    → IsLeast (ReadFault (placed Before steps) one) kind → IsBadLine steps text (course.lines + 1) kind
-bad_line stands course steps text one kind on is fits fault =
+pub bad_line : {F : Type 0} (stands : F → Params → State → ℕ → Type 0) (course : Course F) (steps : List Step) (text : List ℕ) (one : Line) (fault : Fault) → IsOn stands course steps → IsLine text one → length text < course.room
+    → IsLineFault (placed Before steps) one fault → IsBadLine steps text (course.lines + 1) fault
+bad_line stands course steps text one fault on is fits bad =
     let room = on.room_is in
     record {
       place = ap (λ (n : ℕ). n + 1) on.lines_are;
-      fault = text_fault (placed Before steps) (most_bytes - length (text_for steps)) text one kind is (omega (arith, fits, room)) fault;
+      least = text_fault (placed Before steps) (most_bytes - length (text_for steps)) text one fault.kind is (omega (arith, fits, room)) bad.least;
+      expects = expected_of (placed Before steps) text one fault.expected is bad.expects;
     }
 
 -- the line is taken

@@ -3,9 +3,12 @@ use Rattle.std.specs.Prelude.{◌≡◌, ◌+◌, ◌-◌, ◌<◌, ◌==◌, �
 use Rattle.units.specs.Signs.{line_feed}
 use Rattle.cache_law.specs.declared.setting.Params.{Params}
 use Rattle.cache_law.specs.State.{State}
+use Rattle.journal_text.specs.declared.line.Line.{Line}
 use Rattle.journal_text.specs.Journals.{IsLine}
+use Rattle.journal_reader.specs.declared.fault.ReadError.TheVariants as errors
+use Rattle.journal_reader.specs.Refusals.{IsErrorOf}
 use Rattle.audit_laws.specs.declared.kind.Kind.{Kind}
-use Rattle.audit_laws.specs.Steps.{AreWritable, Before, Cuts, Enters, MaySteps, Step, line_for, placed, text_for}
+use Rattle.audit_laws.specs.Steps.{AreWritable, Before, Cuts, Enters, MaySteps, Place, Step, line_for, placed, text_for}
 use Rattle.audit_laws.specs.Journals.{most_bytes}
 use Rattle.audit_laws.specs.Faults.{BadAt, HasNoFeed, IsLeast, TextFault}
 use Rattle.audit_laws.specs.Findings.{IsLegal}
@@ -13,9 +16,12 @@ use Rattle.journal_audit.specs.declared.auditor.Auditor.{Auditor}
 use Rattle.journal_audit.specs.declared.auditor.Finding.{Finding}
 use Rattle.journal_audit.specs.declared.auditor.Finding.TheVariants as findings
 use Rattle.journal_audit.specs.declared.course.Course.{Course}
+use Rattle.journal_audit.specs.declared.fault.Expected.{Expected}
+use Rattle.journal_audit.specs.declared.fault.Expected.TheVariants as expected
+use Rattle.journal_audit.specs.declared.fault.Fault.{Fault}
 use Rattle.journal_audit.specs.declared.going.Found.{Found}
 use Rattle.journal_audit.specs.declared.going.Found.TheVariants as found
-use Rattle.journal_audit.specs.Following.{IsAt}
+use Rattle.journal_audit.specs.Following.{IsAt, IsExpected}
 
 -- how many entries there are among steps, and how many ends of segments
 abbrev pub entries_in : List Step → ℕ
@@ -38,10 +44,16 @@ pub record IsOn {F : Type 0} (stands : F → Params → State → ℕ → Type 0
   pub entries_are : course.entries ≡ entries_in steps
   pub cuts_are : course.cuts ≡ cuts_in steps
 
--- the text is a line behind steps, and this the least kind of what is wrong with it
-pub record IsBadLine (steps : List Step) (text : List ℕ) (line : ℕ) (kind : Kind) : Type 0 where
+-- what was expected of a text is so: it is refused as a line for this, or it is what was expected of the line that it is
+abbrev pub IsExpectedOf : Expected → Place → List ℕ → Type 0
+IsExpectedOf (expected.Line refusal) place text = IsErrorOf text (errors.Refused refusal)
+IsExpectedOf other place text = (one : Line) → IsLine text one → IsExpected other place one
+
+-- the text is a line behind steps, and this is wrong with it
+pub record IsBadLine (steps : List Step) (text : List ℕ) (line : ℕ) (fault : Fault) : Type 0 where
   pub place : line ≡ length steps + 1
-  pub fault : IsLeast (TextFault (placed Before steps) (most_bytes - length (text_for steps)) text) kind
+  pub least : IsLeast (TextFault (placed Before steps) (most_bytes - length (text_for steps)) text) fault.kind
+  pub expects : IsExpectedOf fault.expected (placed Before steps) text
 
 -- one step more, whose line this text is
 pub record IsOneOn {F : Type 0} (stands : F → Params → State → ℕ → Type 0) (steps : List Step) (text : List ℕ) (course : Course F) : Type 0 where
@@ -52,7 +64,7 @@ pub record IsOneOn {F : Type 0} (stands : F → Params → State → ℕ → Typ
 -- what becomes of a course with the text of a line
 abbrev pub EndsCourse : {F : Type 0} → (F → Params → State → ℕ → Type 0) → List Step → List ℕ → Found F → Type 0
 EndsCourse stands steps text (found.Going course) = IsOneOn stands steps text course
-EndsCourse stands steps text (found.Bad line kind) = IsBadLine steps text line kind
+EndsCourse stands steps text (found.Bad line fault) = IsBadLine steps text line fault
 
 -- the bytes are the lines of the steps so far, and a text without LF
 pub record IsGoing {F : Type 0} (stands : F → Params → State → ℕ → Type 0) (course : Course F) (held bytes : List ℕ) : Type 0 where
@@ -62,7 +74,7 @@ pub record IsGoing {F : Type 0} (stands : F → Params → State → ℕ → Typ
   pub free : HasNoFeed held
 
 -- the bytes are the lines of steps, and behind them one that is bad
-pub record IsBadFrom (line : ℕ) (kind : Kind) (bytes : List ℕ) : Type 0 where
+pub record IsBadFrom (line : ℕ) (fault : Fault) (bytes : List ℕ) : Type 0 where
   pub steps : List Step
   pub legal : MaySteps Before steps
   pub writable : AreWritable steps
@@ -72,20 +84,25 @@ pub record IsBadFrom (line : ℕ) (kind : Kind) (bytes : List ℕ) : Type 0 wher
   pub more : List ℕ
   pub joined : bytes ≡ text_for steps ++ (text ++ line_feed ∷ more)
   pub free : HasNoFeed text
-  pub bad : IsBadLine steps text line kind
+  pub bad : IsBadLine steps text line fault
 
 abbrev pub IsFound : {F : Type 0} → (F → Params → State → ℕ → Type 0) → Found F → List ℕ → List ℕ → Type 0
 IsFound stands (found.Going course) held bytes = IsGoing stands course held bytes
-IsFound stands (found.Bad line kind) held bytes = IsBadFrom line kind bytes
+IsFound stands (found.Bad line fault) held bytes = IsBadFrom line fault bytes
 
 -- the auditor was fed these bytes
 abbrev pub IsFed : {F : Type 0} → (F → Params → State → ℕ → Type 0) → Auditor F → List ℕ → Type 0
 IsFed stands auditor bytes = IsFound stands auditor.found auditor.held.items bytes
 
+-- The bytes are bad at this line, and what was expected of it, up to its LF, is so.
+pub record IsBadSo (bytes : List ℕ) (line : ℕ) (kind : Kind) (expected_ : Expected) : Type 0 where
+  pub bad : BadAt bytes line kind
+  pub expects : (text more : List ℕ) → bad.rest ≡ text ++ line_feed ∷ more → HasNoFeed text → IsExpectedOf expected_ (placed Before bad.steps) text
+
 -- what is told of bytes holds of them
 abbrev pub IsFinding : List ℕ → Finding → Type 0
 IsFinding bytes (findings.Legal entries segments) = IsLegal bytes entries segments
-IsFinding bytes (findings.Bad line kind) = BadAt bytes line kind
+IsFinding bytes (findings.Bad line kind expected_) = IsBadSo bytes line kind expected_
 
 abbrev pub is_feed : ℕ → Bool
 is_feed byte = byte == line_feed

@@ -5,18 +5,26 @@ ghost use Rattle.units.specs.Signs.{line_feed};
 ghost use Rattle.audit_laws.specs.Faults.{HasNoFeed};
 ghost use Rattle.journal_audit.specs.Feeding.{HasFeedAt, IsFed, IsFinding, IsGoing, IsParted, is_feed};
 
-use crate::Follower;
 use crate::course::Course;
 use crate::going::Found;
 use crate::phase::Phase;
+use crate::{Expected, Follower};
 use audit_laws::Kind;
 use std::alloc::{AllocError, Global};
 
 /// What a text is as a journal.
-#[derive(Clone, Copy, Debug, PartialEq, Eq)]
+#[derive(Drop)]
 pub enum Finding {
-    Legal { entries: u64, segments: u64 },
-    Bad { line: u32, kind: Kind },
+    Legal {
+        entries: u64,
+        segments: u64,
+    },
+    /// The first bad line, the least kind of what is wrong with it, and what was expected there.
+    Bad {
+        line: u32,
+        kind: Kind,
+        expected: Expected,
+    },
 }
 
 /// It is fed the text of a journal in pieces.
@@ -88,7 +96,7 @@ impl<F: Follower> Auditor<F> {
         let mut held = held;
         let found = match found {
             Found::Going(course) => course.go_on(alloc, held.as_slice())?,
-            Found::Bad { line, kind } => Found::Bad { line, kind },
+            Found::Bad { line, fault } => Found::Bad { line, fault },
         };
         held.clear();
         Ok(Auditor { found, held })
@@ -114,7 +122,11 @@ impl<F: Follower> Auditor<F> {
         let Auditor { found, held } = self;
         match found {
             Found::Going(course) => course.finding(held.as_slice()),
-            Found::Bad { line, kind } => Finding::Bad { line, kind },
+            Found::Bad { line, fault } => Finding::Bad {
+                line,
+                kind: fault.kind,
+                expected: fault.expected,
+            },
         }
     }
 }
@@ -128,12 +140,14 @@ impl<F: Follower> Course<F> {
             return Finding::Bad {
                 line: self.lines + 1,
                 kind: Kind::Text,
+                expected: Expected::LineFeed,
             };
         }
         if !self.phase.is_closed() {
             return Finding::Bad {
                 line: self.lines + 1,
                 kind: Kind::End,
+                expected: Expected::Close,
             };
         }
         Finding::Legal {

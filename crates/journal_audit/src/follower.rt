@@ -6,6 +6,7 @@ ghost use Rattle.cache_law.specs.State.{State};
 ghost use Rattle.audit_laws.specs.Steps.{params_of};
 ghost use Rattle.journal_audit.specs.Following.{EndsCut, EndsEntry};
 
+use crate::Fault;
 use audit_laws::Kind;
 use journal_text::{First, Said};
 use std::alloc::{AllocError, Global};
@@ -19,8 +20,8 @@ pub trait Follower: Sized + Drop {
     fn start(alloc: Global, first: First) -> Result<Self, AllocError>
         ensures { IfOk result (λ next. stands next (params_of first) (base_of first.boot) 0) };
 
-    /// Goes on with what an entry says, or tells the least kind of what is wrong with it.
-    fn enter(self, alloc: Global, said: Said) -> Result<Result<Self, Kind>, AllocError>
+    /// Goes on with what an entry says, or tells the least kind of what is wrong with it, and what was expected.
+    fn enter(self, alloc: Global, said: Said) -> Result<Result<Self, Fault>, AllocError>
         ensures { (params : Limits) (state : State) (used : ℕ) → stands self params state used → IfOk result (EndsEntry stands params state used said) };
 
     /// Ends a segment, or says that something is open.

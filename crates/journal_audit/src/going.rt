@@ -1,12 +1,14 @@
 // One line more.
-ghost use Rattle.std.specs.Prelude.{◌≡◌, List, IfOk};
+ghost use Rattle.std.specs.Prelude.{◌≡◌, ◌+◌, ◌≤◌, ◌^◌, List, IfOk};
+ghost use Rattle.audit_laws.specs.declared.kind.Kind.TheVariants as kinds;
 ghost use Rattle.audit_laws.specs.Steps.{Step as JournalStep};
 ghost use Rattle.journal_audit.specs.Counts.{cut_weight, entry_weight};
+ghost use Rattle.journal_audit.specs.declared.going.Found.TheVariants as found;
 ghost use Rattle.journal_audit.specs.Feeding.{EndsCourse, IsOn};
 
-use crate::Follower;
 use crate::course::Course;
 use crate::phase::step;
+use crate::{Expected, Fault, Follower};
 use audit_laws::Kind;
 use journal_reader::{ReadError, read_line};
 use journal_text::Line;
@@ -16,7 +18,7 @@ use std::alloc::{AllocError, Global};
 #[derive(Drop)]
 pub(crate) enum Found<F> {
     Going(Course<F>),
-    Bad { line: u32, kind: Kind },
+    Bad { line: u32, fault: Fault },
 }
 
 fn entry_count(line: &Line) -> u64
@@ -37,6 +39,20 @@ fn cut_count(line: &Line) -> u64
     }
 }
 
+// The text behind so many lines is none.
+fn no_line<F: Follower>(lines: u32, expected: Expected) -> Found<F>
+    requires { lines ≤ 2 ^ 30 }
+    ensures { result ≡ found.Bad (lines + 1) (record { kind = kinds.Text; expected = expected }) }
+{
+    Found::Bad {
+        line: lines + 1,
+        fault: Fault {
+            kind: Kind::Text,
+            expected,
+        },
+    }
+}
+
 impl<F: Follower> Course<F> {
     /// Goes on with the text of a line.
     pub(crate) fn go_on(self, alloc: Global, text: &[u8]) -> Result<Found<F>, AllocError>
@@ -50,18 +66,12 @@ impl<F: Follower> Course<F> {
             cuts,
         } = self;
         if text.len() >= room {
-            return Ok(Found::Bad {
-                line: lines + 1,
-                kind: Kind::Text,
-            });
+            return Ok(no_line(lines, Expected::FewerBytes));
         }
         let line = match read_line(alloc, text) {
             Ok(line) => line,
-            Err(ReadError::Refused(_)) => {
-                return Ok(Found::Bad {
-                    line: lines + 1,
-                    kind: Kind::Text,
-                });
+            Err(ReadError::Refused(refusal)) => {
+                return Ok(no_line(lines, Expected::Line(refusal)));
             }
             Err(ReadError::NoMemory) => return Err(AllocError),
         };
@@ -75,9 +85,9 @@ impl<F: Follower> Course<F> {
                 entries,
                 cuts,
             })),
-            Err(kind) => Ok(Found::Bad {
+            Err(fault) => Ok(Found::Bad {
                 line: lines + 1,
-                kind,
+                fault,
             }),
         }
     }

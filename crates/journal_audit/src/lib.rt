@@ -7,9 +7,11 @@
 
 mod auditor;
 mod course;
+mod fault;
 mod follower;
 mod going;
 mod phase;
 
 pub use auditor::{Auditor, Finding, audit};
+pub use fault::{Expected, Fault};
 pub use follower::Follower;

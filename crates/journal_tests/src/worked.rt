@@ -8,7 +8,8 @@ use std::alloc::{AllocError, Global};
 use units::{Sequence, Shared};
 use wire::FailingSink;
 
-const PARAMS: Params = Params {
+/// The limits of the run.
+pub const PARAMS: Params = Params {
     room: 1_000_000,
     history: 640,
     segments: true,
@@ -52,7 +53,8 @@ fn write(alloc: Global, sink: &mut FailingSink) -> Result<(), JournalError> {
     )
 }
 
-fn boot(alloc: Global) -> Result<Boot, AllocError> {
+/// The opening VCL of the run.
+pub fn boot(alloc: Global) -> Result<Boot, AllocError> {
     Ok(Boot {
         text: text(alloc, "vcl 4.1; backend default { .host = \"127.0.0.1\"; }")?,
         backends: texts(alloc, &["default"])?,

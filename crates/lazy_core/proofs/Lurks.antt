@@ -1,20 +1,28 @@
 -- The shelf stands as before behind what the lurker does, and what it takes out is a chore of the history.
-use Rattle.std.proofs.Common.{◌≡◌, ◌≤◌, ◌<◌, ◌&&◌, ℕ, zero, suc, Bool, true, false, cond, List, [], ◌∷◌, length, refl, arith, sym, ap, ◌∙◌, subst}
+use Rattle.std.proofs.Common.{◌≡◌, ◌≤◌, ◌<◌, ◌==◌, ◌&&◌, ◌||◌, nat_le, nat_lt, ℕ, zero, suc, Bool, true, false, cond, List, [], ◌∷◌, length, refl, arith, sym, ap, ◌∙◌, subst}
 use Rattle.std.specs.Prelude.{Result, Ok, Err, Option, Some, None, IfOk, IfSome, slice_index_or}
 use Rattle.std.specs.List.{list_any, AllByRecursion}
+use Rattle.std.proofs.lemmas.Bool.{and_from, and_parts, eqb-true, le-leb, leb-true, ltb-true, or_right}
+use Rattle.cache_law.specs.declared.ban.Issued.{Issued}
 use Rattle.cache_law.specs.declared.call.Entry.{Entry}
 use Rattle.cache_law.specs.Beginning.{Beginning}
 use Rattle.cache_law.specs.Bases.{IsSound}
 use Rattle.cache_law.specs.History.{reached}
 use Rattle.ban_lurker.specs.declared.chore.Chore.{Chore}
 use Rattle.ban_lurker.specs.declared.chore.Verdict.{Verdict}
-use Rattle.ban_lurker.specs.Verdicts.{IsChoreOf, IsVerdictOf}
+use Rattle.cache_law.proofs.Held.{all-weaken}
+use Rattle.ban_lurker.specs.Looks.{is_above, is_alone}
+use Rattle.ban_lurker.specs.Verdicts.{IsChoreOf, IsVerdictOf, between}
 use Rattle.cache_frame.specs.Shelves.{StandsOn}
 use Rattle.lazy_law.specs.Placed.{Lazy, Placed, is_unswept, kept_bans}
-use Rattle.lazy_law.specs.Sweeping.{chore_of, count_unswept, judged_lazy}
+use Rattle.lazy_law.specs.Stands.{Agrees}
+use Rattle.lazy_law.specs.Sweeping.{chore_of, count_unswept, is_asked, judged_lazy}
+use Rattle.lazy_law.proofs.Agreeing.{same_unswept}
+use Rattle.lazy_law.proofs.Filters.{any_on}
 use Rattle.lazy_law.proofs.Judging.{judged_at, no_more_by}
 use Rattle.lazy_law.proofs.Lurking.{all_chores}
 use Rattle.lazy_store.specs.Chores.{IsChoreIn}
+use Rattle.lazy_store.specs.Cutting.{AreCut}
 use Rattle.lazy_store.specs.Lurking.{AreSwept}
 use Rattle.lazy_store.specs.Settling.{is_open, is_settled, is_sound, settled}
 use Rattle.lazy_store.proofs.Settles.{settled_as, settled_not, sound_says}
@@ -83,3 +91,61 @@ fewer_wait verdict old now new is same =
 pub left_waiting : (verdict : Verdict) (old now new : Lazy) (answer : Bool) → answer ≡ is_settled verdict old → now ≡ settled verdict old → count_unswept new ≡ count_unswept now → answer ≡ false → count_unswept new ≡ count_unswept old
 left_waiting verdict old now new answer told is same e =
     same ∙ ap count_unswept is ∙ ap count_unswept (sym (settled_not verdict old (sym told ∙ e)))
+
+-- ---- whether the object is as a verdict of the history has it
+
+above_step : (above within : Bool) (i : Issued) (rest : List Issued) (later : Bool) → (0 < length rest → later ≡ true) → 0 < length (cond (above && within) (i ∷ rest) rest) → (above || later) ≡ true
+above_step true within i rest later on some = refl
+above_step false within i rest later on some = on some
+
+some_above : (mark upto : ℕ) (bans : List Issued) → 0 < length (between mark upto bans) → list_any (is_above mark) bans ≡ true
+some_above mark upto [] some = absurd (omega (arith, some))
+some_above mark upto (i ∷ bans) some = above_step (is_above mark i) (nat_le i.number upto) i (between mark upto bans) (list_any (is_above mark) bans) (some_above mark upto bans) some
+
+below_step : (newer alone within : Bool) (mark upto : ℕ) (i : Issued) (rest : List Issued) → nat_lt mark i.number ≡ newer → nat_le i.number upto ≡ within → (0 < length rest → mark ≤ upto)
+    → 0 < length (cond ((newer && alone) && within) (i ∷ rest) rest) → mark ≤ upto
+below_step true true true mark upto i rest e f on some =
+    let newer = ltb-true mark i.number e in
+    let within = leb-true i.number upto f in
+    omega (arith, newer, within)
+below_step true true false mark upto i rest e f on some = on some
+below_step true false within mark upto i rest e f on some = on some
+below_step false alone within mark upto i rest e f on some = on some
+
+some_below : (mark upto : ℕ) (bans : List Issued) → 0 < length (between mark upto bans) → mark ≤ upto
+some_below mark upto [] some = absurd (omega (arith, some))
+some_below mark upto (i ∷ bans) some = below_step (nat_lt mark i.number) (is_alone i) (nat_le i.number upto) mark upto i (between mark upto bans) refl refl (some_below mark upto bans) some
+
+sound_so : (verdict : Verdict) (lazy : Lazy) (beginning : Beginning) (entries : List Entry) → IsVerdictOf beginning entries verdict → StandsBehind lazy beginning entries → is_sound lazy.issued verdict ≡ true
+sound_so verdict lazy beginning entries is stands =
+    let below = some_below verdict.mark verdict.upto (reached beginning entries).bans is.some in
+    let count = stands.stands.stands.count in
+    let within : verdict.upto ≤ lazy.issued = omega (arith, is.issued, count) in
+    or_right verdict.dead (nat_le verdict.mark verdict.upto && nat_le verdict.upto lazy.issued)
+    (and_from (nat_le verdict.mark verdict.upto) (nat_le verdict.upto lazy.issued) (le-leb verdict.mark verdict.upto below) (le-leb verdict.upto lazy.issued within))
+
+same_first : (a b : Bool) → (a ≡ true → b ≡ true) → (a && b) ≡ a
+same_first true b on = on refl
+same_first false b on = refl
+
+waits_so : (lazy : Lazy) (bans : List Issued) (verdict : Verdict) (p : Placed) → 0 < length (between verdict.mark verdict.upto bans) → Agrees (kept_bans lazy) bans p → is_asked verdict p ≡ true → is_unswept (kept_bans lazy) p ≡ true
+waits_so lazy bans verdict p some agrees e =
+    let mark : p.mark ≡ verdict.mark = eqb-true p.mark verdict.mark (and_parts (p.view.number == verdict.object) (p.mark == verdict.mark) e).1 in
+    same_unswept (kept_bans lazy) bans p agrees ∙ ap (λ (m : ℕ). list_any (is_above m) bans) mark ∙ some_above verdict.mark verdict.upto bans some
+
+pub answer_so : (verdict : Verdict) (lazy : Lazy) (beginning : Beginning) (entries : List Entry) → IsVerdictOf beginning entries verdict → StandsBehind lazy beginning entries → is_settled verdict lazy ≡ list_any (is_asked verdict) lazy.objects
+answer_so verdict lazy beginning entries is stands =
+    let own : List Issued = kept_bans lazy in
+    let bans : List Issued = (reached beginning entries).bans in
+    ap (λ (b : Bool). b && list_any (is_open own verdict) lazy.objects) (sound_so verdict lazy beginning entries is stands)
+    ∙ any_on (is_open own verdict) (is_asked verdict) lazy.objects
+    (all-weaken (Agrees own bans) (λ (p : Placed). is_open own verdict p ≡ is_asked verdict p)
+    (λ p agrees. same_first (is_asked verdict p) (is_unswept own p) (waits_so lazy bans verdict p is.some agrees)) lazy.objects stands.stands.stands.kept.agrees)
+
+-- ---- what a verdict leaves
+
+pub unsettled : (verdict : Verdict) (old new : Lazy) (answer : Bool) → answer ≡ is_settled verdict old → new ≡ settled verdict old → answer ≡ false → new ≡ old
+unsettled verdict old new answer told is e = is ∙ sym (settled_not verdict old (sym told ∙ e))
+
+pub judged_cut : (verdict : Verdict) (old between new : Lazy) (answer : Bool) → answer ≡ is_settled verdict old → between ≡ settled verdict old → answer ≡ true → AreCut between new → AreCut (judged_lazy verdict old) new
+judged_cut verdict old between new answer told is e cut = subst (λ (l : Lazy). AreCut l new) (is ∙ sym (settled_as verdict old (sym told ∙ e))) cut

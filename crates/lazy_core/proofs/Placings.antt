@@ -40,7 +40,7 @@ use Rattle.lazy_insert.proofs.Inserts.{still_before}
 use Rattle.lazy_insert.proofs.Unseen.{tidied_at}
 use Rattle.lazy_core.specs.Rests.{entries_push, used_longer}
 use Rattle.lazy_core.specs.Shelf.{StandsBehind}
-use Rattle.lazy_core.proofs.Standing.{cut_on, gone_so, moves}
+use Rattle.lazy_core.proofs.Standing.{cut_behind, gone_so, moves}
 use Rattle.lazy_core.proofs.Uses.{placed_uses, purged_uses, softened_uses}
 
 -- ---- a ban, and purges
@@ -51,17 +51,24 @@ answered_so new reply step told left = ap (λ (r : Reply). record { reply = r; l
 uses_of : (place : ℕ) (new now : Lazy) → new ≡ now → AreUsedBefore place now.objects → AreUsedBefore place new.objects
 uses_of place new now is uses = subst (λ (l : Lazy). AreUsedBefore place l.objects) (sym is) uses
 
-pub ban_moves : (old cut new : Lazy) (now : ℕ) (ban : BanWords) → StandsOn StandsBehind old cut → new ≡ banned_late now ban cut → MovesOn StandsBehind old new now (Ban ban) replies.Banned
-ban_moves old cut new now ban on is beginning entries caller sound stands later =
+ban_moves : (old new : Lazy) (now : ℕ) (ban : BanWords) → new ≡ banned_late now ban old → MovesOn StandsBehind old new now (Ban ban) replies.Banned
+ban_moves old new now ban is beginning entries caller sound stands later =
     let state : State = reached beginning entries in
-    let there : StandsBehind cut beginning entries = on beginning entries sound stands in
-    moves cut new beginning entries caller now (Ban ban) replies.Banned sound there later
-    (answered_so new replies.Banned (record { reply = replies.Banned; lazy = banned_late now ban cut }) refl is)
-    (uses_of (state.entries + 1) new (banned_late now ban cut) is (used_longer state.entries (state.entries + 1) cut.objects refl there.uses))
+    moves old new beginning entries caller now (Ban ban) replies.Banned sound stands later
+    (answered_so new replies.Banned (record { reply = replies.Banned; lazy = banned_late now ban old }) refl is)
+    (uses_of (state.entries + 1) new (banned_late now ban old) is (used_longer state.entries (state.entries + 1) old.objects refl stands.uses))
 
-pub ban_told : {T E : Type 0} (old cut new : Lazy) (now : ℕ) (ban : BanWords) (result : Result T E) → AreCut old cut → OnOk result (new ≡ banned_late now ban cut) → OnOk result (MovesOn StandsBehind old new now (Ban ban) replies.Banned)
-ban_told old cut new now ban (Ok value) may is = ban_moves old cut new now ban (cut_on old cut may) is
-ban_told old cut new now ban (Err e) may is = is
+-- the ban was issued, and then lines were cut
+pub ban_cut : (old between new : Lazy) (now : ℕ) (ban : BanWords) → between ≡ banned_late now ban old → AreCut between new → MovesOn StandsBehind old new now (Ban ban) replies.Banned
+ban_cut old between new now ban is cut beginning entries caller sound stands later =
+    let joins = ban_moves old between now ban is beginning entries caller sound stands later in
+    record { allows = joins.allows; stands = cut_behind between new cut beginning (entries ++ entry_of caller now (Ban ban) replies.Banned ∷ []) joins.stands }
+
+pub untested_so : (old between new : Lazy) (now : ℕ) (ban : BanWords) → between ≡ banned_late now ban old → AreCut between new → new.objects ≡ old.objects
+untested_so old between new now ban is cut = ap (λ (l : Lazy). l.objects) cut.is ∙ ap (λ (l : Lazy). l.objects) is
+
+pub issued_so : (old between new : Lazy) (now : ℕ) (ban : BanWords) → between ≡ banned_late now ban old → AreCut between new → AreCut (banned_late now ban old) new
+issued_so old between new now ban is cut = subst (λ (l : Lazy). AreCut l new) is cut
 
 pub key_moves : (old new : Lazy) (now : ℕ) (key : List (List ℕ)) (count : ℕ) → new ≡ purged (is_of_key key) old → count ≡ count_alive now (kept_bans old) (is_of_key key) old.objects
     → MovesOn StandsBehind old new now (Purge key) (replies.Purged count)

@@ -16,11 +16,8 @@ use Rattle.lazy_law.specs.Purging.{count_alive, is_of_key, is_of_xkeys}
 use Rattle.lazy_store.specs.Purged.{purged}
 use Rattle.lazy_store.specs.Softening.{softly_purged}
 use Rattle.lazy_core.specs.declared.shelf.LazyShelf.{LazyShelf}
-use Rattle.lazy_core.specs.Shelf.{StandsBehind}
+use Rattle.lazy_core.specs.Shelf.{ShelfStands, StandsBehind}
 use Rattle.lazy_core.proofs.Placings.{key_told, soft_told, xkeys_told}
-
-abbrev pub ShelfStands : LazyShelf → Beginning → List Entry → Type 0
-ShelfStands shelf beginning entries = StandsBehind shelf.store beginning entries
 
 pub joins_so : (new : LazyShelf) (beginning : Beginning) (entries : List Entry) (entry : Entry) → Joins StandsBehind new.store beginning entries entry → Joins ShelfStands new beginning entries entry
 joins_so new beginning entries entry joins = record { allows = joins.allows; stands = joins.stands }

@@ -103,10 +103,13 @@ moves old new beginning entries caller now call reply sound stands later is uses
     }
 
 -- a cut of the oldest lines leaves what stands for the same
-pub cut_on : (old new : Lazy) → AreCut old new → StandsOn StandsBehind old new
-cut_on old new cut beginning entries sound stands =
+pub cut_behind : (old new : Lazy) → AreCut old new → (beginning : Beginning) (entries : List Entry) → StandsBehind old beginning entries → StandsBehind new beginning entries
+cut_behind old new cut beginning entries stands =
     subst (λ (l : Lazy). StandsBehind l beginning entries) (sym cut.is)
     (record { stands = cut_at cut.left old beginning entries cut.may stands.stands; uses = stands.uses })
+
+pub cut_on : (old new : Lazy) → AreCut old new → StandsOn StandsBehind old new
+cut_on old new cut beginning entries sound stands = cut_behind old new cut beginning entries stands
 
 pub same_on : (old new : Lazy) → new ≡ old → StandsOn StandsBehind old new
 same_on old new same beginning entries sound stands = subst (λ (l : Lazy). StandsBehind l beginning entries) (sym same) stands
@@ -115,10 +118,6 @@ pub both_on : (old now new : Lazy) → StandsOn StandsBehind old now → StandsO
 both_on old now new one other beginning entries sound stands = other beginning entries sound (one beginning entries sound stands)
 
 -- where memory was wanting
-pub err_told : {T E : Type 0} (old now new : Lazy) (result : Result T E) → StandsOn StandsBehind old now → OnErr result (new ≡ now) → OnErr result (StandsOn StandsBehind old new)
-err_told old now new (Ok value) on same = same
-err_told old now new (Err e) on same = both_on old now new on (same_on now new same)
-
 pub same_told : {T E : Type 0} (old new : Lazy) (result : Result T E) → OnErr result (new ≡ old) → OnErr result (StandsOn StandsBehind old new)
 same_told old new (Ok value) same = same
 same_told old new (Err e) same = same_on old new same

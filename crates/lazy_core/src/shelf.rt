@@ -1,11 +1,24 @@
 // The shelf of the lazy cache: a store of objects and bans.
-ghost use Rattle.std.specs.Prelude.{◌≡◌, ◌↔◌, ◌+◌, false, IsTrue};
+ghost use Rattle.std.specs.Prelude.{◌≡◌, ◌↔◌, ◌+◌, ◌-◌, ◌<◌, ◌≤◌, ◌^◌, List, None, false, true, min, IfOk, IfSome, IsTrue, OnErr, OnOk};
 ghost use Rattle.std.specs.List.{list_any};
+ghost use Rattle.cache_law.specs.declared.call.Call.TheVariants.{Ban as BanCall, Purge as PurgeCall, Xkey as XkeyCall};
+ghost use Rattle.cache_law.specs.declared.call.Entry.{Entry as HistoryEntry};
+ghost use Rattle.cache_law.specs.declared.call.Reply.TheVariants.{Banned, Purged};
+ghost use Rattle.cache_law.specs.Bases.{IsClosed, IsSound};
+ghost use Rattle.cache_law.specs.Beginning.{Beginning};
+ghost use Rattle.cache_law.specs.History.{reached};
+ghost use Rattle.ban_lurker.specs.Verdicts.{IsChoreOf, IsVerdictOf};
+ghost use Rattle.cache_frame.specs.Shelves.{LooksOver, MovesOn, Reopens, StandsOn};
+ghost use Rattle.lazy_law.specs.Banning.{banned_late};
 ghost use Rattle.lazy_law.specs.Insertion.{has_number};
-ghost use Rattle.lazy_law.specs.Sweeping.{count_unswept};
+ghost use Rattle.lazy_law.specs.Sweeping.{count_unswept, is_asked, judged_lazy};
+ghost use Rattle.lazy_store.specs.Chores.{IsChoreIn};
+ghost use Rattle.lazy_store.specs.Cutting.{AreCut, IsOldestNeeded, with_needed};
+ghost use Rattle.lazy_store.specs.Lurking.{AreSwept};
+ghost use Rattle.lazy_store.specs.Tidying.{swept_whole, with_timely};
 ghost use Rattle.lazy_store.specs.Uses.{AreUsedBefore};
 ghost use Rattle.lazy_lookup.specs.Marks.{AreMarksOf};
-ghost use Rattle.lazy_core.specs.Shelf.{StandsBehind, stock_in};
+ghost use Rattle.lazy_core.specs.Shelf.{AreSweptAndCut, ShelfStands, StandsBehind, stock_in};
 ghost use Rattle.lazy_core.specs.Rests.{rests_so};
 
 use ban_lurker::{Chore, Verdict};
@@ -64,7 +77,12 @@ impl Shelf for LazyShelf {
         _query: &Query,
         marks: Marks,
         used_as: Use,
-    ) -> Result<(), AllocError> {
+    ) -> Result<(), AllocError>
+        requires { AreMarksOf _moment _query.now self.old.store marks }
+        ensures ok { OnOk result (LooksOver ShelfStands self.old self.new used _moment _query.now used_as) }
+        ensures err { OnErr result (StandsOn ShelfStands self.old self.new) }
+        ensures same { OnErr result (self.new.store ≡ self.old.store) }
+    {
         // (no history has an entry before a use)
         if !self.store.is_latest(used) {
             return Ok(());
@@ -102,21 +120,29 @@ impl Shelf for LazyShelf {
         )
     }
 
-    fn ban(&mut self, alloc: Global, moment: u64, ban: &Shared<Ban>) -> Result<(), AllocError> {
+    fn ban(&mut self, alloc: Global, moment: u64, ban: &Shared<Ban>) -> Result<(), AllocError>
+        requires { self.old.store.issued + 1 < 2 ^ 64 }
+        ensures ok { OnOk result (MovesOn ShelfStands self.old self.new moment (BanCall ban.now) Banned) }
+        ensures err { OnErr result (StandsOn ShelfStands self.old self.new) }
+        ensures untested { self.new.store.objects ≡ self.old.store.objects }
+        ensures issued { OnOk result (AreCut (banned_late moment ban.now self.old.store) self.new.store) }
+        ensures oldest { OnOk result (IsOldestNeeded self.new.store) }
+        ensures same { OnErr result (self.new.store ≡ self.old.store) }
+    {
+        self.store.ban(alloc, moment, ban)?;
         self.store.cut();
-        self.store.ban(alloc, moment, ban)
+        Ok(())
     }
 
     fn ban_lines(&self, alloc: Global, _moment: u64) -> Result<Sequence<BanLine>, AllocError> {
         self.store.ban_lines(alloc)
     }
 
-    fn purge(
-        &mut self,
-        alloc: Global,
-        moment: u64,
-        key: &Sequence<Text>,
-    ) -> Result<u64, AllocError> {
+    fn purge(&mut self, alloc: Global, moment: u64, key: &Sequence<Text>) -> Result<u64, AllocError>
+        ensures ok { IfOk result (λ count. MovesOn ShelfStands self.old self.new moment (PurgeCall key.now) (Purged count)) }
+        ensures err { OnErr result (StandsOn ShelfStands self.old self.new) }
+        ensures same { OnErr result (self.new.store ≡ self.old.store) }
+    {
         self.store.purge(alloc, moment, key.as_slice())
     }
 
@@ -126,7 +152,11 @@ impl Shelf for LazyShelf {
         moment: u64,
         keys: &Sequence<Text>,
         soft: bool,
-    ) -> Result<u64, AllocError> {
+    ) -> Result<u64, AllocError>
+        ensures ok { IfOk result (λ count. MovesOn ShelfStands self.old self.new moment (XkeyCall keys.now soft) (Purged count)) }
+        ensures err { OnErr result (StandsOn ShelfStands self.old self.new) }
+        ensures same { OnErr result (self.new.store ≡ self.old.store) }
+    {
         if soft {
             self.store.soften(alloc, moment, keys.as_slice())
         } else {
@@ -134,27 +164,56 @@ impl Shelf for LazyShelf {
         }
     }
 
-    fn cut(&mut self, alloc: Global, moment: u64) -> Result<(), AllocError> {
+    fn cut(&mut self, alloc: Global, moment: u64) -> Result<(), AllocError>
+        ensures ok { OnOk result ((beginning : Beginning) (entries : List HistoryEntry) → IsSound (reached beginning entries) → ShelfStands self.old beginning entries
+            → (reached beginning entries).moment ≡ moment → IsClosed (reached beginning entries) → Reopens ShelfStands self.new (stock_in self.new.store) beginning entries) }
+        ensures err { OnErr result (StandsOn ShelfStands self.old self.new) }
+        ensures left { OnOk result (self.new.store ≡ with_needed (with_timely moment (swept_whole self.old.store))) }
+        ensures swept { OnErr result (AreSwept self.old.store self.new.store) }
+    {
         self.store.sweep_all(alloc)?;
         self.store.drop_ended(moment);
         self.store.keep_needed();
         Ok(())
     }
 
-    fn lurk(&mut self, alloc: Global, _moment: u64, count: u32) -> Result<u32, AllocError> {
+    fn lurk(&mut self, alloc: Global, _moment: u64, count: u32) -> Result<u32, AllocError>
+        ensures swept { IfOk result (λ swept. (swept ≡ min count (count_unswept self.old.store)) × (count_unswept self.new.store ≡ count_unswept self.old.store - swept)) }
+        ensures stands { StandsOn ShelfStands self.old self.new }
+        ensures left { OnOk result (AreSweptAndCut self.old.store self.new.store) }
+        ensures oldest { OnOk result (IsOldestNeeded self.new.store) }
+        ensures wanting { OnErr result (AreSwept self.old.store self.new.store) }
+    {
         let swept = self.store.lurk(alloc, count)?;
         self.store.cut();
         Ok(swept)
     }
 
-    fn chore(&self, alloc: Global, _moment: u64) -> Result<Option<Chore>, AllocError> {
+    fn chore(&self, alloc: Global, _moment: u64) -> Result<Option<Chore>, AllocError>
+        ensures idle { IfOk result (λ chore. (chore ≡ None) ↔ (count_unswept self.now.store ≡ 0)) }
+        ensures work { (beginning : Beginning) (entries : List HistoryEntry) → IsSound (reached beginning entries) → ShelfStands self.now beginning entries
+            → IfOk result (λ chore. IfSome chore (IsChoreOf beginning entries)) }
+        ensures waits { IfOk result (λ chore. IfSome chore (IsChoreIn self.now.store)) }
+    {
         self.store.chore(alloc)
     }
 
-    fn settle(&mut self, verdict: Verdict) -> bool {
-        let settled = self.store.settle(verdict);
+    fn settle(&mut self, verdict: Verdict) -> bool
+        ensures fewer { count_unswept self.new.store ≤ count_unswept self.old.store }
+        ensures left { result ≡ false → count_unswept self.new.store ≡ count_unswept self.old.store }
+        ensures stands { (beginning : Beginning) (entries : List HistoryEntry) → IsSound (reached beginning entries) → IsVerdictOf beginning entries verdict
+            → ShelfStands self.old beginning entries → ShelfStands self.new beginning entries }
+        ensures answer { (beginning : Beginning) (entries : List HistoryEntry) → IsVerdictOf beginning entries verdict → ShelfStands self.old beginning entries
+            → result ≡ list_any (is_asked verdict) self.old.store.objects }
+        ensures judged { result ≡ true → AreCut (judged_lazy verdict self.old.store) self.new.store }
+        ensures oldest { result ≡ true → IsOldestNeeded self.new.store }
+        ensures same { result ≡ false → self.new.store ≡ self.old.store }
+    {
+        if !self.store.settle(verdict) {
+            return false;
+        }
         self.store.cut();
-        settled
+        true
     }
 
     ghost counts = { λ shelf beginning entries stands. stands.stands.stands.count };

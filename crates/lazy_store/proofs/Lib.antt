@@ -23,3 +23,4 @@ pub mod Puttings
 pub mod Tidyings
 pub mod Displacing
 pub mod Needed
+pub mod Oldest

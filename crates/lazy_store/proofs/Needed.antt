@@ -129,7 +129,7 @@ wanted_by false bound at lines line members e falling is =
     ∙ any_on (λ (p : Placed). nat_lt p.place (number_of line)) (is_awaited_by line.issued) (map placed_of members)
     (each _ (λ (p : Placed). sym (ap (λ (b : Bool). cond b (nat_lt p.mark (number_of line)) (nat_lt p.place (number_of line))) e)) (map placed_of members))
 
-wanted_there : (bound at : ℕ) (line : BanLine) (members : List Member) (own : Bans) → AreFalling bound own.lines → AreAt own (map stand_of members) → slice_get own.lines at ≡ Some line
+pub wanted_there : (bound at : ℕ) (line : BanLine) (members : List Member) (own : Bans) → AreFalling bound own.lines → AreAt own (map stand_of members) → slice_get own.lines at ≡ Some line
     → is_wanted line (below at own.placed) (below at own.marked) ≡ is_needed (map placed_of members) line
 wanted_there bound at line members own falling stands is =
     let alone : Bool = is_alone line.issued in

@@ -13,7 +13,7 @@ ghost use Rattle.lazy_law.specs.Stands.{IsWithin as TestedUpTo};
 ghost use Rattle.lazy_law.specs.Sweeping.{count_unswept, judged_lazy, swept_lazy};
 ghost use Rattle.lazy_store.specs.Changes.{moved, without};
 ghost use Rattle.lazy_store.specs.Chores.{IsChoreIn};
-ghost use Rattle.lazy_store.specs.Cutting.{AreCut, with_needed};
+ghost use Rattle.lazy_store.specs.Cutting.{AreCut, IsOldestNeeded, with_needed};
 ghost use Rattle.lazy_store.specs.Displaced.{AreDisplaced, with_first};
 ghost use Rattle.lazy_store.specs.Lurking.{AreSwept, is_waiting_as};
 ghost use Rattle.lazy_store.specs.Members.{number_in, placed_in};
@@ -495,9 +495,10 @@ impl Store {
         bans_above(&self.bans, alloc, mark)
     }
 
-    /// Takes out the oldest lines, as far as no object waits for them. It takes no memory.
+    /// Takes out the oldest lines, as far as no object waits for them: one waits for the oldest that is left. It takes no memory.
     pub fn cut(&mut self)
         ensures cut { AreCut self.old self.new }
+        ensures oldest { IsOldestNeeded self.new }
         ensures waiting { count_unswept self.new ≡ count_unswept self.old }
     {
         // that the numbers fall along the lines

@@ -3,14 +3,15 @@ use crate::bytes::{bytes_of, first_word, numbers_of, shown};
 use std::alloc::{AllocError, Global};
 use std::collections::VecDeque;
 use units::Text;
-use wire::{DialError, Dialer, FailingDialer, Link, Plan, TimeLimits, UnfailingDialer, write_link};
+use wire::{DialError, DialLimits, Dialer, FailingDialer, Link, Plan, UnfailingDialer, write_link};
 
 // Limits that no dialer in memory feels.
-const LIMITS: TimeLimits = TimeLimits {
+const LIMITS: DialLimits = DialLimits {
     connecting: 1,
     first_byte: 1,
     between_bytes: 1,
     whole: Some(1),
+    most_open: None,
 };
 
 // Writes over a connection, takes one byte from it, and hands it back. Whether it could be dialed.

@@ -82,6 +82,8 @@ fn said<R: Outside + Threads + Send + 'static>(
         "tcp_within" => tcp::within_shown(outside, alloc, number),
         "tcp_name" => tcp::name_shown(outside, alloc, row),
         "crowd" => crowds::crowd_shown(outside, alloc, number),
+        "full" => crowds::full_shown(outside, alloc, number),
+        "refused" => crowds::refused_shown(outside, alloc),
         "reuse" => reuse::reuse_shown(outside, alloc, row),
         "rest" => process::rest_shown(*rt, alloc, number),
         "clock" => process::clock_shown(alloc, number, row),

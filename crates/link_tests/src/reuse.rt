@@ -7,13 +7,14 @@ use std::thread::Threads;
 use std::time::Duration;
 use system::{BackendLink, Outside, TcpDialer, begin_backends};
 use units::Text;
-use wire::{Dialer, Link, TimeLimits, write_link};
+use wire::{DialLimits, Dialer, Link, write_link};
 
-const LIMITS: TimeLimits = TimeLimits {
+const LIMITS: DialLimits = DialLimits {
     connecting: 3_500,
     first_byte: 300,
     between_bytes: 300,
     whole: None,
+    most_open: None,
 };
 
 fn failed() -> io::Error {

@@ -7,7 +7,7 @@ use std::thread::Threads;
 use std::time::{Duration, Instant};
 use system::{BackendLink, Outside, TcpDialer, TcpLink, begin_backends};
 use units::Text;
-use wire::{Dialer, Link, Peer, TimeLimits, write_link};
+use wire::{DialLimits, Dialer, Link, Peer, write_link};
 
 pub(crate) fn port_text(alloc: Global, port: u16) -> Result<Text, AllocError> {
     Text::of(alloc, format!(in alloc; "{port}")?.as_bytes())
@@ -131,11 +131,12 @@ pub fn within_shown<R: Outside + Threads + Send + 'static>(
     alloc: Global,
     millis: usize,
 ) -> Result<String, AllocError> {
-    let limits = TimeLimits {
+    let limits = DialLimits {
         connecting: 3_500,
         first_byte: millis as u64,
         between_bytes: 60_000,
         whole: None,
+        most_open: None,
     };
     let Ok(backends) = begin_backends(&rt) else {
         return format!(in alloc; "no backends");
@@ -143,7 +144,7 @@ pub fn within_shown<R: Outside + Threads + Send + 'static>(
     let mut dialer = TcpDialer::new(rt, backends);
     dialer.within(limits);
     let first = unanswered(rt, alloc, &mut dialer, millis as u64);
-    dialer.within(TimeLimits {
+    dialer.within(DialLimits {
         first_byte: 60_000,
         whole: Some((millis as u64).saturating_add(20)),
         ..limits

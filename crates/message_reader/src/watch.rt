@@ -44,15 +44,24 @@ impl Watch {
         }
     }
 
+    // A head mostly comes whole, and then its last bytes alone say that it ended. Behind line ends alone they may be further ones,
+    // so there only the first bytes of all are taken so.
+    fn behind(&self, new: &[u8]) -> Scan {
+        if new.ends_with(b"\n\r\n") && (self.seen == 0 || self.scan != Scan::Before) {
+            Scan::EmptyLine
+        } else {
+            new.iter()
+                .fold(self.scan, |scan, byte| scanned(scan, *byte))
+        }
+    }
+
     /// Whether a head is worth a try: an empty line has come, or the bytes have doubled, or they are as many as a head
     /// has at most.
     pub fn is_due(&mut self, bytes: &[u8]) -> bool
         ensures { result ≡ false → length bytes.now < 32768 }
     {
         let new = &bytes[self.seen.min(bytes.len())..];
-        self.scan = new
-            .iter()
-            .fold(self.scan, |scan, byte| scanned(scan, *byte));
+        self.scan = self.behind(new);
         self.seen = bytes.len();
         let is_ended = self.scan == Scan::EmptyLine;
         if is_ended {

@@ -4,6 +4,7 @@
 #![tactic(auto)]
 
 mod doors;
+mod journals;
 mod listeners;
 mod memory_world;
 mod numbering;
@@ -75,6 +76,7 @@ where
         "together" => Ok(together::together_shown(threads, rt.alloc(), rest)?),
         "worker" => Ok(working::worker_shown(threads, rt.alloc(), rest)?),
         "system" => system_world::system_shown(*threads, rest),
+        "journal" => journals::journal_shown(*threads, rest),
         _ => Ok(memory_world::memory_shown(rt.alloc(), word, rest)?),
     }
 }

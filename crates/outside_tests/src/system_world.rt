@@ -60,6 +60,7 @@ fn piece_of(name: &str) -> &[u8] {
         "chunks" => b"POST /a HTTP/1.1\r\nHost: h\r\nTransfer-Encoding: chunked\r\n\r\n4\r\nab",
         "end" => b"cd\r\n0\r\n\r\n",
         "large" => b"POST /a HTTP/1.1\r\nHost: h\r\nContent-Length: 2097152\r\n\r\n",
+        "upload" => b"POST /a HTTP/1.1\r\nHost: h\r\nContent-Length: 800000\r\n\r\n",
         "junk" => &[b' '; 20_000],
         _ => b"",
     }
@@ -96,6 +97,15 @@ fn push_heard<R: Outside>(out: &mut String, far: &mut BackendLink<R>) -> io::Res
         }
         Err(_) => Ok(write!(out, "fault ")?),
     }
+}
+
+// Sends so many bytes of a body as `upload` says, which are more than a worker reads at once.
+fn pour<R: Outside>(out: &mut String, far: &mut BackendLink<R>) -> io::Result<()> {
+    let mut is_sent = true;
+    for _ in 0..40 {
+        is_sent = is_sent && write_link(far, piece_of("junk")).is_ok();
+    }
+    Ok(write!(out, "poured {is_sent} ")?)
 }
 
 // How many bytes of an answer come that is so long as `fill` writes.
@@ -142,6 +152,7 @@ fn push_client<R: Outside>(
             Ok(())
         }
         "drain" => push_drained(out, far),
+        "pour" => pour(out, far),
         "halve" => far.link.stream.shutdown(Shutdown::Write),
         "leave" => far.link.stream.shutdown(Shutdown::Both),
         _ => push_heard(out, far),
@@ -203,13 +214,13 @@ fn push_step<R: Outside + Files + Send>(
         "look" => push_asked(out, scene, 1),
         "take" => push_asked(out, scene, TRIES),
         "stop" => fs::write(&scene.rt, scene.file.as_str(), ""),
-        "send" | "hear" | "drain" | "halve" | "leave" => match scene.fars.get_mut(number) {
+        "send" | "pour" | "hear" | "drain" | "halve" | "leave" => match scene.fars.get_mut(number) {
             Some(far) => push_client(out, far, word, name),
             None => Err(broken()),
         },
         _ => match scene.nears.get_mut(number) {
             Some(near) => push_server(out, near, word),
-            None => Err(broken()),
+            None => Ok(write!(out, "no link ")?),
         },
     }
 }

@@ -11,7 +11,7 @@ use cache_law::CacheCore;
 use http_heads::{Backend, BackendRequest, Exchange, Got};
 use std::alloc::{AllocError, Global};
 use units::Copied;
-use wire::{Clock, Dialer, TimeLimits};
+use wire::{Clock, DialLimits, Dialer};
 use world::{Gate, Kit, Place};
 
 // The same outcome again, for the round. None is given where memory was wanting for the exchange.
@@ -33,7 +33,7 @@ pub(crate) fn exchange_on<R, C: CacheCore, G: Gate, D: Dialer, K: Clock>(
     caller: u32,
     kit: &mut Kit<D, K>,
     progress: &mut Progress,
-    limits: TimeLimits,
+    limits: DialLimits,
     backend: &Backend,
     request: &BackendRequest,
 ) -> Result<Got, AllocError>

@@ -8,7 +8,7 @@ use std::alloc::{AllocError, Global};
 use units::{Sequence, Shared, Text};
 use vcl_runs::Programs;
 use vcl_scripts::{Route, Script, ScriptRun};
-use wire::TimeLimits;
+use wire::DialLimits;
 
 /// Makes the script of each text that it is given.
 #[derive(Drop)]
@@ -21,7 +21,7 @@ impl Programs<ScriptRun> for Scripts {
 
     ghost backends = { λ _ name. record { name = name; host = codes "b"; port = codes "80" } };
 
-    ghost times = { λ _ _. record { connecting = 1000; first_byte = 1000; between_bytes = 1000; whole = None } };
+    ghost times = { λ _ _. record { connecting = 1000; first_byte = 1000; between_bytes = 1000; whole = None; most_open = None } };
 
     ghost one_meaning = { λ text one other p q. one-meaning text one other p q };
 
@@ -42,12 +42,13 @@ impl Programs<ScriptRun> for Scripts {
         })
     }
 
-    fn waiting(_program: &Script, _name: &Text) -> TimeLimits {
-        TimeLimits {
+    fn waiting(_program: &Script, _name: &Text) -> DialLimits {
+        DialLimits {
             connecting: 1000,
             first_byte: 1000,
             between_bytes: 1000,
             whole: None,
+            most_open: None,
         }
     }
 }

@@ -1,5 +1,5 @@
 // Connections, served.
-ghost use Rattle.std.specs.Prelude.{◌≡◌, ◌≤◌, List};
+ghost use Rattle.std.specs.Prelude.{◌≤◌, List};
 ghost use Rattle.entrance.specs.Arriving.{IsNew};
 ghost use Rattle.server.specs.declared.keeping.Event.{Event as Happening};
 ghost use Rattle.workers.specs.Serving.{IsTold};

@@ -12,7 +12,7 @@ use std::mem;
 use std::net::TcpStream;
 use std::sync::Arc;
 use std::time::{Duration, Instant};
-use wire::{Failed, Link, Peer, Readiness, TimeLimits};
+use wire::{DialLimits, Failed, Link, Peer, Readiness};
 
 /// What the connection's stream was used for before.
 #[derive(Drop)]
@@ -32,7 +32,7 @@ pub struct BackendLink<R: Outside> {
     pub link: TcpLink<TcpStream>,
     pub rt: R,
     pub backends: Arc<Backends, Global>,
-    pub limits: TimeLimits,
+    pub limits: DialLimits,
     /// When it was dialed.
     pub start: Instant,
     /// Whether a byte was read.
@@ -75,6 +75,16 @@ impl<R: Outside> BackendLink<R> {
     pub(crate) fn end_wait(&self, found: Option<Standing>) {
         if let Peer::Dialed { host, port } = &self.link.peer {
             self.backends.end_wait(&self.rt, host, port, found);
+        }
+    }
+
+    /// Says that the connection is over, and that its first byte isn't waited for any more.
+    pub(crate) fn leave(&self) {
+        if !self.has_begun {
+            self.end_wait(None);
+        }
+        if let Peer::Dialed { host, port } = &self.link.peer {
+            self.backends.end_connection(&self.rt, host, port);
         }
     }
 

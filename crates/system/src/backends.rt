@@ -26,7 +26,7 @@ pub(crate) enum Turn {
     Begun,
     /// Half of all who dial wait there.
     Later,
-    /// They have waited there for too long.
+    /// They have waited there for too long, or as many connections to there are open as may be.
     Refused,
 }
 
@@ -58,6 +58,8 @@ struct Backend {
     port: Text,
     /// How many exchanges wait for a first byte.
     waiting: u64,
+    /// How many connections were dialed and not handed back.
+    open: u64,
     /// Since when half of all who dial wait there.
     crowded: Option<Instant>,
     standing: Standing,
@@ -81,14 +83,24 @@ impl Backend {
         }
     }
 
-    // Counts one more who waits, unless half of so many who dial do.
-    fn take_turn<R: Outside>(&mut self, rt: &R, dialers: u64) -> io::Result<Turn> {
+    // Whether nobody has to do with it.
+    fn is_idle(&self) -> bool {
+        self.waiting == 0 && self.open == 0
+    }
+
+    // Counts one more connection, for whose first byte is waited, unless half of so many who dial wait for one, or as many connections
+    // are open as may be.
+    fn take_turn<R: Outside>(&mut self, rt: &R, dialers: u64, most_open: u64) -> io::Result<Turn> {
+        if self.open >= most_open {
+            return Ok(Turn::Refused);
+        }
         if self.is_crowded(dialers) {
             let is_stuck = self.is_stuck(rt)?;
             return Ok(if is_stuck { Turn::Refused } else { Turn::Later });
         }
         let now = Instant::now(rt)?;
         self.waiting = self.waiting.saturating_add(1);
+        self.open = self.open.saturating_add(1);
         if self.is_crowded(dialers) {
             self.crowded = Some(now);
         }
@@ -105,8 +117,8 @@ pub struct Backends {
     known: Mutex<Vec<Backend>>,
 }
 
-// The place of a backend among those that are known, where it stands from now on. Where too many are known one goes for which nobody
-// waits; None where there is none.
+// The place of a backend among those that are known, where it stands from now on. Where too many are known one goes with which nobody
+// has to do; None where there is none.
 fn place_of(
     known: &mut Vec<Backend>,
     host: &Text,
@@ -116,7 +128,7 @@ fn place_of(
         return Ok(Some(place));
     }
     if known.len() >= MAX_KNOWN {
-        let Some(idle) = known.iter().position(|backend| backend.waiting == 0) else {
+        let Some(idle) = known.iter().position(|backend| backend.is_idle()) else {
             return Ok(None);
         };
         drop(known.swap_remove(idle));
@@ -125,6 +137,7 @@ fn place_of(
         host: host.copy()?,
         port: port.copy()?,
         waiting: 0,
+        open: 0,
         crowded: None,
         standing: Standing::There,
     };
@@ -153,12 +166,14 @@ impl Backends {
         self.dialers.fetch_add(1, Ordering::SeqCst);
     }
 
-    /// Counts an exchange that is to wait for a backend's first byte, unless half of all who dial wait there.
+    /// Counts a connection to a backend, for whose first byte is to be waited, unless half of all who dial wait there, or so many
+    /// connections to there are open.
     pub(crate) fn begin_wait<R: Outside>(
         &self,
         rt: &R,
         host: &Text,
         port: &Text,
+        most_open: u64,
     ) -> io::Result<Turn> {
         let dialers = self.dialers.load(Ordering::SeqCst);
         let mut guard = self.known.lock(rt);
@@ -167,7 +182,7 @@ impl Backends {
             return Ok(Turn::Begun);
         };
         match known.get_mut(place) {
-            Some(backend) => backend.take_turn(rt, dialers),
+            Some(backend) => backend.take_turn(rt, dialers, most_open),
             None => Ok(Turn::Begun),
         }
     }
@@ -201,6 +216,14 @@ impl Backends {
         if let Some(standing) = self.settle(rt, host, port, found) {
             // There is nobody to tell where there is no memory for the line.
             let _ = tell_standing(rt, host, port, standing);
+        }
+    }
+
+    /// Says that a connection to a backend is over.
+    pub(crate) fn end_connection<R: Wait>(&self, rt: &R, host: &Text, port: &Text) {
+        let mut known = self.known.lock(rt);
+        if let Some(backend) = known.iter_mut().find(|backend| backend.is_at(host, port)) {
+            backend.open = backend.open.saturating_sub(1);
         }
     }
 }

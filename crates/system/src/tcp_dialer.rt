@@ -14,7 +14,7 @@ use std::sync::Arc;
 use std::thread;
 use std::time::{Duration, Instant};
 use units::Text;
-use wire::{DialError, Dialer, Peer, TimeLimits};
+use wire::{DialError, DialLimits, Dialer, Peer};
 
 /// How many seconds a write takes at most.
 const CALL_SECONDS: u64 = 60;
@@ -25,11 +25,12 @@ const TURNS: u32 = 100;
 const TURN_MILLIS: u64 = 10;
 
 /// The limits of a dialer that was told none.
-const LIMITS: TimeLimits = TimeLimits {
+const LIMITS: DialLimits = DialLimits {
     connecting: 3_500,
     first_byte: 60_000,
     between_bytes: 60_000,
     whole: None,
+    most_open: None,
 };
 
 /// A dialer over the system's network. It tells nothing of its talks.
@@ -37,7 +38,7 @@ const LIMITS: TimeLimits = TimeLimits {
 pub struct TcpDialer<R: Outside> {
     pub rt: R,
     /// What each later dial and the reads on its connection may take.
-    pub limits: TimeLimits,
+    pub limits: DialLimits,
     pub dial_faults: u64,
     pub read_faults: u64,
     pub write_faults: u64,
@@ -78,10 +79,19 @@ impl<R: Outside> TcpDialer<R> {
         Ok((stream, start, Past::Own))
     }
 
+    // How many connections to one backend there may be.
+    fn most_open(&self) -> u64 {
+        match self.limits.most_open {
+            Some(most) if most > 0 => most as u64,
+            _ => u64::MAX,
+        }
+    }
+
     // Waits until an exchange may wait for a first byte from there.
     fn take_turn(&self, host: &Text, port: &Text) -> io::Result<()> {
+        let most_open = self.most_open();
         for _ in 0..TURNS {
-            match self.backends.begin_wait(&self.rt, host, port)? {
+            match self.backends.begin_wait(&self.rt, host, port, most_open)? {
                 Turn::Begun => return Ok(()),
                 Turn::Later => thread::sleep(&self.rt, Duration::from_millis(TURN_MILLIS)),
                 Turn::Refused => break,
@@ -101,6 +111,7 @@ impl<R: Outside> TcpDialer<R> {
         if opened.is_err() {
             let found = Some(Standing::Unreachable);
             self.backends.end_wait(&self.rt, host, port, found);
+            self.backends.end_connection(&self.rt, host, port);
         }
         opened
     }
@@ -134,7 +145,7 @@ pub(crate) fn connect<R: Outside>(
     names: &KnownNames,
     host: &Text,
     port: &Text,
-    limits: &TimeLimits,
+    limits: &DialLimits,
 ) -> io::Result<(TcpStream, Instant)> {
     let limit = Duration::from_millis(limits.connecting);
     let start = Instant::now(rt)?;
@@ -154,12 +165,13 @@ impl<R: Outside> Dialer for TcpDialer<R> {
 
     ghost write_faults = { λ d. d.write_faults };
 
-    fn within(&mut self, limits: TimeLimits) {
+    fn within(&mut self, limits: DialLimits) {
         self.limits = limits;
     }
 
     /// While half of all who dial wait for a first byte from there it waits for its turn, for a second at most; it fails at once where
-    /// they have waited there for a second. So one backend never takes all workers for long.
+    /// they have waited there for a second. So one backend never takes all workers for long. It fails at once as well where as many
+    /// connections to there are open as there may be.
     fn dial(&mut self, host: &Text, port: &Text) -> Result<BackendLink<R>, DialError> {
         let peer = Peer::Dialed {
             host: host.copy()?,
@@ -187,9 +199,7 @@ impl<R: Outside> Dialer for TcpDialer<R> {
 
     /// A stream that may serve another exchange is kept.
     fn hang_up(&mut self, link: BackendLink<R>) {
-        if !link.has_begun {
-            link.end_wait(None);
-        }
+        link.leave();
         let BackendLink {
             link,
             is_reusable,

@@ -1,9 +1,14 @@
 -- The one form in which each command's outcome is handed out.
-use Rattle.std.specs.Prelude.{ℕ, false, List, [], Option, Some, None, option_map}
-use Rattle.cache_law.specs.declared.call.Entry.{Entry}
+use Rattle.std.specs.Prelude.{ℕ, false, [], None, option_map}
 use Rattle.command_line.specs.declared.fault.OrderError.{OrderError}
 use Rattle.command_line.specs.declared.fault.OrderError.TheVariants.{Refused, NoMemory}
 use Rattle.server.specs.declared.tally.Tally.{Tally}
+use Rattle.audit_laws.specs.Faults.{kind_number}
+use Rattle.journal_audit.specs.declared.fault.Expected.{Expected}
+use Rattle.varn_audit.specs.declared.outcome.Audited.{Audited}
+use Rattle.varn_audit.specs.declared.outcome.Note.{Note as JournalNote}
+use Rattle.varn_audit.specs.declared.outcome.Status.{Status as AuditedStatus}
+use Rattle.varn_audit.specs.declared.outcome.Status.TheVariants as audited
 use Rattle.varn_program.specs.declared.outcome.Note.{Note as LineNote}
 use Rattle.varn_program.specs.declared.outcome.Outcome.{Outcome as Played}
 use Rattle.varn_program.specs.declared.outcome.Status.{Status as PlayedStatus}
@@ -38,6 +43,13 @@ status_of_served served.ListenFault = status.ListenFault
 status_of_served served.Vcl = status.Vcl
 status_of_served served.HistoryFull = status.HistoryFull
 
+abbrev pub status_of_audited : AuditedStatus → Status
+status_of_audited audited.Legal = status.Done
+status_of_audited audited.Illegal = status.Illegal
+status_of_audited audited.ReadFault = status.ReadFault
+status_of_audited audited.WriteFault = status.WriteFault
+status_of_audited audited.NoMemory = status.NoMemory
+
 -- the number that the program ends with
 abbrev pub code_of : Status → ℕ
 code_of status.Done = 0
@@ -59,6 +71,13 @@ line_note told = note.Line told.line told.kind
 abbrev pub place_note : VclNote → Note
 place_note told = note.Place told.place told.kind
 
+abbrev pub journal_note : JournalNote → Note
+journal_note told = note.Line told.line (kind_number told.kind)
+
+-- what was expected there
+abbrev pub expected_in : JournalNote → Expected
+expected_in told = told.expected
+
 -- ---- what is handed out
 
 -- what nothing counts
@@ -70,6 +89,7 @@ abbrev pub of_played : Played → Outcome
 of_played one = record {
   status = status_of_played one.status;
   note = option_map line_note one.note;
+  expected = None;
   history = one.history;
   connections = 0;
   tally = none_counted;
@@ -83,9 +103,24 @@ abbrev pub of_served : Served Tally → Outcome
 of_served one = record {
   status = status_of_served one.status;
   note = option_map place_note one.note;
+  expected = None;
   history = one.history;
   connections = one.connections;
   tally = one.tally;
+  console = one.console;
+  swept = [];
+  probed = [];
+}
+
+-- of an audit
+abbrev pub of_audited : Audited → Outcome
+of_audited one = record {
+  status = status_of_audited one.status;
+  note = option_map journal_note one.note;
+  expected = option_map expected_in one.note;
+  history = [];
+  connections = 0;
+  tally = none_counted;
   console = [];
   swept = [];
   probed = [];
@@ -97,4 +132,4 @@ unasked_status (Refused fault) = status.Words
 unasked_status NoMemory = status.NoMemory
 
 abbrev pub of_unasked : OrderError → Outcome
-of_unasked error = record { status = unasked_status error; note = None; history = []; connections = 0; tally = none_counted; console = []; swept = []; probed = [] }
+of_unasked error = record { status = unasked_status error; note = None; expected = None; history = []; connections = 0; tally = none_counted; console = []; swept = []; probed = [] }

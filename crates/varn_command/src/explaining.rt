@@ -1,11 +1,13 @@
 // What is said on standard error of a run that wasn't whole.
 use crate::outcome::{Note, Outcome, Status};
-use crate::running::command_of;
+use crate::running::{asks_audit, command_of};
 use command_line::{CommandName, OrderError, ServeOptions, read_load, read_order};
 use diagnostics::{order_fault, replay_fault, session_refusal, unseen_refusal, vcl_refusal};
-use std::alloc::AllocError;
+use journal_audit::Expected;
+use std::alloc::{AllocError, Global};
 use system::{WordsError, tell};
 use units::Text;
+use varn_audit::words_of;
 use varn_program::faulty_word;
 use vcl_tree::Refusal;
 use world::{World, read_file};
@@ -15,6 +17,8 @@ const NO_MEMORY: &str = "out of memory";
 const UNWRITABLE: &str = "standard output can't be written to";
 
 const UNREADABLE: &str = "the session can't be read from standard input";
+
+const UNREADABLE_JOURNAL: &str = "the journal can't be read from standard input";
 
 const HISTORY_FULL: &str = "the history is full: --history takes up to 1073741824 bytes";
 
@@ -77,6 +81,18 @@ fn explain_line(rt: &HostRuntime, line: u32, kind: u8) {
     let _ = eprintln!(rt; "line {line} kind {kind}\nline {line}: {cause}");
 }
 
+// Says at which line a journal isn't that of a lawful history, and what was expected there.
+fn explain_journal(rt: &HostRuntime, line: u32, expected: Option<Expected>) {
+    let Some(expected) = expected else {
+        return;
+    };
+    let alloc = rt.alloc();
+    match words_of(alloc, expected) {
+        Ok(words) => say(rt, format!(in alloc; "line {line}: {words} was expected")),
+        Err(_) => tell(rt, NO_MEMORY),
+    }
+}
+
 // Says where the VCL is refused, and why. Its file is read once more, for a run keeps no text that it refused.
 fn explain_place<W: World>(
     rt: &HostRuntime,
@@ -94,6 +110,19 @@ fn explain_place<W: World>(
     say(rt, told);
 }
 
+// Which port can't be had.
+fn unheard(alloc: Global, order: &ServeOptions) -> Result<String, AllocError> {
+    let port = order.port;
+    match order.cli {
+        Some(console) => format!(in alloc;
+            "port {port} or the console's port {console} can't be listened at (it may be in use), or accepting there failed"
+        ),
+        None => format!(in alloc;
+            "port {port} can't be listened at (it may be in use), or accepting there failed"
+        ),
+    }
+}
+
 // Says what kept a server from serving.
 fn explain_server<W: World>(
     rt: &HostRuntime,
@@ -102,7 +131,6 @@ fn explain_server<W: World>(
     outcome: &Outcome,
 ) {
     let file = str::from_utf8(order.file.bytes()).unwrap_or("the file");
-    let port = order.port;
     let alloc = rt.alloc();
     match (outcome.status, outcome.note) {
         (Status::Vcl, Some(Note::Place { place, kind })) => {
@@ -110,12 +138,7 @@ fn explain_server<W: World>(
         }
         (Status::Vcl, _) => say(rt, format!(in alloc; "{file}: there is no such file")),
         (Status::ReadFault, _) => say(rt, format!(in alloc; "{file} can't be read")),
-        _ => say(
-            rt,
-            format!(in alloc;
-                "port {port} can't be listened at (it may be in use), or accepting there failed"
-            ),
-        ),
+        _ => say(rt, unheard(alloc, order)),
     }
 }
 
@@ -128,21 +151,20 @@ fn order_of(words: &[Text]) -> Option<ServeOptions> {
 }
 
 /// Says what kept a run of these words from being whole.
-pub(crate) fn explain<W: World>(
-    rt: &HostRuntime,
-    words: &[Text],
-    world: &mut W,
-    outcome: &Outcome,
-) {
+pub(crate) fn explain<W: World>(rt: &HostRuntime, words: &[Text], world: &mut W, outcome: Outcome) {
     match (outcome.status, outcome.note) {
         (Status::Done, _) => {}
         (Status::Words, _) => explain_words(rt, words),
         (Status::Session, Some(Note::Line { line, kind })) => explain_line(rt, line, kind),
+        (Status::Illegal, Some(Note::Line { line, .. })) => {
+            explain_journal(rt, line, outcome.expected)
+        }
+        (Status::ReadFault, _) if asks_audit(words) => tell(rt, UNREADABLE_JOURNAL),
         (Status::WriteFault, _) => tell(rt, UNWRITABLE),
         (Status::NoMemory, _) => tell(rt, NO_MEMORY),
         (Status::HistoryFull, _) => tell(rt, HISTORY_FULL),
         _ => match order_of(words) {
-            Some(order) => explain_server(rt, world, &order, outcome),
+            Some(order) => explain_server(rt, world, &order, &outcome),
             None => tell(rt, UNREADABLE),
         },
     }

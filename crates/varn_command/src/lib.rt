@@ -9,6 +9,6 @@ mod outcome;
 mod process;
 mod running;
 
-pub use outcome::{ConsoleLine, Note, Outcome, Probed, Status};
+pub use outcome::{Note, Outcome, Probed, Status};
 pub use process::{Start, perform, refuse_start};
 pub use running::run;

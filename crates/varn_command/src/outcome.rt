@@ -1,12 +1,15 @@
 // The one form in which each command's outcome is handed out.
-ghost use Rattle.std.specs.Prelude.{◌≡◌};
-ghost use Rattle.varn_command.specs.Outcomes.{code_of, of_played, of_served, of_unasked, status_of_played, status_of_served, unasked_status};
+ghost use Rattle.std.specs.Prelude.{◌≡◌, option_map};
+ghost use Rattle.varn_command.specs.Outcomes.{code_of, expected_in, journal_note, of_audited, of_played, of_served, of_unasked, status_of_audited, status_of_played, status_of_served, unasked_status};
 
 use cache_law::Entry;
 use command_line::OrderError;
+use console_link::ConsoleTalk;
+use journal_audit::Expected;
 use server::Tally;
 use std::alloc::Global;
 use units::{Sequence, Text};
+use varn_audit::{Audited, Note as JournalNote, Status as AuditedStatus};
 use varn_program::{Outcome as Played, Status as PlayedStatus};
 use varn_serve::{Served, Status as ServedStatus};
 use vcl_tree::Refusal;
@@ -82,6 +85,18 @@ impl Status {
         }
     }
 
+    fn of_audited(status: AuditedStatus) -> Status
+        ensures { result ≡ status_of_audited status }
+    {
+        match status {
+            AuditedStatus::Legal => Status::Done,
+            AuditedStatus::Illegal => Status::Illegal,
+            AuditedStatus::ReadFault => Status::ReadFault,
+            AuditedStatus::WriteFault => Status::WriteFault,
+            AuditedStatus::NoMemory => Status::NoMemory,
+        }
+    }
+
     fn of_unasked(error: OrderError) -> Status
         ensures { result ≡ unasked_status error }
     {
@@ -101,13 +116,6 @@ pub enum Note {
     Place { place: u32, kind: Refusal },
 }
 
-/// A line of the console's connection, and what was sent for it.
-#[derive(Drop)]
-pub struct ConsoleLine {
-    pub line: Text,
-    pub sent: Text,
-}
-
 /// What a probe of a backend came to.
 #[derive(Drop)]
 pub struct Probed {
@@ -115,19 +123,38 @@ pub struct Probed {
     pub good: bool,
 }
 
-/// How a run ended, what is to blame, the history of its cache, how many connections a server served and what was counted of them, what
-/// was kept of its console's, for each `lurk` of a session how many objects the lurker tested, and what the probes came to. What a
+/// How a run ended, what is to blame, what was expected at that line of a journal, the history of its cache, how many connections a
+/// server served and what was counted of them, what was said at its console, for each `lurk` of a session how many objects the lurker
+/// tested, and what the probes came to. What a
 /// command doesn't have is empty.
 #[derive(Drop)]
 pub struct Outcome {
     pub status: Status,
     pub note: Option<Note>,
+    pub expected: Option<Expected>,
     pub history: Sequence<Entry>,
     pub connections: u64,
     pub tally: Tally,
-    pub console: Sequence<ConsoleLine>,
+    pub console: Sequence<ConsoleTalk>,
     pub swept: Sequence<u32>,
     pub probed: Sequence<Probed>,
+}
+
+// What is to blame for a journal that isn't legal, and what was expected there.
+fn blamed(note: Option<JournalNote>) -> (Option<Note>, Option<Expected>)
+    ensures note { result.0 ≡ option_map journal_note note }
+    ensures expected { result.1 ≡ option_map expected_in note }
+{
+    match note {
+        Some(note) => {
+            let line = Note::Line {
+                line: note.line,
+                kind: note.kind.number(),
+            };
+            (Some(line), Some(note.expected))
+        }
+        None => (None, None),
+    }
 }
 
 impl Outcome {
@@ -150,6 +177,7 @@ impl Outcome {
         Outcome {
             status: Status::of_played(status),
             note,
+            expected: None,
             history,
             connections: 0,
             tally: Tally::none(),
@@ -169,6 +197,7 @@ impl Outcome {
             keepers: _,
             connections,
             tally,
+            console,
         } = served;
         let note = match note {
             Some(note) => Some(Note::Place {
@@ -180,9 +209,28 @@ impl Outcome {
         Outcome {
             status: Status::of_served(status),
             note,
+            expected: None,
             history,
             connections,
             tally,
+            console,
+            swept: Sequence::new(alloc),
+            probed: Sequence::new(alloc),
+        }
+    }
+
+    pub(crate) fn of_audited(alloc: Global, audited: Audited) -> Outcome
+        ensures { result ≡ of_audited audited }
+    {
+        let Audited { status, note } = audited;
+        let (note, expected) = blamed(note);
+        Outcome {
+            status: Status::of_audited(status),
+            note,
+            expected,
+            history: Sequence::new(alloc),
+            connections: 0,
+            tally: Tally::none(),
             console: Sequence::new(alloc),
             swept: Sequence::new(alloc),
             probed: Sequence::new(alloc),
@@ -195,6 +243,7 @@ impl Outcome {
         Outcome {
             status: Status::of_unasked(error),
             note: None,
+            expected: None,
             history: Sequence::new(alloc),
             connections: 0,
             tally: Tally::none(),

@@ -3,8 +3,9 @@ ghost use Rattle.std.specs.Prelude.{◌≡◌, ◌≤◌, ⊤, ℕ, List, Option
 ghost use Rattle.std.specs.Process.{exit_status};
 ghost use Rattle.diagnostics.specs.Helping.{help_of};
 ghost use Rattle.vcl_library.specs.Functions.{std_functions};
+ghost use Rattle.varn_audit.specs.Run.{Ends as EndsAudit};
 ghost use Rattle.varn_program.specs.Run.{Ends};
-ghost use Rattle.varn_serve.specs.Run.{is_full_status};
+ghost use Rattle.varn_serve.specs.Run.{found_full, is_full_status};
 ghost use Rattle.varn_command.specs.Asking.{Does};
 ghost use Rattle.varn_command.specs.Outcomes.{code_of};
 ghost use Rattle.varn_command.specs.declared.outcome.Outcome.{Outcome as Came};
@@ -13,15 +14,19 @@ use crate::explaining::{explain, explain_unwritten, explain_wordless};
 use crate::outcome::Status;
 use crate::running::{command_of, run};
 use command_line::CommandName;
+use crew::Sign;
 use diagnostics::Help;
+use std::alloc::Global;
 use std::env::{self, VarError};
 use std::net::{Net, TcpListener, TcpStream};
 use std::process::ExitCode;
 use std::random::RandomSource;
 use std::rt::{Clock, Files};
-use std::sync::Wait;
+use std::sync::{Arc, Wait};
 use std::thread::Threads;
-use system::{StreamSink, StreamSource, SystemWorld, WordsError, read_words};
+use system::{
+    ConsoleWorld, EndSign, StreamSink, StreamSource, SystemWorld, WordsError, read_words,
+};
 use units::Text;
 use world::OpenGate;
 
@@ -38,12 +43,14 @@ const LOG_VARIABLE: &str = "VARN_ACCESS_LOG";
 const CONNS_WORD: &[u8] = b"--conns";
 
 /// What a process was started with: its words, the file whose coming ends a run, and the one for a line of each request, if they are
-/// named.
+/// named; and what tells a console that a run is over, with where the console sees that.
 #[derive(Drop)]
 pub struct Start {
     pub words: Vec<Text>,
     pub stop_file: Option<Text>,
     pub log_file: Option<Text>,
+    pub sign: ConsoleSign,
+    pub end: Arc<EndSign, Global>,
 }
 
 // Writes the help on standard output.
@@ -77,13 +84,31 @@ fn ask_for_server(words: &[Text]) -> bool {
     matches!(command_of(words), Some((CommandName::Serve, _)))
 }
 
+/// Tells a console that the workers have left.
+#[derive(Drop)]
+pub struct ConsoleSign {
+    end: Arc<EndSign, Global>,
+}
+
+impl Sign for ConsoleSign {
+    fn raise(&self) {
+        self.end.raise();
+    }
+}
+
 impl Start {
     /// What this process was started with.
     pub fn read(rt: &HostRuntime) -> Result<Start, WordsError> {
+        let end = Arc::new(rt.alloc(), EndSign::new()).map_err(|_| WordsError::NoMemory)?;
+        let sign = ConsoleSign {
+            end: Arc::try_clone(&end)?,
+        };
         Ok(Start {
             words: read_words(rt)?,
             stop_file: named_file(rt, STOP_VARIABLE)?,
             log_file: named_file(rt, LOG_VARIABLE)?,
+            sign,
+            end,
         })
     }
 }
@@ -124,7 +149,8 @@ where
     ensures { help_of start.words.items ≡ None → (outcome : Came) × Does (record {
       replays = λ came. (left0 left1 held0 held1 : Option (List ℕ)) × Ends std_functions start.words.items left0 left1 held0 held1 came;
       loads = λ load came. ⊤;
-      serves = λ order came. (came.connections ≤ order.conns) × (is_full_status came.status ≡ came.tally.found_full);
+      serves = λ order came. (came.connections ≤ order.conns) × (is_full_status came.status ≡ found_full came);
+      audits = λ came. (left0 left1 held0 held1 : Option (List ℕ)) × EndsAudit left0 left1 held0 held1 came;
       nothing = ⊤;
     }) start.words.items outcome × (exit_status result ≡ code_of outcome.status) }
 {
@@ -132,6 +158,8 @@ where
         words,
         stop_file,
         log_file,
+        sign,
+        end,
     } = start;
     if let Some(help) = Help::of(words.as_slice()) {
         return ExitCode::from(print(rt, help).code());
@@ -144,6 +172,7 @@ where
         // Where its threads can't begin no port is had, which the run says.
         let _ = world.start();
     }
+    let mut operators = ConsoleWorld::new(*outside, end);
     let mut source = StreamSource::new(rt.stdin());
     let mut sink = StreamSink::new(rt.stdout());
     let outcome = run(
@@ -151,10 +180,13 @@ where
         rt.alloc(),
         words.as_slice(),
         &mut world,
+        &mut operators,
         &OpenGate,
+        &sign,
         &mut source,
         &mut sink,
     );
-    explain(rt, words.as_slice(), &mut world, &outcome);
-    ExitCode::from(outcome.status.code())
+    let code = outcome.status.code();
+    explain(rt, words.as_slice(), &mut world, outcome);
+    ExitCode::from(code)
 }

@@ -170,10 +170,10 @@ module _ {P Q L : Type 0} (one : Language P) (other : Language Q) (f : P → Q) 
       )
 
       -- a run is told so by the other too, and of the same connections
-      pub ran_as : (before after : Option (List (Kit D K))) (keepers : List N) (connections : ℕ) (tally : Tally)
-          → RanIn one unused heard talks dial_faults readings words tell Told before after beginning history keepers connections tally
-          → RanIn other unused heard talks dial_faults readings words tell Told before after beginning history keepers connections tally
-      ran_as before after keepers connections tally r = (
+      pub ran_as : (before after : Option (List (Kit D K))) (keepers : List N) (connections : ℕ) (tally : Tally) (beside : List ℕ)
+          → RanIn one unused heard talks dial_faults readings words tell Told before after beginning history keepers connections tally beside
+          → RanIn other unused heard talks dial_faults readings words tell Told before after beginning history keepers connections tally beside
+      ran_as before after keepers connections tally beside r = (
         record {
           legal = r.0.legal;
           parts = r.0.parts;
@@ -198,13 +198,13 @@ trees_mean tree_of stored_of = record {
 -- a run that such programs steer is one that VCL steers, and its tally counts what its keepers were told
 pub by_vcl : {P N D K L E : Type 0} (tree_of : P → Tree) (stored_of : P → List Stored) (unused : Kit D K → Type 0) (heard : L → LinkTold) (talks : D → Option (List (Talk L))) (dial_faults : D → ℕ)
     (readings words : K → Option Tape) (tell : E → LinkTold) (Told : N → List (Event E) → Type 0) (before after : Option (List (Kit D K))) (beginning : Beginning) (history : List Entry)
-    (keepers : List N) (connections : ℕ) (tally : Tally) → ((lists : List (List (Event E))) → AllZip Told keepers lists → tally ≡ tally_of (all_events lists))
+    (keepers : List N) (connections : ℕ) (tally : Tally) (beside : List ℕ) → ((lists : List (List (Event E))) → AllZip Told keepers lists → tally ≡ tally_of (all_events lists))
     → Ran unused Told (λ events. places_of events)
     (λ began seen number first last opening events. TellsOf (by_trees tree_of stored_of) heard tell talks dial_faults readings words began seen number first last opening events)
-    beginning history before after keepers connections
-    → RanBy unused heard talks dial_faults readings words tell Told before after beginning history keepers connections tally
-by_vcl tree_of stored_of unused heard talks dial_faults readings words tell Told before after beginning history keepers connections tally counts ran =
-    ran_as (by_trees tree_of stored_of) vcl tree_of (trees_mean tree_of stored_of) heard tell talks dial_faults readings words beginning history unused Told before after keepers connections tally (
+    beginning history before after keepers connections beside
+    → RanBy unused heard talks dial_faults readings words tell Told before after beginning history keepers connections tally beside
+by_vcl tree_of stored_of unused heard talks dial_faults readings words tell Told before after beginning history keepers connections tally beside counts ran =
+    ran_as (by_trees tree_of stored_of) vcl tree_of (trees_mean tree_of stored_of) heard tell talks dial_faults readings words beginning history unused Told before after keepers connections tally beside (
       ran,
       counted unused Told (λ events. places_of events)
           (λ number first last opening events. TellsOf (by_trees tree_of stored_of) heard tell talks dial_faults readings words beginning history number first last opening events)

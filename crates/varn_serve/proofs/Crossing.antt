@@ -14,6 +14,8 @@ use Rattle.vcl_program.proofs.code.Code.TheSendSync as code
 use denote.RattleType.{RattleType}
 use Rattle.units.proofs.shared.Shared.TheSendSync as shared
 use Rattle.units.proofs.text.Text.TheSendSync as text
+use Rattle.world.proofs.kit.Kit.TheSendSync as kit
+use Rattle.console_job.specs.contracts.job.ConsoleJob as console
 use Rattle.vcl_library.specs.contracts.library.Kept as kept
 use Rattle.vcl_library.specs.contracts.library.Library as library
 
@@ -64,3 +66,12 @@ library_sync T m s y =
     let k = kept_send T m s y in
     let l = kept_sync T m s y in
     struct_sync (Declared.shape (library.the_type T m)) (search keeping depth 60 fits 20000, (search keeping depth 60 fits 20000, (search keeping depth 60 fits 20000, tt)))
+
+-- ---- a console whose outside may go from one thread to another
+
+ruleset consoles = (crosses, sendable, shared.the_send, shared.the_sync, kit.the_field_send, kit.the_send)
+
+pub console_send : (A S D K L T : RattleType) (m : _) → IsSend A → IsSend S → IsSend D → IsSend K → IsSend L → IsSend T → IsSync T → IsSend (console.the_field A S D K L T m).row
+console_send A S D K L T m a s d k l t y =
+    struct_send (Declared.shape (console.the_type A S D K L T m))
+    (search consoles depth 60 fits 20000, (search consoles depth 60 fits 20000, (search consoles depth 60 fits 20000, (search consoles depth 60 fits 20000, tt))))

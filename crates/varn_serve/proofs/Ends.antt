@@ -1,5 +1,6 @@
 -- How a run ends in which nothing was served.
-use Rattle.std.proofs.Common.{◌≡◌, ◌⊎◌, inl, inr, ℕ, Bool, true, false, List, Option, refl, sym, ◌∙◌, ap, subst}
+use Rattle.std.proofs.Common.{◌≡◌, ◌⊎◌, inl, inr, ℕ, Bool, true, false, List, Option, Result, Ok, Err, refl, sym, ◌∙◌, ap, subst}
+use Rattle.std.specs.Prelude.{IfErr, IsErrAnd}
 use Rattle.vmod_host.specs.declared.signature.Stored.{Stored}
 use Rattle.world.specs.declared.file.File.{File}
 use Rattle.command_line.specs.declared.order.ServeOptions.{ServeOptions}
@@ -10,7 +11,7 @@ use Rattle.varn_serve.specs.declared.ending.Served.{Served}
 use Rattle.varn_serve.specs.declared.ending.VclNote.{VclNote}
 use Rattle.varn_serve.specs.declared.ending.Status.{Status}
 use Rattle.varn_serve.specs.declared.ending.Status.TheVariants.{Done, ReadFault, WriteFault, NoMemory, ListenFault, Vcl, HistoryFull}
-use Rattle.varn_serve.specs.Run.{EndsAs, Halts, IsAccepted, IsComplete, IsIdle, Outside, is_full_status, is_unserved, unbooted_status, unbooted_note, unserved}
+use Rattle.varn_serve.specs.Run.{EndsAs, Halts, IsAccepted, IsComplete, IsIdle, Outside, found_full, is_full_status, is_unserved, unbooted_status, unbooted_note, unserved}
 
 module _ (N : Type 0) (read listen write : Type 0) (ended : Bool) (held : Option (List ℕ)) (files : Option (List File)) (stored : List Stored) (order : ServeOptions) where
   pub unbooted_ends : (error : BootError) → Why files order.file stored read error
@@ -45,29 +46,32 @@ halted_unserved failed Vcl halts = absurd halts
 halted_unserved failed HistoryFull halts = absurd halts
 
 -- a run in which nothing was served, of a world that was left as it was
-module _ {N K : Type 0} (before after : Option (List K)) (served : Served N) (kits : after ≡ before) (status : Status) (note : Option VclNote) (same : served ≡ unserved status note) where
-  idle_of : is_unserved status ≡ true → IsIdle before after served
+module _ {N K O : Type 0} (before after : Option (List K)) (operators operators' : O) (served : Served N) (kits : after ≡ before) (untouched : operators' ≡ operators) (status : Status)
+    (note : Option VclNote) (same : served ≡ unserved status note) where
+  idle_of : is_unserved status ≡ true → IsIdle before after operators operators' served
   idle_of unserved = record {
     kits = kits;
+    untouched = untouched;
     no_entry = ap (λ (s : Served N). s.history) same;
     no_keeper = ap (λ (s : Served N). s.keepers) same;
     no_connection = ap (λ (s : Served N). s.connections) same;
+    no_talk = ap (λ (s : Served N). s.console) same;
     no_round = ap (λ (s : Served N). s.tally) same;
     unserved = ap (λ (s : Served N). is_unserved s.status) same ∙ unserved;
   }
 
-  pub idle_halted : (failed : Type 0) → Halts failed status → IsIdle before after served
+  pub idle_halted : (failed : Type 0) → Halts failed status → IsIdle before after operators operators' served
   idle_halted failed halts = idle_of (halted_unserved failed status halts)
 
-pub idle_unbooted : {N K : Type 0} (before after : Option (List K)) (served : Served N) → after ≡ before → (error : BootError)
-    → served ≡ unserved (unbooted_status error) (unbooted_note error) → IsIdle before after served
-idle_unbooted before after served kits error same = idle_of before after served kits (unbooted_status error) (unbooted_note error) same (unbooted_unserved error)
+pub idle_unbooted : {N K O : Type 0} (before after : Option (List K)) (operators operators' : O) (served : Served N) → after ≡ before → operators' ≡ operators → (error : BootError)
+    → served ≡ unserved (unbooted_status error) (unbooted_note error) → IsIdle before after operators operators' served
+idle_unbooted before after operators operators' served kits untouched error same = idle_of before after operators operators' served kits untouched (unbooted_status error) (unbooted_note error) same (unbooted_unserved error)
 
 -- ---- a run that nothing hindered
 
 module _ {N : Type 0} (outside : Outside) (files : Option (List File)) (stored : List Stored) (order : ServeOptions) (served : Served N) where
-  complete_as : (status : Status) → EndsAs outside files stored order served status → is_full_status status ≡ served.tally.found_full
-      → ¬ outside.read_failed → ¬ outside.listen_failed → ¬ outside.write_failed → IsAccepted files stored order.file → served.tally.found_full ≡ false
+  complete_as : (status : Status) → EndsAs outside files stored order served status → is_full_status status ≡ found_full served
+      → ¬ outside.read_failed → ¬ outside.listen_failed → ¬ outside.write_failed → IsAccepted files stored order.file → found_full served ≡ false
       → (status ≡ Done) ⊎ (status ≡ NoMemory)
   complete_as Done ends full read listen write accepted fits = inl refl
   complete_as NoMemory ends full read listen write accepted fits = inr refl
@@ -77,5 +81,20 @@ module _ {N : Type 0} (outside : Outside) (files : Option (List File)) (stored :
   complete_as Vcl ends full read listen write accepted fits = absurd (accepted served.note ends.0)
   complete_as HistoryFull ends full read listen write accepted fits = absurd (let never : true ≡ false = full ∙ fits in cc)
 
-  pub is_complete : EndsAs outside files stored order served served.status → is_full_status served.status ≡ served.tally.found_full → IsComplete outside files stored order served
+  pub is_complete : EndsAs outside files stored order served served.status → is_full_status served.status ≡ found_full served → IsComplete outside files stored order served
   is_complete ends full = λ read listen write accepted fits. complete_as served.status ends full read listen write accepted fits
+
+-- what failed is one of more that may have failed
+halts_more : (failed more : Type 0) → (failed → more) → (status : Status) → Halts failed status → Halts more status
+halts_more failed more wider NoMemory halts = tt
+halts_more failed more wider ListenFault halts = wider halts
+halts_more failed more wider Done halts = absurd halts
+halts_more failed more wider ReadFault halts = absurd halts
+halts_more failed more wider WriteFault halts = absurd halts
+halts_more failed more wider Vcl halts = absurd halts
+halts_more failed more wider HistoryFull halts = absurd halts
+
+-- the same of what a question mark hands on
+pub halted_more : {T : Type 0} (failed more : Type 0) → (failed → more) → (result : Result T Status) (status : Status) → IsErrAnd result (λ e. e ≡ status) → Halts failed status → IfErr result (Halts more)
+halted_more failed more wider (Ok came) status is halts = absurd is
+halted_more failed more wider (Err error) status is halts = subst (λ (s : Status). Halts more s) (sym is) (halts_more failed more wider status halts)

@@ -1,10 +1,12 @@
 -- How a run ends by what connections came to.
-use Rattle.std.specs.Prelude.{◌≡◌, ◌++◌, ℕ, List, [], ◌∷◌, codes, Option, if◌then◌else◌}
+use Rattle.std.specs.Prelude.{◌≡◌, ◌++◌, ◌||◌, ℕ, Bool, true, false, List, [], ◌∷◌, codes, Option, if◌then◌else◌}
 use Rattle.std.specs.Fmt.{decimal}
 use Rattle.std.specs.Io.KnownBytes.{Appends}
 use Rattle.entrance.specs.declared.remains.Reason.{Reason}
 use Rattle.entrance.specs.declared.remains.Reason.TheVariants as reason
-use Rattle.server.specs.declared.tally.Tally.{Tally}
+use Rattle.console_link.specs.declared.talk.ConsoleEnd.{ConsoleEnd}
+use Rattle.console_link.specs.declared.talk.ConsoleEnd.TheVariants as end
+use Rattle.console_link.specs.declared.talk.ConsoleTalk.{ConsoleTalk}
 use Rattle.varn_serve.specs.declared.ending.Status.{Status}
 use Rattle.varn_serve.specs.declared.ending.Status.TheVariants.{Done, WriteFault, NoMemory, ListenFault, HistoryFull}
 
@@ -14,9 +16,18 @@ by_reason reason.Ended = Done
 by_reason reason.Failed = ListenFault
 by_reason reason.NoMemory = NoMemory
 
--- how a run ends whose workers left for this reason, but for what is told of it
-abbrev pub verdict_of : Reason → Tally → Status
-verdict_of why tally = if tally.found_full then HistoryFull else by_reason why
+-- a talk of a console found the history full
+abbrev pub is_full_end : ConsoleEnd → Bool
+is_full_end end.HistoryFull = true
+is_full_end other = false
+
+abbrev pub has_full : List ConsoleTalk → Bool
+has_full [] = false
+has_full (talk ∷ talks) = is_full_end talk.ended || has_full talks
+
+-- how a run ends whose workers left for this reason, but for what is told of it; whether a connection or a talk found the history full
+abbrev pub verdict_of : Reason → Bool → Status
+verdict_of why is_full = if is_full then HistoryFull else by_reason why
 
 -- the line that tells how many rounds there were
 abbrev pub rounds_line : ℕ → List ℕ

@@ -3,6 +3,7 @@ ghost use Rattle.std.specs.Prelude.{◌≡◌};
 ghost use Rattle.varn_serve.specs.Statuses.{code_of};
 
 use cache_law::Entry;
+use console_link::ConsoleTalk;
 use server::Tally;
 use units::Sequence;
 use vcl_tree::Refusal;
@@ -21,7 +22,7 @@ pub enum Status {
     ListenFault,
     /// There is no file of the VCL, or its text is refused at the noted place.
     Vcl,
-    /// A call of a connection's last round didn't fit the history.
+    /// A call of a connection's last round, or of a console's next line, didn't fit the history.
     HistoryFull,
 }
 
@@ -50,7 +51,7 @@ pub struct VclNote {
 }
 
 /// How a run ended, what its VCL is refused for, the history of its cache, the workers' keepers, how many connections were served,
-/// and what the keepers counted.
+/// what the keepers counted, and what was said at the console.
 #[derive(Drop)]
 pub struct Served<N> {
     pub status: Status,
@@ -59,4 +60,5 @@ pub struct Served<N> {
     pub keepers: Sequence<N>,
     pub connections: u64,
     pub tally: Tally,
+    pub console: Sequence<ConsoleTalk>,
 }

@@ -5,6 +5,7 @@
 //! cause (`specs/Endings.antt`).
 #![tactic(auto)]
 
+mod console;
 mod ending;
 mod functions;
 mod programs;

@@ -5,9 +5,10 @@ ghost use Rattle.wire.specs.Causes.{Rose};
 ghost use Rattle.server.specs.Keeping.{tally_of};
 ghost use Rattle.server.specs.declared.keeping.Event.{Event};
 ghost use Rattle.crew.specs.Parts.{all_events};
-ghost use Rattle.varn_serve.specs.Endings.{by_reason, rounds_line, verdict_of, Reports};
+ghost use Rattle.varn_serve.specs.Endings.{by_reason, has_full, is_full_end, rounds_line, verdict_of, Reports};
 
 use crate::ending::Status;
+use console_link::{ConsoleEnd, ConsoleTalk};
 use entrance::Reason;
 use server::{Keeper, Tally};
 use std::alloc::{AllocError, Global};
@@ -34,11 +35,36 @@ fn by_reason(reason: Reason) -> Status
     }
 }
 
-/// How a run ends whose workers left for this reason.
-pub(crate) fn verdict(reason: Reason, tally: Tally) -> Status
-    ensures { result ≡ verdict_of reason tally }
+// Whether a talk that ended so found the history full.
+fn is_full_end(ended: ConsoleEnd) -> bool
+    ensures { result ≡ is_full_end ended }
 {
-    if tally.found_full {
+    match ended {
+        ConsoleEnd::HistoryFull => true,
+        ConsoleEnd::Quit => false,
+        ConsoleEnd::Closed => false,
+        ConsoleEnd::TooLong => false,
+        ConsoleEnd::ReadFault => false,
+        ConsoleEnd::WriteFault => false,
+        ConsoleEnd::NoMemory => false,
+    }
+}
+
+/// Whether one of these talks found the history full.
+pub(crate) fn has_full(talks: &[ConsoleTalk]) -> bool
+    ensures { result ≡ has_full talks.now }
+{
+    match talks {
+        [] => false,
+        [first, rest @ ..] => is_full_end(first.ended) || has_full(rest),
+    }
+}
+
+/// How a run ends whose workers left for this reason, and in which a connection or a talk found the history full or didn't.
+pub(crate) fn verdict(reason: Reason, is_full: bool) -> Status
+    ensures { result ≡ verdict_of reason is_full }
+{
+    if is_full {
         Status::HistoryFull
     } else {
         by_reason(reason)

@@ -1,6 +1,7 @@
-// The world of a run. A row has settings and, behind each bar, what a client sends, between quotes. The settings are `workers` and
-// `conns`, `history` for the most bytes of the history, `vcl` for the file of the VCL, `kits` for how many kits there are at most,
-// and `listens`, `accepts` and `writes` for the calls that fail.
+// The worlds of a run. A row has settings and, behind each bar, what a client sends, between quotes; behind a semicolon, with bars between
+// them, what operators send at the console. The settings are `workers` and `conns`, `cli` for the console's port, `history` for the most
+// bytes of the history, `vcl` for the file of the VCL, `kits` for how many kits there are at most, and `listens`, `accepts` and `writes`
+// for the calls that fail; `operators` is `unheard` where listening for operators fails.
 use command_line::ServeOptions;
 use row_settings::{number, numbers, numbers_of, setting};
 use std::alloc::{AllocError, Global};
@@ -21,12 +22,18 @@ fn count(row: &str, name: &str, usual: u32) -> u32 {
     setting(row, name).parse::<u32>().unwrap_or(usual)
 }
 
+// The console's port, if the row has one.
+fn port_of(settings: &str) -> Option<u16> {
+    setting(settings, "cli").parse::<u16>().ok()
+}
+
 pub fn order_of(alloc: Global, settings: &str) -> Result<ServeOptions, AllocError> {
     Ok(ServeOptions {
         port: 1,
         file: Text::of(alloc, b"f")?,
         workers: count(settings, "workers", 1),
         conns: count(settings, "conns", 1),
+        cli: port_of(settings),
         room: LIMIT,
         history: number(settings, "history", LIMIT),
     })
@@ -54,14 +61,15 @@ fn coming(alloc: Global, inputs: &str) -> Result<VecDeque<Coming>, AllocError> {
 
 fn listeners(
     alloc: Global,
-    settings: &str,
     inputs: &str,
+    failing: Vec<u64>,
+    quiet: u64,
 ) -> Result<VecDeque<Listening>, AllocError> {
     let mut listeners = VecDeque::new(alloc);
     listeners.push_back(Listening {
         coming: coming(alloc, inputs)?,
-        failing: numbers(alloc, settings, "accepts")?,
-        quiet: number(settings, "quiet", 0),
+        failing,
+        quiet,
     })?;
     Ok(listeners)
 }
@@ -102,7 +110,9 @@ fn kits(alloc: Global, settings: &str) -> Result<VecDeque<PlannedKit>, AllocErro
 pub fn world_of(alloc: Global, settings: &str, inputs: &str) -> Result<FailingWorld, AllocError> {
     let vcl = setting(settings, "vcl");
     let failing_shelves = if vcl == "unreadable" { "0" } else { "" };
-    let listeners = listeners(alloc, settings, inputs)?;
+    let failing_accepts = numbers(alloc, settings, "accepts")?;
+    let quiet = number(settings, "quiet", 0);
+    let listeners = listeners(alloc, inputs, failing_accepts, quiet)?;
     let failing_listens = numbers(alloc, settings, "listens")?;
     let files = files(alloc, vcl)?;
     let failing_shelves = numbers_of(alloc, failing_shelves)?;
@@ -114,5 +124,44 @@ pub fn world_of(alloc: Global, settings: &str, inputs: &str) -> Result<FailingWo
         files,
         failing_shelves,
         kits,
+    ))
+}
+
+// A kit of which nothing is dialed, with a clock at 0.
+fn console_kits(alloc: Global) -> Result<VecDeque<PlannedKit>, AllocError> {
+    let (readings, words) = (vec![in alloc; 0]?, vec![in alloc; 0]?);
+    let kit = PlannedKit::new(
+        alloc,
+        VecDeque::new(alloc),
+        Vec::new(alloc),
+        readings,
+        words,
+    )?;
+    let mut kits = VecDeque::new(alloc);
+    kits.push_back(kit)?;
+    Ok(kits)
+}
+
+/// The world of the console, with operators who send these.
+pub fn operators_of(
+    alloc: Global,
+    settings: &str,
+    inputs: &str,
+) -> Result<FailingWorld, AllocError> {
+    let unheard = if setting(settings, "operators") == "unheard" {
+        "0"
+    } else {
+        ""
+    };
+    let listeners = listeners(alloc, inputs, Vec::new(alloc), 0)?;
+    let failing_listens = numbers_of(alloc, unheard)?;
+    let failing_shelves = Vec::new(alloc);
+    Ok(FailingWorld::new(
+        alloc,
+        listeners,
+        failing_listens,
+        files(alloc, "")?,
+        failing_shelves,
+        console_kits(alloc)?,
     ))
 }

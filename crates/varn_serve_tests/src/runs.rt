@@ -1,7 +1,9 @@
 // A run over a row's world (`run_worlds.rt`), and what is said of it.
 use crate::holding::HoldingGate;
-use crate::run_worlds::{order_of, world_of};
+use crate::run_worlds::{operators_of, order_of, world_of};
 use crate::telling::push_quoted;
+use console_link::ConsoleTalk;
+use crew::Sign;
 use row_settings::numbers;
 use server::{Event, Recorder};
 use std::alloc::{AllocError, Global};
@@ -14,6 +16,20 @@ use world::{AcceptedLink, FailingWorld, Gate, OpenGate};
 /// What a run comes to whose keepers keep all that they are told.
 type Ran = Served<Recorder<AcceptedLink>>;
 
+/// A sign that nobody looks at: the links of a row end by themselves.
+struct NoSign;
+
+impl Sign for NoSign {
+    fn raise(&self) {}
+}
+
+// What clients send in a row, and what operators do.
+fn inputs_of(row: &str) -> (&str, &str, &str) {
+    let (row, operators) = row.split_once(" ; ").unwrap_or((row, ""));
+    let (settings, inputs) = row.split_once('|').unwrap_or((row, ""));
+    (settings, inputs, operators)
+}
+
 fn sink_of(alloc: Global, settings: &str) -> Result<FailingSink, AllocError> {
     let fails = numbers(alloc, settings, "writes")?;
     Ok(FailingSink::new(alloc, fails, 4096))
@@ -25,10 +41,11 @@ fn run<R: Threads + Wait + Sync, G: Gate + Sync>(
     settings: &str,
     gate: &G,
     world: &mut FailingWorld,
+    operators: &mut FailingWorld,
     sink: &mut FailingSink,
 ) -> Result<Ran, AllocError> {
     let order = order_of(alloc, settings)?;
-    Ok(serve_with_std(rt, alloc, &order, world, gate, sink))
+    Ok(serve_with_std(rt, alloc, &order, world, operators, gate, &NoSign, sink))
 }
 
 fn push_status(out: &mut String, served: &Ran) -> Result<(), AllocError> {
@@ -79,6 +96,31 @@ fn push_connections(out: &mut String, served: &Ran) -> Result<(), AllocError> {
     write!(out, " entries {}", served.history.as_slice().len())
 }
 
+// How each talk at the console ended, and its lines, each with its place and its answer.
+fn push_talks(alloc: Global, out: &mut String, talks: &[ConsoleTalk]) -> Result<(), AllocError> {
+    for talk in talks {
+        write!(out, " console {:?}", talk.ended)?;
+        for line in &talk.lines {
+            out.push_str("; ")?;
+            push_quoted(alloc, out, line.line.bytes())?;
+            if let Some(place) = line.place {
+                write!(out, " at {place}")?;
+            }
+            out.push_str(" ")?;
+            push_quoted(alloc, out, line.sent.bytes())?;
+        }
+    }
+    Ok(())
+}
+
+// The ports that were asked for at the console's side, if there are any.
+fn push_console_ports(out: &mut String, operators: &FailingWorld) -> Result<(), AllocError> {
+    match operators.ports() {
+        [] => Ok(()),
+        ports => write!(out, " console at {ports:?}"),
+    }
+}
+
 /// The row's run with the status and the note, what was written, what each link that was handed back took, how each connection
 /// ended with the number of its rounds, and how many entries the history has.
 pub fn run_shown<R: Threads + Wait + Sync>(
@@ -86,11 +128,23 @@ pub fn run_shown<R: Threads + Wait + Sync>(
     alloc: Global,
     row: &str,
 ) -> Result<String, AllocError> {
-    let (settings, inputs) = row.split_once('|').unwrap_or((row, ""));
+    let (settings, inputs, operators) = inputs_of(row);
     let mut world = world_of(alloc, settings, inputs)?;
+    let mut operators = operators_of(alloc, settings, operators)?;
     let mut sink = sink_of(alloc, settings)?;
-    let served = run(rt, alloc, settings, &OpenGate, &mut world, &mut sink)?;
-    said(alloc, &served, &world, sink.bytes())
+    let served = run(
+        rt,
+        alloc,
+        settings,
+        &OpenGate,
+        &mut world,
+        &mut operators,
+        &mut sink,
+    )?;
+    let mut out = said(alloc, &served, &world, sink.bytes())?;
+    push_talks(alloc, &mut out, served.console.as_slice())?;
+    push_console_ports(&mut out, &operators)?;
+    Ok(out)
 }
 
 fn said(
@@ -115,11 +169,20 @@ pub fn held_shown<R: Threads + Wait + Sync>(
     alloc: Global,
     row: &str,
 ) -> Result<String, AllocError> {
-    let (settings, inputs) = row.split_once('|').unwrap_or((row, ""));
+    let (settings, inputs, operators) = inputs_of(row);
     let mut world = world_of(alloc, settings, inputs)?;
+    let mut operators = operators_of(alloc, settings, operators)?;
     let mut sink = sink_of(alloc, settings)?;
     let gate = HoldingGate::new();
-    let served = run(rt, alloc, settings, &gate, &mut world, &mut sink)?;
+    let served = run(
+        rt,
+        alloc,
+        settings,
+        &gate,
+        &mut world,
+        &mut operators,
+        &mut sink,
+    )?;
     held_said(alloc, &served, sink.bytes(), gate.went_well())
 }
 

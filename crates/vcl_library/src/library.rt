@@ -14,7 +14,7 @@ use vcl_runs::Programs;
 use vcl_soundness::{backends_are_there, program_never_stuck, standard_are_meant};
 use vcl_store::program_of;
 use vmod_host::VmodTable;
-use wire::TimeLimits;
+use wire::DialLimits;
 
 /// A program with its VCL's number and the text that it was made of.
 #[derive(Drop)]
@@ -161,7 +161,7 @@ impl Programs<Run> for Library {
         backend_of(alloc, program, name)
     }
 
-    fn waiting(program: &Executable, name: &Text) -> TimeLimits {
+    fn waiting(program: &Executable, name: &Text) -> DialLimits {
         waiting_at(program, name)
     }
 }

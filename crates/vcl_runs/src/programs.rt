@@ -2,13 +2,13 @@
 ghost use Rattle.std.specs.Prelude.{◌≡◌, List, ℕ, IfOk};
 ghost use Rattle.http_heads.specs.declared.exchange.Backend.{Backend as Server};
 ghost use Rattle.vcl_runs.specs.Evaluators.{evaluator, IsLike};
-ghost use Rattle.wire.specs.declared.time_limits.TimeLimits.{TimeLimits as Times};
+ghost use Rattle.wire.specs.declared.dial_limits.DialLimits.{DialLimits as Times};
 
 use crate::Runner;
 use http_heads::Backend;
 use std::alloc::{AllocError, Global};
 use units::{Shared, Text};
-use wire::TimeLimits;
+use wire::DialLimits;
 
 /// The programs of the texts that the VCLs of a cache have, as `M` runs them.
 pub trait Programs<M: Runner> {
@@ -18,7 +18,7 @@ pub trait Programs<M: Runner> {
     /// Where the backend is that a program gives this name.
     ghost backends: { M.Program → List ℕ → Server };
 
-    /// How long the backend is waited for that a program gives this name.
+    /// What the dials of the backend may take that a program gives this name.
     ghost times: { M.Program → List ℕ → Times };
 
     /// The program of the VCL of this number, which has this text. A text that a cache keeps has one, so that memory alone can be
@@ -35,8 +35,8 @@ pub trait Programs<M: Runner> {
     fn backend(alloc: Global, program: &M::Program, name: &Text) -> Result<Backend, AllocError>
         ensures { IfOk result (λ backend. backend ≡ backends program.now name.now) };
 
-    /// How long the backend of this name is waited for.
-    fn waiting(program: &M::Program, name: &Text) -> TimeLimits
+    /// What the dials of the backend of this name may take.
+    fn waiting(program: &M::Program, name: &Text) -> DialLimits
         ensures { result ≡ times program.now name.now };
 
     /// All programs of one text mean the same.

@@ -7,7 +7,7 @@ ghost use Rattle.wire.specs.Talks.{Adds, counted_link};
 ghost use Rattle.wire.specs.declared.peer.Peer.{Peer as End};
 
 use crate::kept::{Kept, keep, place};
-use crate::{Calls, DialError, Dialer, Direction, FailingLink, Peer, TimeLimits};
+use crate::{Calls, DialError, DialLimits, Dialer, Direction, FailingLink, Peer};
 use std::alloc::{AllocError, Global};
 use std::collections::VecDeque;
 use std::marker::Model;
@@ -150,7 +150,7 @@ impl Dialer for FailingDialer {
 
     ghost write_faults = { λ d. d.write_faults };
 
-    fn within(&mut self, _limits: TimeLimits)
+    fn within(&mut self, _limits: DialLimits)
         ensures talks { Some self.new.talks ≡ Some self.old.talks }
         ensures dials { self.new.dial_faults ≡ self.old.dial_faults }
         ensures reads { self.new.read_faults ≡ self.old.read_faults }

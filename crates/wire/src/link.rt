@@ -9,7 +9,7 @@ ghost use Rattle.wire.specs.Talks.{Adds, counted_link};
 ghost use Rattle.wire.specs.declared.peer.Peer.{Peer as End};
 ghost use Rattle.wire.specs.declared.peer.Talk.{Talk as Dialing};
 
-use crate::TimeLimits;
+use crate::DialLimits;
 use crate::traits::Failed;
 use std::alloc::AllocError;
 use std::error::Error;
@@ -135,7 +135,7 @@ pub trait Dialer {
     ghost write_faults: { Self → ℕ };
 
     /// From now on a dial, and reads on the connection that it gives, take at most so long. It tells nothing.
-    fn within(&mut self, limits: TimeLimits)
+    fn within(&mut self, limits: DialLimits)
         ensures talks { talks self.new ≡ talks self.old }
         ensures dials { dial_faults self.new ≡ dial_faults self.old }
         ensures reads { read_faults self.new ≡ read_faults self.old }

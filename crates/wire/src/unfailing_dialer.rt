@@ -3,7 +3,7 @@ ghost use Rattle.std.specs.Prelude.{◌≡◌, true, false, None, Some, IfOk, If
 ghost use Rattle.wire.specs.UnfailingMemory.{GivesUnfailing};
 ghost use Rattle.wire.specs.declared.peer.Peer.{Peer as End};
 
-use crate::{DialError, Dialer, Peer, TimeLimits, UnfailingLink};
+use crate::{DialError, DialLimits, Dialer, Peer, UnfailingLink};
 use std::alloc::Global;
 use std::collections::VecDeque;
 use std::marker::Model;
@@ -60,7 +60,7 @@ impl Dialer for UnfailingDialer {
 
     ghost write_faults = { λ _. 0 };
 
-    fn within(&mut self, _limits: TimeLimits)
+    fn within(&mut self, _limits: DialLimits)
         ensures same { self.new ≡ self.old }
     {}
 

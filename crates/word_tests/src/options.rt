@@ -31,10 +31,13 @@ fn error_shown(alloc: Global, words: &[Text], error: OrderError) -> Result<Strin
 
 fn order_shown(alloc: Global, order: &ServeOptions) -> Result<String, AllocError> {
     let file = str::from_utf8(order.file.bytes()).unwrap_or("?");
-    format!(in alloc;
-        "port {} file {file} workers {} conns {} room {} history {}",
-        order.port, order.workers, order.conns, order.room, order.history
-    )
+    let (port, workers, conns) = (order.port, order.workers, order.conns);
+    let mut out = format!(in alloc; "port {port} file {file} workers {workers} conns {conns}")?;
+    if let Some(port) = order.cli {
+        write!(out, " cli {port}")?;
+    }
+    write!(out, " room {} history {}", order.room, order.history)?;
+    Ok(out)
 }
 
 fn fault_shown(alloc: Global, words: &[Text], fault: Fault) -> Result<String, AllocError> {

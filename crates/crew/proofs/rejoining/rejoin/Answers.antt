@@ -1,5 +1,5 @@
 -- No pass is joined at first, and then one after another.
-use Rattle.std.proofs.Common.{◌≡◌, [], ◌∷◌, refl, sym, ap, ◌∙◌, rules, arith, append-nil}
+use Rattle.std.proofs.Common.{◌≡◌, [], ◌∷◌, ◌++◌, refl, sym, ap, ◌∙◌, rules, arith, append-nil}
 use Rattle.std.proofs.lemmas.Grind.{common_steps}
 use Rattle.std.proofs.lemmas.List.Elements.{All-head, All-tail}
 use Rattle.turnstile.specs.Handles.{known}
@@ -8,6 +8,7 @@ use Rattle.shared_cache.specs.Sharing.{CallerKnows}
 use Rattle.turnstile.specs.declared.knowledge.Ended.{Ended}
 use Rattle.std.specs.Prelude.{List}
 use Rattle.entrance.proofs.Adding.{adds_none}
+use Rattle.crew.proofs.Besides.{front_then}
 use Rattle.crew.proofs.Joining.{fronts_longer, fronts_more, joined_mine, joined_more, adds_more, items_more}
 use Rattle.crew.proofs.rejoining.rejoin.Goals as goal
 
@@ -19,6 +20,7 @@ loop-post-init g c = record {
   fronts = tt;
   knows = ap (λ (es : List Ended). record (known c.args.root.now) { ended = es }) (sym (append-nil (known c.args.root.now).ended));
   mine = refl;
+  grown = ([], sym (append-nil _));
   kits = adds_none _;
   keepers = sym (append-nil _);
   seats = first_of (search rules, grind (arith, common_steps));
@@ -55,6 +57,10 @@ loop-post-preserved g c =
       knows = joined_more (λ post. known (g.H.Host.pass_of post.shift)) c.loop-post.yielded c.in-Some.post (known c.args.root.now) (known c.loop-post.root) (known c.join.new.pass)
           before.knows merged_is silent.0 silent.1;
       mine = joined_mine (known c.loop-post.root) (known c.join.new.pass) (ap (λ (k : CallerKnows). k.number) merged_is) c.join.ensures.seen ∙ before.mine;
+      grown = (
+        before.grown.0 ++ c.join.ensures.seen.0,
+        front_then (known c.args.root.now).seen (known c.loop-post.root).seen (known c.join.new.pass).seen before.grown.0 c.join.ensures.seen.0 before.grown.1 c.join.ensures.seen.1,
+      );
       kits = adds_more (λ post. g.H.Host.kit_of post.shift) c.loop-post.yielded c.in-Some.post _ _ _ before.kits (rw c.end_shift-pass.ensures.1 at c.keep_kit.ensures.kit);
       keepers = items_more (λ post. post.keeper) c.loop-post.yielded c.in-Some.post _ _ _ before.keepers c.push_reserved.ensures.items;
       seats = first_of (search rules, grind (arith, common_steps));

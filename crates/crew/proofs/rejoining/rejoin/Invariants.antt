@@ -1,6 +1,7 @@
 -- The passes that were joined so far, and that the others may be.
-use Rattle.std.proofs.Common.{◌≡◌, ◌+◌, ◌≤◌, ◌++◌, [], length, map}
+use Rattle.std.proofs.Common.{◌≡◌, ◌+◌, ◌≤◌, ◌++◌, List, [], length, map}
 use Rattle.std.specs.Prelude.{All, vec_len, vec_capacity}
+use Rattle.cache_law.specs.declared.call.Entry.{Entry}
 use Rattle.wire.specs.Talks.{Adds}
 use Rattle.turnstile.specs.Handles.{known}
 use Rattle.turnstile.specs.Knowledge.{mine}
@@ -17,6 +18,7 @@ invariant-loop-post g l = record {
   fronts : AllFronts (known l.root).seen (map (λ post. known (g.H.Host.pass_of post.shift)) l.yielded);
   knows : known l.root ≡ record (known l.fn.root) { seen = (known l.root).seen; ended = (known l.fn.root).ended ++ map (λ post. ended_of (known (g.H.Host.pass_of post.shift))) l.yielded };
   mine : mine caller_of (known l.root) ≡ mine caller_of (known l.fn.root);
+  grown : (rest : List Entry) × ((known l.root).seen ≡ (known l.fn.root).seen ++ rest);
   kits : Adds (g.W.World.kits l.fn.world) (g.W.World.kits l.world) (map (λ post. g.H.Host.kit_of post.shift) l.yielded);
   keepers : l.keepers.items ≡ l.fn.keepers.items ++ map (λ post. post.keeper) l.yielded;
   seats : vec_len l.keepers + length l.post-iterator.rest.items ≤ vec_capacity l.keepers;

@@ -10,5 +10,5 @@ returns-in-Ok g c = λ place at.
 
 pub returns-in-Err : goal.returns-in-Err
 returns-in-Err g c = λ place at.
-    bad_entry g.F.Follower.stands c.args.follower c.args.said c.in-Err.kind place at
+    bad_entry g.F.Follower.stands c.args.follower c.args.said c.in-Err.fault place at
     (λ params state used there. subst (EndsEntry g.F.Follower.stands params state used c.args.said) c.in-Err.is (c.in_ok-next.ensures params state used there))

@@ -11,6 +11,7 @@ returns g c = λ helpless. (
         replays = λ came h. (_, _, _, _, h.0);
         loads = λ load came h. tt;
         serves = λ order came h. (h.3, h.4);
+        audits = λ came h. (_, _, _, _, h.0);
         nothing = λ h. tt;
       })
       c.run-outcome.ensures),

@@ -1,8 +1,9 @@
 -- The programs of workers may cross threads, and what they do is what the trees of their texts mean.
-use Rattle.std.proofs.Common.{◌≡◌, ◌∙◌, ap, inl, inr}
+use Rattle.std.proofs.Common.{◌≡◌, ◌∙◌, refl, ap, inl, inr}
 use Rattle.std.proofs.Crossing.{crosses}
 use denote.Param.Send.{sendable}
 use Rattle.vcl_library.specs.Functions.{std_functions}
+use Rattle.console_job.proofs.Operated.{same_told}
 use Rattle.varn_serve.proofs.Carried.{by_vcl}
 use Rattle.varn_serve.proofs.Crossing.{compiled_send, compiled_sync, kept_send, kept_sync, library_send, library_sync}
 use Rattle.varn_serve.proofs.Ends.{idle_halted, idle_unbooted, unbooted_so}
@@ -34,21 +35,25 @@ returns-in-Err-clause-ends g c =
 pub returns-in-Ok-serve_stocked-clause-came : goal.returns-in-Ok-serve_stocked-clause-came
 returns-in-Ok-serve_stocked-clause-came g c =
     let same : c.in_ok-vmods.vmods.stored ≡ std_functions = rw c.in_ok-vmods.ensures c.in_ok-std_vmods.ensures in
+    let functions : c.in_ok-functions.functions.stored ≡ std_functions = rw c.in_ok-functions.ensures same in
     inr (record {
       boot = c.in-Ok.stocked.0;
       boots = rw same at c.in-Ok.ensures.boot;
-      ran = rw (c.finished.ensures.history, c.finished.ensures.keepers, c.finished.ensures.connections, ← c.stocked_boot.ensures.kits)
-          (by_vcl _ _ _ _ _ _ _ _ _ _ _ _ _ _ _ _ c.finished.result.tally c.finished.ensures.tally c.in-Ok-serve_stocked.ensures.ran);
+      ran = rw (c.finished.ensures.history, c.finished.ensures.keepers, c.finished.ensures.connections, c.finished.ensures.console, ← c.stocked_boot.ensures.kits)
+          (by_vcl _ _ _ _ _ _ _ _ _ _ _ _ _ _ _ _ c.finished.result.tally _ c.finished.ensures.tally c.in-Ok-serve_stocked.ensures.ran);
+      operated = rw (c.finished.ensures.history, c.finished.ensures.console) (rw functions at c.in-Ok-serve_stocked.ensures.operated);
     })
 
 pub returns-in-Err-clause-came : goal.returns-in-Err-clause-came
 returns-in-Err-clause-came g c =
-    inl (idle_unbooted _ _ c.unbooted.result c.stocked_boot.ensures.kits c.in-Err.error c.unbooted.ensures)
+    inl (idle_unbooted _ _ _ _ c.unbooted.result c.stocked_boot.ensures.kits refl c.in-Err.error c.unbooted.ensures)
 
 pub returns-in-Err-serve_stocked-clause-came : goal.returns-in-Err-serve_stocked-clause-came
 returns-in-Err-serve_stocked-clause-came g c =
     let nobody = c.in-Err-serve_stocked.ensures.nobody in
-    inl (idle_halted _ _ c.stopped.result (nobody.0 ∙ c.stocked_boot.ensures.kits) c.in-Err-serve_stocked.status _
+    let untouched = c.in-Err-serve_stocked.ensures.unoperated in
+    inl (idle_halted _ _ _ _ c.stopped.result (nobody.0 ∙ c.stocked_boot.ensures.kits)
+    (same_told _ _ _ _ _ _ _ _ untouched.0 untouched.1 untouched.2 untouched.3) c.in-Err-serve_stocked.status _
     c.stopped.ensures _ c.in-Err-serve_stocked.ensures.halted)
 
 pub returns-in-Ok-serve_stocked-clause-given : goal.returns-in-Ok-serve_stocked-clause-given

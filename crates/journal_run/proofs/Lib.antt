@@ -1,0 +1,4 @@
+pub mod Counts
+mod Stints
+mod Texts
+mod Cut
