@@ -92,7 +92,8 @@ pub fn order_fault(
     }
 }
 
-/// What is wrong with words that begin neither as those of a server nor as those of a load, if this is the first faulty word; None where a word is missing.
+/// What is wrong with words that begin neither as those of a server nor as those of a load, if this is the first faulty word;
+/// None where a word is missing. `audit` takes no word behind it.
 pub fn replay_fault(
     alloc: Global,
     words: &[Text],
@@ -101,11 +102,17 @@ pub fn replay_fault(
     match (words, faulty) {
         ([], _) => String::from_str(
             alloc,
-            "a command is missing; serve, replay or load is expected",
+            "a command is missing; serve, replay, load or audit is expected",
         ),
+        ([command, word, ..], _) if command.bytes() == b"audit".as_slice() => {
+            let word = text_of(word);
+            format!(in alloc;
+                "not expected here: {word}; audit stands alone, and reads a journal from standard input"
+            )
+        }
         ([command, ..], _) if command.bytes() != b"replay".as_slice() => {
             let word = text_of(command);
-            format!(in alloc; "no such command: {word}; serve, replay or load is expected")
+            format!(in alloc; "no such command: {word}; serve, replay, load or audit is expected")
         }
         (_, Some(word)) => {
             let word = text_of(word);
