@@ -80,7 +80,7 @@ request='req 1 "GET / HTTP/1.1\r\nHost: h\r\n\r\n"'
 given 'cli ping' end
 check "help: status 0" ends 0 'usage: ' --help
 check "a session: status 0" ends 0 'PONG' replay
-check "no words: status 2" ends 2 'replay or load'
+check "no words: status 2" ends 2 'load or audit'
 check "a word that isn't known: status 2" ends 2 '--rooms' replay --rooms 1
 check "a load: status 0" ends 0 'requests 19' load --seed 1 --steps 20
 check "a load without steps: status 2" ends 2 '--steps' load --seed 1
@@ -93,6 +93,12 @@ check "a history that gets full: status 9" ends 9 'history' replay --history 100
 "$program" replay < "$work/stdin" > /dev/full 2> "$work/reply"
 ended=$?
 check "standard output takes nothing: status 5" [ $ended = 5 ]
+journal='varn 1 1000000 640 "vcl 4.1; backend default { .host = \"127.0.0.1\"; }" 1 "default"'
+given "$journal" 'e 1 0 begin = began 1 1' 'e 1 0 end = ended' close
+check "a journal: status 0" ends 0 'legal 2' audit
+given "$journal" 'e 1 0 begin = began 1 1' 'e 1 0 end = ended'
+check "a journal that isn't closed: status 10" ends 10 'line 4 kind 7' audit
+check "an audit with a word more: status 2" ends 2 'audit stands alone' audit --room
 check "a VCL that can't be read: status 4" ends 4 "can't be read" serve --listen 8000 --vcl "$work" --workers 1 --conns 1
 check "no such VCL: status 8" ends 8 'no such file' serve --listen 8000 --vcl "$work/none" --workers 1 --conns 1
 printf 'vcl 4.1;\nbackend default none;\nsub vcl_recv { return (pipe); }\n' > "$work/pipe.vcl"
