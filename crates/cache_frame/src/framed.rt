@@ -5,8 +5,8 @@ ghost use Rattle.cache_law.specs.ShownBans.{AllShown, those_open};
 ghost use Rattle.cache_law.specs.State.{at_moment};
 ghost use Rattle.cache_law.specs.Law.{answered};
 ghost use Rattle.cache_law.specs.declared.call.Reply.TheVariants.{Refused};
-ghost use Rattle.cache_law.specs.Bases.{IsBase, IsClosed};
-ghost use Rattle.cache_law.specs.Core.{is_closing as closes_only, is_kept, is_lookup, is_segment_full as is_full_for};
+ghost use Rattle.cache_law.specs.Bases.{IsBase};
+ghost use Rattle.cache_law.specs.Core.{is_closing as closes_only, is_kept, is_lookup};
 ghost use Rattle.cache_law.specs.History.{Fits, is_numbered, most_entries, reached};
 ghost use Rattle.cache_desk.specs.Desk.{bare};
 ghost use Rattle.cache_frame.specs.Asked.{is_untested};
@@ -84,7 +84,7 @@ impl<S: Shelf> CacheCore for Framed<S> {
         reading: u64,
         call: Call,
     ) -> Result<Told, StepError> {
-        if self.is_segment_full(caller, &call) {
+        if self.is_full_for(caller, &call) {
             return Err(given_up(call, StepError::SegmentFull));
         }
         let moment = self.desk.moment().max(reading);
@@ -148,6 +148,18 @@ impl<S: Shelf> CacheCore for Framed<S> {
         self.desk.closed(token)
     }
 
+    fn is_full_for(&self, caller: u32, call: &Call) -> bool {
+        self.params.segments
+            && !self.desk.has_round(caller)
+            && !is_closing(call)
+            && !self.entries.is_empty()
+            && self.params.history / 2 <= self.used
+    }
+
+    fn is_idle(&self) -> bool {
+        self.desk.is_idle()
+    }
+
     fn reopen(self, alloc: Global) -> Result<(Sequence<Entry>, Framed<S>), Kept<Framed<S>>> {
         let Framed {
             params,
@@ -199,17 +211,6 @@ impl<S: Shelf> LurkCore for Framed<S> {
 }
 
 impl<S: Shelf> Framed<S> {
-    /// Whether a segment ends before the call of the caller.
-    fn is_segment_full(&self, caller: u32, call: &Call) -> bool
-        ensures { result ≡ is_full_for self.now.beginning.params (reached self.now.beginning self.now.entries) self.now.entries caller call.now }
-    {
-        self.params.segments
-            && !self.desk.has_round(caller)
-            && !is_closing(call)
-            && !self.entries.is_empty()
-            && self.params.history / 2 <= self.used
-    }
-
     /// Whether an entry of the call, answered so, fits behind a history of so many bytes that reached this state. A step asks the
     /// same of its own history. An error means that memory was wanting, which a refusal never wants.
     pub fn fits(
@@ -242,13 +243,6 @@ impl<S: Shelf> Framed<S> {
                 Ok(is_within(self.params.history, used, self.desk.entries(), call, open))
             }
         }
-    }
-
-    /// Whether no round and no fetch is open: then it may be reopened. It takes no memory.
-    pub fn is_idle(&self) -> bool
-        ensures { IsTrue result ↔ IsClosed (reached self.now.beginning self.now.entries) }
-    {
-        self.desk.is_idle()
     }
 }
 

@@ -1,5 +1,5 @@
 // A cache as the layers above know it.
-ghost use Rattle.std.specs.Prelude.{◌≡◌, ◌↔◌, [], List, IfErr, IfOk, OnErr, true, false, IsErrOf};
+ghost use Rattle.std.specs.Prelude.{◌≡◌, ◌↔◌, [], List, IfErr, IfOk, OnErr, true, false, IsErrOf, IsTrue};
 ghost use Rattle.cache_law.specs.declared.call.Entry.{Entry as HistoryEntry};
 ghost use Rattle.cache_law.specs.Beginning.{Beginning, beginning_of};
 ghost use Rattle.cache_law.specs.Core.{Entered, FitsBehind, moment_of, is_kept, is_lookup, is_segment_full};
@@ -85,6 +85,14 @@ pub trait CacheCore: Sized {
     /// takes no memory.
     fn awaits(&self, caller: u32) -> Option<u64>
         ensures { result ≡ awaits (reached (beginning self.now) (history self.now)) caller };
+
+    /// Whether a segment ends before the call of the caller: then the call would be told `SegmentFull`. It takes no memory.
+    fn is_full_for(&self, caller: u32, call: &Call) -> bool
+        ensures { result ≡ is_segment_full (beginning self.now).params (reached (beginning self.now) (history self.now)) (history self.now) caller call.now };
+
+    /// Whether no round and no fetch is open: then it may be reopened. It takes no memory.
+    fn is_idle(&self) -> bool
+        ensures { IsTrue result ↔ IsClosed (reached (beginning self.now) (history self.now)) };
 
     /// Gives the history, and the cache with an empty one, which begins in a base that is alike to the state that was
     /// reached. It is called where no round and no fetch is open.
